@@ -7,13 +7,11 @@ use Rattle.swc_ecma_parser_common.specs.declared.span.Span.{Span}
 use Rattle.swc_ecma_parser_input.specs.Place.{Place}
 use Rattle.swc_ecma_parser_model.specs.Tree as tree
 use Rattle.swc_ecma_parser_model.specs.Tree.{Tree}
-use Rattle.swc_ecma_parser_model.specs.Forms.{has_plain_params}
 use Rattle.swc_ecma_parser_grammar.specs.Names.{Code}
 use Rattle.swc_ecma_parser_grammar.specs.Notes.{notes}
-use Rattle.swc_ecma_parser_grammar.specs.Own.{misplaced_directive}
 use Rattle.swc_ecma_parser_grammar.specs.Reads.{with_in, ReadsBlock}
 use Rattle.swc_ecma_parser_grammar.specs.ReadsSupported.{ReadsStmt, ReadsClass}
-use Rattle.swc_ecma_parser_grammar.specs.Supported.{supported_in, is_rightly_headed, is_clean}
+use Rattle.swc_ecma_parser_grammar.specs.Supported.{supported_in, is_clean}
 use Rattle.swc_ecma_parser_grammar.specs.language.Contexts.{in_arrow}
 use Rattle.swc_ecma_parser_grammar.specs.language.Goals.{assignment}
 use Rattle.swc_ecma_parser_grammar.specs.language.Items.{BlockRule}
@@ -53,12 +51,10 @@ module _ (n : ℕ) (k : Code) (a : Bool) (x : Tree) (c d : Place) where
 
 -- ---- what is supported
 
--- an arrow function whose parameters and body are supported, whose body does not turn parameters strict that are not all plain
--- names, and has no notes in module code
+-- an arrow function whose parameters and body are supported, and whose body has no notes in module code
 pub record SupportedArrow (m : Bool) (params body : Tree) : Type 0 where
   pub supports_params : supported_in m params ≡ true
   pub supports_body : supported_in m body ≡ true
-  pub directs : misplaced_directive (has_plain_params params) body ≡ []
   pub has_no_notes : m ≡ true → notes body ≡ []
 
 -- what is tested of notes in module code
@@ -74,10 +70,9 @@ pub arrow_parts : (m : Bool) (s : Span) (params body : Tree) (is_async : Bool) �
 arrow_parts m s params body is_async h =
     let f = and_yes (supported_in m params && supported_in m body) _ h in
     let p = and_yes (supported_in m params) _ f.0 in
-    let i = and_yes (is_rightly_headed params body) _ f.1 in
-    record { supports_params = p.0; supports_body = p.1; directs = clean_is _ i.0; has_no_notes = untested m (notes body) i.1 }
+    record { supports_params = p.0; supports_body = p.1; has_no_notes = untested m (notes body) f.1 }
 
 pub arrow_supported : (m : Bool) (s : Span) (params body : Tree) (is_async : Bool) → SupportedArrow m params body → supported_in m (tree.arrow s params body is_async) ≡ true
 arrow_supported m s params body is_async r =
     and_both (supported_in m params && supported_in m body) _ (and_both (supported_in m params) _ r.supports_params r.supports_body)
-    (and_both (is_rightly_headed params body) _ (ap is_clean r.directs) (tested m (notes body) r.has_no_notes))
+    (tested m (notes body) r.has_no_notes)

@@ -7,16 +7,14 @@ use Rattle.swc_ecma_parser_token.specs.Text.{word_text}
 use Rattle.swc_ecma_parser_input.specs.Place.{Place, after}
 use Rattle.swc_ecma_parser_model.specs.Tree as tree
 use Rattle.swc_ecma_parser_model.specs.Tree.{Tree, listed}
-use Rattle.swc_ecma_parser_model.specs.Forms.{has_plain_params}
 use Rattle.swc_ecma_parser_grammar.specs.Follows.{Star, AsyncWord}
 use Rattle.swc_ecma_parser_grammar.specs.Looks.{kind_at, spanned}
 use Rattle.swc_ecma_parser_grammar.specs.Names.{Code}
 use Rattle.swc_ecma_parser_grammar.specs.Notes.{notes}
-use Rattle.swc_ecma_parser_grammar.specs.Own.{misplaced_directive}
 use Rattle.swc_ecma_parser_grammar.specs.Parameters.{parameters}
 use Rattle.swc_ecma_parser_grammar.specs.Reads.{ReadsFunctionExpr, OwnNameRule, no_own_name_rule, own_name_rule}
 use Rattle.swc_ecma_parser_grammar.specs.ReadsSupported.{ReadsStmt, ReadsParams}
-use Rattle.swc_ecma_parser_grammar.specs.Supported.{supported_in, is_rightly_directed, has_no_note, is_clean}
+use Rattle.swc_ecma_parser_grammar.specs.Supported.{supported_in, has_no_note, is_clean}
 use Rattle.swc_ecma_parser_grammar.specs.language.Contexts.{named_by}
 use Rattle.swc_ecma_parser_grammar.specs.language.Functions as functions
 use Rattle.swc_ecma_parser_grammar.specs.language.LeftSides as sides
@@ -82,7 +80,7 @@ function_supported n k x c d r =
     ∙ and_both (supported_in m r.name) _ (own_name_supported m r.reads_name)
     (and_both (supported_in m (parameters r.patterns) && supported_in m r.body) _
     (and_both (supported_in m (parameters r.patterns)) (supported_in m r.body) (parameters_same m r.patterns ∙ r.reads_parameters.1) (braced_supported n (stmt_supported n) true r.reads_body))
-    (and_both (is_rightly_directed (tree.function (spanned c d) (listed []) (parameters r.patterns) r.body r.is_async r.is_generator)) _ (is_cleaned r.directs) (unnoted n m k x c d refl r)))
+    (unnoted n m k x c d refl r))
 
 -- what is tested of notes in module code
 tested : (m : Bool) (es : List Fault) → (not m || is_clean es) ≡ true → m ≡ true → es ≡ []
@@ -94,9 +92,9 @@ module _ (n : ℕ) (k : Code) (x : Tree) (c d : Place) where
   plain_narrows : (w g : Bool) (name : Tree) (ps : List Tree) (body : Tree) (word behind_word behind_name : Place) → AsyncWord w c word → kind_at word ≡ kind.Function
       → Star g (after word) behind_word → parts.OptionalName (named_by k w g) name behind_word behind_name → functions.FunctionParts (Reads n) k w g ps body behind_name d
       → supported_in k.flags.module name ≡ true → supported_in k.flags.module (parameters ps) && supported_in k.flags.module body ≡ true
-      → is_clean (misplaced_directive (has_plain_params (parameters ps)) body) ≡ true → (k.flags.module ≡ true → notes body ≡ [])
+      → (k.flags.module ≡ true → notes body ≡ [])
       → x ≡ tree.fn_expr (spanned c d) name (tree.function (spanned c d) (listed []) (parameters ps) body w g) → ReadsFunctionExpr (ReadsStmt n) (ReadsParams n) k x c d
-  plain_narrows w g name ps body word bw bn a f s i p h t z q e =
+  plain_narrows w g name ps body word bw bn a f s i p h t q e =
       let u = and_yes (supported_in k.flags.module (parameters ps)) _ t in record {
         is_async = w;
         is_generator = g;
@@ -113,7 +111,6 @@ module _ (n : ℕ) (k : Code) (x : Tree) (c d : Place) where
         reads_name = own_name_narrows k.flags.module p.reads_parameters.opens i h;
         reads_parameters = (p.reads_parameters, sym (parameters_same k.flags.module ps) ∙ u.0);
         reads_body = braced_narrows n (stmt_narrows n) true q p.reads_body u.1;
-        directs = clean_is _ z;
         is = e;
       }
 
@@ -124,9 +121,8 @@ module _ (n : ℕ) (k : Code) (x : Tree) (c d : Place) where
       let e' : x ≡ tree.fn_expr (spanned c d) name whole = e ∙ ap (tree.fn_expr (spanned c d) name) r.is in
       let g = and_yes (supported_in k.flags.module name) _ (supported_as _ x (tree.fn_expr (spanned c d) name whole) e' h) in
       let f = and_yes (supported_in k.flags.module whole) _ g.1 in
-      let v = and_yes (is_rightly_directed whole) _ f.1 in
-      plain_narrows r.is_async r.is_generator name r.patterns r.body r.word r.behind_word r.behind_name r.reads_async r.is_function r.reads_star r.reads_name r.reads_parts g.0 f.0 v.0
-      (λ o. body_has_none (notes (parameters r.patterns)) (notes r.body) (tested k.flags.module (notes whole) v.1 o)) e'
+      plain_narrows r.is_async r.is_generator name r.patterns r.body r.word r.behind_word r.behind_name r.reads_async r.is_function r.reads_star r.reads_name r.reads_parts g.0 f.0
+      (λ o. body_has_none (notes (parameters r.patterns)) (notes r.body) (tested k.flags.module (notes whole) f.1 o)) e'
     where
       body_has_none : (es fs : List Fault) → es ++ fs ≡ [] → fs ≡ []
       body_has_none [] fs o = o

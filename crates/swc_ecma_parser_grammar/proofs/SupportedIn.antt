@@ -12,7 +12,7 @@ use Rattle.swc_ecma_parser_grammar.specs.Reads.{in_strict, with_in, head_code}
 use Rattle.swc_ecma_parser_grammar.specs.Variables.{is_var}
 use Rattle.swc_ecma_parser_grammar.specs.language.Contexts.{without_in}
 use Rattle.swc_ecma_parser_grammar.specs.language.Parts.{is_private}
-use Rattle.swc_ecma_parser_grammar.specs.Supported.{supported, supported_in, all_supported, all_supported_in, is_supported_key_in, is_supported_property_in, has_none, is_clean, is_rightly_directed, is_rightly_set, is_rightly_headed, is_supported_method_in}
+use Rattle.swc_ecma_parser_grammar.specs.Supported.{supported, supported_in, all_supported, all_supported_in, is_supported_key_in, is_supported_property_in, has_none, is_clean, is_supported_method_in}
 use Rattle.swc_ecma_parser_grammar.proofs.Tests.{and_yes, and_both}
 
 -- two lists are empty where they are together
@@ -56,8 +56,8 @@ mutual
   lower m (tree.shorthand_prop s text) h = h
   lower m (tree.key_value_prop s key value) h = let g = and_yes (is_supported_key_in m key) _ h in and_both _ _ (lower_key m key g.0) (lower m value g.1)
   lower m (tree.getter_prop s key body) h = let g = and_yes (is_supported_key_in m key) _ h in and_both _ _ (lower_key m key g.0) (let i = and_yes (supported_in m body) _ g.1 in and_both _ _ (lower m body i.0) refl)
-  lower m (tree.setter_prop s key p body) h = let g = and_yes (is_supported_key_in m key) _ h in and_both _ _ (lower_key m key g.0) (let i = and_yes (supported_in m p && supported_in m body) _ g.1 in let j = and_yes (supported_in m p) _ i.0 in and_both _ _ (and_both _ _ (lower m p j.0) (lower m body j.1)) (let l = and_yes (is_rightly_set p body) _ i.1 in and_both _ _ l.0 refl))
-  lower m (tree.method_prop s key fn) h = let g = and_yes (is_supported_key_in m key) _ h in and_both _ _ (lower_key m key g.0) (let i = and_yes (supported_in m fn) _ g.1 in and_both _ _ (lower m fn i.0) (let j = and_yes (is_rightly_directed fn) _ i.1 in and_both _ _ j.0 refl))
+  lower m (tree.setter_prop s key p body) h = let g = and_yes (is_supported_key_in m key) _ h in and_both _ _ (lower_key m key g.0) (let i = and_yes (supported_in m p && supported_in m body) _ g.1 in let j = and_yes (supported_in m p) _ i.0 in and_both _ _ (and_both _ _ (lower m p j.0) (lower m body j.1)) refl)
+  lower m (tree.method_prop s key fn) h = let g = and_yes (is_supported_key_in m key) _ h in and_both _ _ (lower_key m key g.0) (let i = and_yes (supported_in m fn) _ g.1 in and_both _ _ (lower m fn i.0) refl)
   lower m (tree.paren s e) h = lower m e h
   lower m (tree.this s) h = refl
   lower m (tree.meta_prop s kind) h = refl
@@ -111,8 +111,8 @@ mutual
   lower m (tree.fn_decl name fn) h = let g = and_yes (supported_in m name) _ h in and_both _ _ (lower m name g.0) (lower m fn g.1)
   lower m (tree.function s decorators params body is_async is_generator) h = let i = and_yes (supported_in m decorators) _ h in and_both _ _ (lower m decorators i.0) (let j = and_yes (supported_in m params) _ i.1 in and_both _ _ (lower m params j.0) (lower m body j.1))
   lower m (tree.param s decorators p) h = let g = and_yes (has_none decorators) _ h in and_both _ _ g.0 (lower m p g.1)
-  lower m (tree.fn_expr s name fn) h = let g = and_yes (supported_in m name) _ h in and_both _ _ (lower m name g.0) (let h = and_yes (supported_in m fn) _ g.1 in and_both _ _ (lower m fn h.0) (let i = and_yes (is_rightly_directed fn) _ h.1 in and_both _ _ i.0 refl))
-  lower m (tree.arrow s params body is_async) h = let i = and_yes (supported_in m params && supported_in m body) _ h in let j = and_yes (supported_in m params) _ i.0 in and_both _ _ (and_both _ _ (lower m params j.0) (lower m body j.1)) (let l = and_yes (is_rightly_headed params body) _ i.1 in and_both _ _ l.0 refl)
+  lower m (tree.fn_expr s name fn) h = let g = and_yes (supported_in m name) _ h in and_both _ _ (lower m name g.0) (let h = and_yes (supported_in m fn) _ g.1 in and_both _ _ (lower m fn h.0) refl)
+  lower m (tree.arrow s params body is_async) h = let i = and_yes (supported_in m params && supported_in m body) _ h in let j = and_yes (supported_in m params) _ i.0 in and_both _ _ (and_both _ _ (lower m params j.0) (lower m body j.1)) refl
   lower m (tree.decorator s e) h = lower m e h
   lower m (tree.class_expr s name body) h = let g = and_yes (supported_in m name) _ h in and_both _ _ (lower m name g.0) (lower m body g.1)
   lower m (tree.class_decl name body) h = let g = and_yes (supported_in m name) _ h in and_both _ _ (lower m name g.0) (lower m body g.1)
@@ -166,8 +166,8 @@ mutual
   lift (tree.shorthand_prop s text) h o = h
   lift (tree.key_value_prop s key value) h o = let g = and_yes (is_supported_key_in false key) _ h in and_both _ _ (lift_key key g.0 ((parted (notes key) (notes value) o).0)) (lift value g.1 ((parted (notes key) (notes value) o).1))
   lift (tree.getter_prop s key body) h o = let g = and_yes (is_supported_key_in false key) _ h in let n = parted (notes key) (notes body) o in and_both _ _ (lift_key key g.0 n.0) (let i = and_yes (supported_in false body) _ g.1 in and_both _ _ (lift body i.0 n.1) (ap is_clean n.1))
-  lift (tree.setter_prop s key p body) h o = let g = and_yes (is_supported_key_in false key) _ h in let n = parted (notes key ++ notes p) (notes body) o in let l = parted (notes key) (notes p) n.0 in and_both _ _ (lift_key key g.0 l.0) (let i = and_yes (supported_in false p && supported_in false body) _ g.1 in let j = and_yes (supported_in false p) _ i.0 in and_both _ _ (and_both _ _ (lift p j.0 l.1) (lift body j.1 n.1)) (let q = and_yes (is_rightly_set p body) _ i.1 in and_both _ _ q.0 (and_both _ _ (ap is_clean l.1) (ap is_clean n.1))))
-  lift (tree.method_prop s key fn) h o = let g = and_yes (is_supported_key_in false key) _ h in let n = parted (notes key) (notes fn) o in and_both _ _ (lift_key key g.0 n.0) (let i = and_yes (supported_in false fn) _ g.1 in and_both _ _ (lift fn i.0 n.1) (let j = and_yes (is_rightly_directed fn) _ i.1 in and_both _ _ j.0 (ap is_clean n.1)))
+  lift (tree.setter_prop s key p body) h o = let g = and_yes (is_supported_key_in false key) _ h in let n = parted (notes key ++ notes p) (notes body) o in let l = parted (notes key) (notes p) n.0 in and_both _ _ (lift_key key g.0 l.0) (let i = and_yes (supported_in false p && supported_in false body) _ g.1 in let j = and_yes (supported_in false p) _ i.0 in and_both _ _ (and_both _ _ (lift p j.0 l.1) (lift body j.1 n.1)) (and_both _ _ (ap is_clean l.1) (ap is_clean n.1)))
+  lift (tree.method_prop s key fn) h o = let g = and_yes (is_supported_key_in false key) _ h in let n = parted (notes key) (notes fn) o in and_both _ _ (lift_key key g.0 n.0) (let i = and_yes (supported_in false fn) _ g.1 in and_both _ _ (lift fn i.0 n.1) (ap is_clean n.1))
   lift (tree.paren s e) h o = lift e h o
   lift (tree.this s) h o = refl
   lift (tree.meta_prop s kind) h o = refl
@@ -221,8 +221,8 @@ mutual
   lift (tree.fn_decl name fn) h o = let g = and_yes (supported_in false name) _ h in and_both _ _ (lift name g.0 ((parted (notes name) (notes fn) o).0)) (lift fn g.1 ((parted (notes name) (notes fn) o).1))
   lift (tree.function s decorators params body is_async is_generator) h o = let i = and_yes (supported_in false decorators) _ h in and_both _ _ (lift decorators i.0 ((parted (notes decorators) (notes params) (parted (notes decorators ++ notes params) (notes body) o).0).0)) (let j = and_yes (supported_in false params) _ i.1 in and_both _ _ (lift params j.0 ((parted (notes decorators) (notes params) (parted (notes decorators ++ notes params) (notes body) o).0).1)) (lift body j.1 ((parted (notes decorators ++ notes params) (notes body) o).1)))
   lift (tree.param s decorators p) h o = let g = and_yes (has_none decorators) _ h in and_both _ _ g.0 (lift p g.1 ((parted (notes decorators) (notes p) o).1))
-  lift (tree.fn_expr s name fn) h o = let g = and_yes (supported_in false name) _ h in and_both _ _ (lift name g.0 ((parted (notes name) (notes fn) o).0)) (let h = and_yes (supported_in false fn) _ g.1 in and_both _ _ (lift fn h.0 ((parted (notes name) (notes fn) o).1)) (let i = and_yes (is_rightly_directed fn) _ h.1 in and_both _ _ i.0 (ap is_clean ((parted (notes name) (notes fn) o).1))))
-  lift (tree.arrow s params body is_async) h o = let n = parted (notes params) (notes body) o in let i = and_yes (supported_in false params && supported_in false body) _ h in let j = and_yes (supported_in false params) _ i.0 in and_both _ _ (and_both _ _ (lift params j.0 n.0) (lift body j.1 n.1)) (let l = and_yes (is_rightly_headed params body) _ i.1 in and_both _ _ l.0 (ap is_clean n.1))
+  lift (tree.fn_expr s name fn) h o = let g = and_yes (supported_in false name) _ h in and_both _ _ (lift name g.0 ((parted (notes name) (notes fn) o).0)) (let h = and_yes (supported_in false fn) _ g.1 in and_both _ _ (lift fn h.0 ((parted (notes name) (notes fn) o).1)) (ap is_clean ((parted (notes name) (notes fn) o).1)))
+  lift (tree.arrow s params body is_async) h o = let n = parted (notes params) (notes body) o in let i = and_yes (supported_in false params && supported_in false body) _ h in let j = and_yes (supported_in false params) _ i.0 in and_both _ _ (and_both _ _ (lift params j.0 n.0) (lift body j.1 n.1)) (ap is_clean n.1)
   lift (tree.decorator s e) h o = lift e h o
   lift (tree.class_expr s name body) h o = let g = and_yes (supported_in false name) _ h in let n = parted (notes name) (notes body) o in and_both _ _ (lift name g.0 n.0) (lift body g.1 n.1)
   lift (tree.class_decl name body) h o = let g = and_yes (supported_in false name) _ h in let n = parted (notes name) (notes body) o in and_both _ _ (lift name g.0 n.0) (lift body g.1 n.1)

@@ -19,7 +19,7 @@ use Rattle.swc_ecma_parser_grammar.specs.Parameters.{parameters}
 use Rattle.swc_ecma_parser_grammar.specs.Follows.{begins_import_expression}
 use Rattle.swc_ecma_parser_grammar.specs.Notes.{notes, method_notes, all_notes, statement_note}
 use Rattle.swc_ecma_parser_grammar.specs.Reads.{with_in, ReadsSeparated}
-use Rattle.swc_ecma_parser_grammar.specs.Supported.{supported_in, all_supported_in, is_supported_key_in, is_supported_property_in, has_no_note, is_rightly_directed, is_rightly_set, is_rightly_headed, is_clean, is_supported_method_in}
+use Rattle.swc_ecma_parser_grammar.specs.Supported.{supported_in, all_supported_in, is_supported_key_in, is_supported_property_in, has_no_note, is_clean, is_supported_method_in}
 use Rattle.swc_ecma_parser_grammar.specs.ReadsSupported.{ReadsClass}
 use Rattle.swc_ecma_parser_grammar.specs.language.Goals.{Goal, Class, Purpose, binding, expression, assignment, operator, unary, left_side, callee, expr_goal, callee_goal, pattern_goal, element_goal, stmt_goal, member_goal, decorator_goal, using_goal, attributes_goal, item_goal}
 use Rattle.swc_ecma_parser_grammar.specs.language.Lists.{ReadsEach, ReadsListed, Elements, no_elements, hole, last_element, more_elements}
@@ -168,13 +168,13 @@ module _ (In : Goal → Type 0) (small : (g : Goal) → In g → SilentGoal g) w
       ap notes e ∙ joined (notes key) (notes body) (key_silent r.reads_key g.0) (clean_is (notes body) (and_yes (supported_in true body) _ g.1).1)
   property_silent k x c d (objects.setter_rule key p body r e) = λ h.
       let g = and_yes (is_supported_key_in true key) _ (supported_as _ x (tree.setter_prop (spanned c d) key p body) e h) in
-      let i = (and_yes (is_rightly_set p body) _ (and_yes (supported_in true p && supported_in true body) _ g.1).1).1 in
+      let i = (and_yes (supported_in true p && supported_in true body) _ g.1).1 in
       let j = and_yes (has_no_note p) (has_no_note body) i in
       ap notes e ∙ joined (notes key ++ notes p) (notes body) (joined (notes key) (notes p) (key_silent r.reads_key g.0) (clean_is (notes p) j.0)) (clean_is (notes body) j.1)
   property_silent k x c d (objects.method_rule a g key ps body r e) = λ h.
       let fn = tree.function (spanned c d) (listed []) (parameters ps) body a g in
       let i = and_yes (is_supported_key_in true key) _ (supported_as _ x (tree.method_prop (spanned c d) key fn) e h) in
-      let j = (and_yes (is_rightly_directed fn) _ (and_yes (supported_in true fn) _ i.1).1).1 in
+      let j = (and_yes (supported_in true fn) _ i.1).1 in
       ap notes e ∙ joined (notes key) (notes fn) (key_silent r.reads_key i.0) (clean_is (notes fn) j)
 
   -- a name has none
@@ -186,7 +186,7 @@ module _ (In : Goal → Type 0) (small : (g : Goal) → In g → SilentGoal g) w
   function_silent : {k : Code} {name y x : Tree} {s : Span} {c d : Place} → functions.FunctionRule In true k (listed []) name y c d → x ≡ tree.fn_expr s name y → Silent x
   function_silent {name = name} {y = y} {x = x} {s = s} r e h =
       let g = and_yes (supported_in true name) _ (supported_as _ x (tree.fn_expr s name y) e h) in
-      let i = (and_yes (is_rightly_directed y) _ (and_yes (supported_in true y) _ g.1).1).1 in
+      let i = (and_yes (supported_in true y) _ g.1).1 in
       ap notes e ∙ joined (notes name) (notes y) (name_silent r.reads_name) (clean_is (notes y) i)
 
   -- the members of a class, one behind another
@@ -288,7 +288,7 @@ module _ (In : Goal → Type 0) (small : (g : Goal) → In g → SilentGoal g) w
   arrow_silent k a ps y s c d r h =
       let g = and_yes (supported_in true (listed ps) && supported_in true y) _ h in
       joined (notes (listed ps)) (notes y) (arrow_head_silent k ps c d r (and_yes (supported_in true (listed ps)) _ g.0).0)
-      (clean_is (notes y) (and_yes (is_rightly_headed (listed ps) y) _ g.1).1)
+      (clean_is (notes y) g.1)
 
   -- ---- members of classes: their functions and blocks have none in module code
 

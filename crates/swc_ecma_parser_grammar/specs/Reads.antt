@@ -13,7 +13,7 @@ use Rattle.swc_ecma_parser_model.specs.declared.leaves.VarDeclKind.TheVariants a
 use Rattle.swc_ecma_parser_model.specs.Tree as tree
 use Rattle.swc_ecma_parser_model.specs.Tree.{Tree, listed}
 use Rattle.swc_ecma_parser_model.specs.Directive.{is_use_strict}
-use Rattle.swc_ecma_parser_model.specs.Forms.{is_absent, is_binding_name, is_ident, is_ident_named, has_plain_params}
+use Rattle.swc_ecma_parser_model.specs.Forms.{is_absent, is_binding_name, is_ident, is_ident_named}
 use Rattle.swc_ecma_parser_grammar.specs.declared.position.Position.{Position}
 use Rattle.swc_ecma_parser_grammar.specs.Looks.{kind_at, breaks_at, sees, spanned}
 use Rattle.swc_ecma_parser_grammar.specs.Names.{Code, is_name}
@@ -22,7 +22,6 @@ use Rattle.swc_ecma_parser_grammar.specs.Follows.{word_at, may_begin_expression_
 use Rattle.swc_ecma_parser_grammar.specs.Variables.{begins_variables, is_var, needs_no_initializer}
 use Rattle.swc_ecma_parser_grammar.specs.language.Goals.{Class, expression, assignment}
 use Rattle.swc_ecma_parser_grammar.specs.language.Contexts.{named_by, in_parameters, in_body, in_loop, in_breakable, in_with, without_in}
-use Rattle.swc_ecma_parser_grammar.specs.Own.{misplaced_directive}
 use Rattle.swc_ecma_parser_grammar.specs.Using.{is_using_declaration, may_declare_using, awaits_using, using_faults}
 use Rattle.swc_ecma_parser_grammar.specs.Parameters.{parameters}
 use Rattle.swc_ecma_parser_grammar.specs.language.Items.{sub_statement, labelled_item}
@@ -140,8 +139,6 @@ pub record ReadsFunctionExpr (Stmt : Code → Position → Tree → Place → Pl
   pub reads_name : OwnNameRule k is_async is_generator name behind_word behind_name
   pub reads_parameters : Params (in_parameters k is_async is_generator) patterns behind_name middle
   pub reads_body : ReadsBraced Stmt true (in_body k is_async is_generator) body middle d
-  -- no directive of the body makes parameters strict that are not all plain names
-  pub directs : misplaced_directive (has_plain_params (parameters patterns)) body ≡ []
   pub is : x ≡ tree.fn_expr (spanned c d) name (tree.function (spanned c d) (listed []) (parameters patterns) body is_async is_generator)
 
 -- the parameters and the body of a method or an accessor: section 15.4

@@ -1,12 +1,10 @@
--- The trees that are answered whatever the walk finds in them: all of the language, but those with a function in an expression whose
--- directive comes too late, and in module code those with a fault of module code alone in such a function or in a member of a class.
+-- The trees that are answered whatever the walk finds in them: all of the language, but in module code those with a fault of module
+-- code alone in a function in an expression or in a member of a class.
 use Rattle.std.specs.Prelude.{Bool, true, false, not, ◌&&◌, ◌||◌, List, [], ◌∷◌}
 use Rattle.swc_ecma_parser_error.specs.Kind.{Fault}
 use Rattle.swc_ecma_parser_model.specs.Tree as tree
 use Rattle.swc_ecma_parser_model.specs.Tree.{Tree, Trees, none, also}
-use Rattle.swc_ecma_parser_model.specs.Forms.{has_plain_params, is_plain_param}
 use Rattle.swc_ecma_parser_grammar.specs.Notes.{notes}
-use Rattle.swc_ecma_parser_grammar.specs.Own.{misplaced_directive}
 use Rattle.swc_ecma_parser_grammar.specs.language.Parts.{is_private}
 
 -- no decorator
@@ -21,19 +19,6 @@ is_clean (f ∷ fs) = false
 -- no fault of module code alone is in it
 abbrev pub has_no_note : Tree → Bool
 has_no_note x = is_clean (notes x)
-
--- whether a directive of its body turns the code strict only where the parameters of a function are all plain names
-abbrev pub is_rightly_directed : Tree → Bool
-is_rightly_directed (tree.function s decorators params body is_async is_generator) = is_clean (misplaced_directive (has_plain_params params) body)
-is_rightly_directed _ = true
-
--- the same of a setter, which has one parameter
-abbrev pub is_rightly_set : (p body : Tree) → Bool
-is_rightly_set p body = is_clean (misplaced_directive (is_plain_param p) body)
-
--- the same of an arrow function, whose parameters are patterns
-abbrev pub is_rightly_headed : (params body : Tree) → Bool
-is_rightly_headed params body = is_clean (misplaced_directive (has_plain_params params) body)
 
 -- whether a tree is made of these forms alone, in module code or elsewhere
 abbrev mutual
@@ -53,8 +38,8 @@ abbrev mutual
   supported_in m (tree.key_value_prop s key value) = is_supported_key_in m key && supported_in m value
   -- Methods and accessors, with what is said of functions as expressions: section 15.4
   supported_in m (tree.getter_prop s key body) = is_supported_key_in m key && (supported_in m body && (not m || has_no_note body))
-  supported_in m (tree.setter_prop s key p body) = is_supported_key_in m key && ((supported_in m p && supported_in m body) && (is_rightly_set p body && (not m || (has_no_note p && has_no_note body))))
-  supported_in m (tree.method_prop s key fn) = is_supported_key_in m key && (supported_in m fn && (is_rightly_directed fn && (not m || has_no_note fn)))
+  supported_in m (tree.setter_prop s key p body) = is_supported_key_in m key && ((supported_in m p && supported_in m body) && (not m || (has_no_note p && has_no_note body)))
+  supported_in m (tree.method_prop s key fn) = is_supported_key_in m key && (supported_in m fn && (not m || has_no_note fn))
   supported_in m (tree.paren s e) = supported_in m e
   supported_in m (tree.this s) = true
   -- accesses, calls, `import(..)`, `import.meta` and `new`: section 13.3
@@ -122,11 +107,10 @@ abbrev mutual
   supported_in m (tree.fn_decl name fn) = supported_in m name && supported_in m fn
   supported_in m (tree.function s decorators params body is_async is_generator) = supported_in m decorators && (supported_in m params && supported_in m body)
   supported_in m (tree.param s decorators p) = has_none decorators && supported_in m p
-  -- Such functions as expressions, whose body does not turn parameters strict that are not all plain names. In module code nothing
-  -- in them is a fault of it: section 15.2
-  supported_in m (tree.fn_expr s name fn) = supported_in m name && (supported_in m fn && (is_rightly_directed fn && (not m || has_no_note fn)))
+  -- Such functions as expressions. In module code nothing in them is a fault of it: section 15.2
+  supported_in m (tree.fn_expr s name fn) = supported_in m name && (supported_in m fn && (not m || has_no_note fn))
   -- Arrow functions, with what is said of functions as expressions: sections 15.3 and 15.9
-  supported_in m (tree.arrow s params body is_async) = (supported_in m params && supported_in m body) && (is_rightly_headed params body && (not m || has_no_note body))
+  supported_in m (tree.arrow s params body is_async) = (supported_in m params && supported_in m body) && (not m || has_no_note body)
   -- one decorator: the proposal of decorators
   supported_in m (tree.decorator s e) = supported_in m e
   -- Classes, declared or as expressions: section 15.7. In module code nothing in the functions and static blocks of their members

@@ -42,7 +42,7 @@ use Rattle.swc_ecma_parser_reader.specs.State.{Scope, State, Outcome, Reader, an
 use Rattle.swc_ecma_parser_reader.proofs.Answered.{st, Calm, ReadsCalm}
 use Rattle.swc_ecma_parser_reader.proofs.Between.{nil-split}
 use Rattle.swc_ecma_parser_reader.proofs.Complete.{member_reads}
-use Rattle.swc_ecma_parser_reader.proofs.CompleteParts.{calm_last}
+use Rattle.swc_ecma_parser_reader.proofs.Calm.{calm_last}
 use Rattle.swc_ecma_parser_reader.proofs.Meets.{saw}
 use Rattle.swc_ecma_parser_reader.proofs.Notes.{notes_assoc}
 use Rattle.swc_ecma_parser_reader.proofs.Opens.{let_stands}
@@ -365,7 +365,7 @@ list_of (some_decorators y ys s r e) = (y ∷ ys, e)
 
 behind_supported : (s : Span) (a : Tree) → supported_behind s a ≡ true → supported a ≡ true
 behind_supported s (tree.list ds) h = (and_yes (all_supported ds) _ h).0
-behind_supported s _ h = cc
+behind_supported s _ h = absurd (true≢false (sym h))
 
 before_of : (c d : Place) (ds : List Tree) (a : Tree) → a ≡ listed ds → supported_behind (spanned c d) a ≡ true → none_before (span_at c).lo (trees ds) ≡ true
 unfolding spanned

@@ -23,7 +23,7 @@ use Rattle.swc_ecma_parser_model.specs.Tree as tree
 use Rattle.swc_ecma_parser_model.specs.Tree.{Tree, Text, listed, trees}
 use Rattle.swc_ecma_parser_grammar.specs.Looks.{kind_at, sees, same_kind, span_at, spanned}
 use Rattle.swc_ecma_parser_grammar.specs.Names.{Code, is_name, is_reserved, is_identifier, is_clean_name}
-use Rattle.swc_ecma_parser_grammar.specs.Ends.{Ends, OptionalEnds, by_a_semicolon, by_nothing}
+use Rattle.swc_ecma_parser_grammar.specs.Ends.{Ends, OptionalEnds}
 use Rattle.swc_ecma_parser_grammar.specs.Follows.{word_at, first_is, token_is, is_let_declaration, is_async_function}
 use Rattle.swc_ecma_parser_grammar.specs.Notes.{notes, all_notes}
 use Rattle.swc_ecma_parser_grammar.specs.Own.{export_faults}
@@ -42,7 +42,8 @@ use Rattle.swc_ecma_parser_reader.specs.Reader.{expr, pattern, member, parameter
 use Rattle.swc_ecma_parser_grammar.specs.Reads.{nested_item, ReadsToken}
 use Rattle.swc_ecma_parser_reader.specs.State.{Scope, State, Outcome, Reader, moved}
 use Rattle.swc_ecma_parser_reader.proofs.Answered.{st, ReadsCalm}
-use Rattle.swc_ecma_parser_reader.proofs.CompleteParts.{calm_same, ends_read, optional_end_reads, told_reads}
+use Rattle.swc_ecma_parser_reader.proofs.Calm.{told_reads, calm_same, calm_before_optional}
+use Rattle.swc_ecma_parser_reader.proofs.CompleteParts.{ends_read, optional_end_reads}
 use Rattle.swc_ecma_parser_reader.proofs.Errors.{is_error}
 use Rattle.swc_ecma_parser_reader.proofs.Notes.{or_nil}
 use Rattle.swc_ecma_parser_reader.proofs.Words.{async_kind, or_later}
@@ -173,12 +174,6 @@ module _ (n : ℕ) (k : Code) where
         j,
       ) refl
 
-  -- where a `;` stands no error token does
-  optional_calm : {fs : List Fault} {m d : Place} → OptionalEnds m d → (fs ≡ []) ⊎ (is_error (kind_at d) ≡ false) → (fs ≡ []) ⊎ (is_error (kind_at m) ≡ false)
-  optional_calm (by_a_semicolon e g) q = inr (ap is_error e)
-  optional_calm (by_nothing e g) (inl z) = inl z
-  optional_calm (by_nothing e g) (inr a) = inr (ap (λ v. is_error (kind_at v)) (sym g) ∙ a)
-
   own_names_read : (xs : List Tree) (x : Tree) (c m d : Place) → AllSilent xs → OptionalEnds m d → x ≡ tree.export_named (spanned c d) (listed xs) tree.absent tree.absent
       → (w : Scope) (f : List Fault) (h : Notes) → (walk (env_of k w.labels) x ≡ []) ⊎ (is_error (kind_at d) ≡ false)
       → own_names (span_at c) xs (st m k w f h) ≡ Ok (x, st d k w (f ++ walk (env_of k w.labels) x) (h ⊕ notes_of x))
@@ -187,7 +182,7 @@ module _ (n : ℕ) (k : Code) where
       let l = export_faults tree.absent (listed xs) in
       let v : walk (env_of k w.labels) x ≡ l = rw (e, q.walked) refl in
       rw (
-        told_reads l m k w f h (optional_calm g (calm_same d (walk (env_of k w.labels) x) l v calm)),
+        told_reads l m k w f h (calm_before_optional m d l g (calm_same d (walk (env_of k w.labels) x) l v calm)),
         optional_end_reads m d k w (f ++ l) h g,
         v,
         e,

@@ -47,7 +47,8 @@ use Rattle.swc_ecma_parser_reader.proofs.Answered.{st, ReadsCalm}
 use Rattle.swc_ecma_parser_reader.proofs.Below.{expr_reads, parameters_reads}
 use Rattle.swc_ecma_parser_reader.proofs.Between.{nil-split}
 use Rattle.swc_ecma_parser_reader.proofs.Complete.{member_reads, stmt_reads}
-use Rattle.swc_ecma_parser_reader.proofs.CompleteParts.{calm_same, calm_last, ends_read, told_reads}
+use Rattle.swc_ecma_parser_reader.proofs.Calm.{told_reads, calm_same, calm_last, calm_before}
+use Rattle.swc_ecma_parser_reader.proofs.CompleteParts.{ends_read}
 use Rattle.swc_ecma_parser_reader.proofs.Meets.{saw}
 use Rattle.swc_ecma_parser_reader.proofs.Opens.{let_stands}
 use Rattle.swc_ecma_parser_reader.proofs.SoundFunctions.{parameters_walk, parameters_notes}
@@ -255,11 +256,11 @@ module _ (n : ℕ) (k : Code) (o : IsModule k) where
       let v : walk env x ≡ m ++ b ++ l = ap (walk env) e ∙ ap (λ y. walk env name ++ walk env y) j ∙ ap (λ y. y ++ walk env whole) (name_walk env r.reads_name)
       ∙ ap (λ y. y ++ b ++ l) (parameters_walk (in_params env) r.patterns) in
       rw (
-        word_reads n (below n) k c r.word w f h r.reads_async r.is_function,
-        star_reads n (below n) r.is_generator k (after r.word) r.behind_word w f h r.reads_star (name_no_star r.reads_name opens),
+        word_reads n k c r.word w f h r.reads_async r.is_function,
+        star_reads n r.is_generator k (after r.word) r.behind_word w f h r.reads_star (name_no_star r.reads_name opens),
         default_name_reads name r.behind_word r.behind_name w f h r.reads_name opens,
         parameters_reads n (below n) (in_parameters k r.is_async r.is_generator) r.patterns r.behind_name p.middle p.reads_parameters w f h,
-        function_body_reads n (below n) r.is_async r.is_generator k r.body p.middle d w (f ++ m) (h ⊕ all_notes_of (trees r.patterns)) p.reads_body,
+        function_body_reads n r.is_async r.is_generator k r.body p.middle d w (f ++ m) (h ⊕ all_notes_of (trees r.patterns)) p.reads_body,
         told_reads l d k w (f ++ m ++ b) _ (calm_last d (m ++ b) l (walk env x) v calm),
         v,
         e,
@@ -318,13 +319,14 @@ module _ (n : ℕ) (k : Code) (o : IsModule k) where
   unfolding export_decl export_default default_rest default_expr same_kind spanned
   default_expr_read e x c m d b a r g i s q w f h calm =
       let v = lift_in k.flags.module e s (λ v. q) in
+      let walked : walk (env_of k w.labels) x ≡ walk (env_of k w.labels) e = ap (walk (env_of k w.labels)) i ∙ ap (λ z. walk z e) (module_env k w.labels o) in
       let t = begins_expression k (after (after c)) a (kinds.begin_seen (after (after c)) (kinds.begins n (with_in k) e (after (after c)) m r v)).3 in
       rw (
         b,
         t.0,
         t.1,
         t.2,
-        expr_reads n (below n) assignment (with_in k) e (after (after c)) m (r, v) w f h,
+        expr_reads n (below n) assignment (with_in k) e (after (after c)) m (r, v) w f h (calm_before m d (walk (env_of k w.labels) e) g (calm_same d (walk (env_of k w.labels) x) _ walked calm)),
         ends_read faults.Expected m d k w (f ++ walk (env_of k w.labels) e) (h ⊕ notes_of e) g,
         i,
       ) (ap (λ v. Ok (tree.export_default_expr (spanned c d) e, st d k w (f ++ walk v e) (h ⊕ notes_of e))) (sym (module_env k w.labels o)))

@@ -46,7 +46,7 @@ use Rattle.swc_ecma_parser_grammar.specs.Reads.{top_item}
 use Rattle.swc_ecma_parser_grammar.specs.ReadsSupported.{ReadsTop, ReadsStmt}
 use Rattle.swc_ecma_parser_grammar.proofs.SupportedIn.{lift_in}
 use Rattle.swc_ecma_parser_reader.specs.DecoratedStatements.{begins_declared}
-use Rattle.swc_ecma_parser_reader.proofs.CompleteParts.{calm_last}
+use Rattle.swc_ecma_parser_reader.proofs.Calm.{calm_last}
 use Rattle.swc_ecma_parser_reader.proofs.Falls.{decorated_in_falls}
 use Rattle.swc_ecma_parser_reader.proofs.Opens.{plain_goes}
 use Rattle.swc_ecma_parser_reader.proofs.decorators.Declared.{declared_by, no_declared, declared_begins}

@@ -39,3 +39,6 @@ gets_also P Q o t r g = record { value = r.value; holds = g r.value r.holds; is 
 -- a reader gets what this holds of, with the walk and the notes of a tree
 abbrev pub ReadsAs : {A : Type 0} → (A → Type 0) → Reader A → Code → Tree → Place → Place → Type 0
 ReadsAs P reader k x c d = (w : Scope) (f : List Fault) (h : Notes) → Gets P (reader (st c k w f h)) (st d k w (f ++ walk (env_of k w.labels) x) (h ⊕ notes_of x))
+
+abbrev pub ReadsAsCalm : {A : Type 0} → (A → Type 0) → Reader A → Code → Tree → Place → Place → Type 0
+ReadsAsCalm P reader k x c d = (w : Scope) (f : List Fault) (h : Notes) → Calm k w.labels x d → Gets P (reader (st c k w f h)) (st d k w (f ++ walk (env_of k w.labels) x) (h ⊕ notes_of x))

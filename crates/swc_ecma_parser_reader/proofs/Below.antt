@@ -7,7 +7,7 @@ use Rattle.swc_ecma_parser_grammar.specs.ReadsSupported.{ReadsClass, ReadsPat, R
 use Rattle.swc_ecma_parser_grammar.specs.language.Goals.{Class, expression}
 use Rattle.swc_ecma_parser_grammar.specs.language.Reads as language
 use Rattle.swc_ecma_parser_reader.specs.Reader.{expr, cover, head_cover, pattern, element, decorated_in, parameters}
-use Rattle.swc_ecma_parser_reader.proofs.Answered.{Reads, ReadsAs}
+use Rattle.swc_ecma_parser_reader.proofs.Answered.{Reads, ReadsCalm, ReadsAs, ReadsAsCalm}
 use Rattle.swc_ecma_parser_reader.proofs.expressions.CompleteParts.{AsExpr, IsRead}
 use Rattle.swc_ecma_parser_reader.proofs.expressions.Complete.{class_is_read}
 use Rattle.swc_ecma_parser_reader.proofs.expressions.CompleteHeads.{Heads, AsLeft}
@@ -17,14 +17,14 @@ pub record Below (n : ℕ) : Type 0 where
   pub exprs : IsRead (language.Reads n) (expr n) (cover n)
   pub patterns : IsPatternRead (language.Reads n) (pattern n) (element n)
   -- what the head of a loop begins with: each expression is read so, and each target
-  pub heads : (k : Code) (x : Tree) (c d : Place) → ReadsClass n expression k x c d → ReadsAs (AsExpr x) (head_cover n) k x c d
+  pub heads : (k : Code) (x : Tree) (c d : Place) → ReadsClass n expression k x c d → ReadsAsCalm (AsExpr x) (head_cover n) k x c d
   pub targets : (k : Code) (p : Tree) (c d : Place) → ReadsTarget n k p c d → Heads k p d → ReadsAs (AsLeft p) (head_cover n) k p c d
   -- what stands behind the `@` of a decorator
   pub decorateds : (k : Code) (x : Tree) (c d : Place) → ReadsDecorated n k x c d → Reads (decorated_in n) k x c d
 
 module _ (n : ℕ) (below : Below n) where
   -- an expression of any class
-  pub expr_reads : (class : Class) (k : Code) (x : Tree) (c d : Place) → ReadsClass n class k x c d → Reads (expr n class) k x c d
+  pub expr_reads : (class : Class) (k : Code) (x : Tree) (c d : Place) → ReadsClass n class k x c d → ReadsCalm (expr n class) k x c d
   expr_reads = class_is_read n (expr n) (cover n) below.exprs
 
   -- a pattern without a default

@@ -154,23 +154,6 @@ sound_as s t k e n r p = record {
   reads = λ h. r (p.reads h);
 }
 
--- where it was read the walk finds nothing
-pub sound_clean : {f : Code → Code} {w : Walk} {ns : Notes} {P : Code → Place → Place → Type 0} (s t : State) → Sound f w ns P s t
-    → Sound f w ns (λ k c d. P k c d × ((l : List Text) × (w k l ≡ []))) s t
-sound_clean s t p = record {
-  code = p.code;
-  scope = p.scope;
-  added = p.added;
-  faults = p.faults;
-  notes = p.notes;
-  found = p.found;
-  walked = p.walked;
-  clean = p.clean;
-  fewer = p.fewer;
-  remembers = p.remembers;
-  reads = λ h. (p.reads h, (s.scope.labels, p.clean h));
-}
-
 -- with faults held back that are the same where it was read
 pub sound_held : {f : Code → Code} {w : Walk} {ns : Notes} {P : Code → Place → Place → Type 0} (s t : State) (fs : List Fault) → (P s.code s.at t.at → ns.held_back ≡ fs)
     → Sound f w ns P s t → Sound f w (record ns { held_back = fs }) P s t

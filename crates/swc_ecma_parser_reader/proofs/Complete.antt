@@ -41,7 +41,8 @@ use Rattle.swc_ecma_parser_reader.specs.Notes.{Notes, ◌⊕◌, notes_of, all_n
 use Rattle.swc_ecma_parser_reader.specs.State.{Scope, State, Outcome, and_then, loop}
 use Rattle.swc_ecma_parser_reader.specs.Methods.{getter_form, setter_form, method_form, expression_form, parameter_form, block_form, star}
 use Rattle.swc_ecma_parser_reader.proofs.Notes.{or_nil, or_assoc}
-use Rattle.swc_ecma_parser_reader.proofs.Answered.{st, Reads, Calm, ReadsCalm, ReadsAs}
+use Rattle.swc_ecma_parser_reader.proofs.Answered.{st, Reads, Calm, ReadsCalm, ReadsAs, ReadsAsCalm}
+use Rattle.swc_ecma_parser_reader.proofs.Calm.{calm_first, calm_last, told_reads}
 use Rattle.swc_ecma_parser_reader.proofs.Errors.{is_error}
 use Rattle.swc_ecma_parser_reader.proofs.Between.{nil-split}
 use Rattle.swc_ecma_parser_reader.proofs.Meets.{saw}
@@ -68,7 +69,7 @@ use Rattle.swc_ecma_parser_grammar.proofs.Arrows.{block_narrows}
 use Rattle.swc_ecma_parser_grammar.proofs.MethodParts.{parts_narrow}
 use Rattle.swc_ecma_parser_grammar.proofs.Unnoted.{clean_is}
 use Rattle.swc_ecma_parser_grammar.proofs.Widens.{parameters_same}
-use Rattle.swc_ecma_parser_grammar.specs.Supported.{supported_in, is_supported_key_in, is_rightly_directed, is_rightly_set, has_no_note}
+use Rattle.swc_ecma_parser_grammar.specs.Supported.{supported_in, is_supported_key_in, has_no_note}
 use Rattle.swc_ecma_parser_grammar.specs.language.Functions as formal
 use Rattle.swc_ecma_parser_grammar.specs.language.Functions.{PatternItemRule, ParametersRule}
 use Rattle.swc_ecma_parser_grammar.specs.language.Patterns as patterns
@@ -76,7 +77,7 @@ use Rattle.swc_ecma_parser_grammar.specs.language.Patterns.{PatternRule, Pattern
 use Rattle.swc_ecma_parser_grammar.specs.language.Reads as language
 use Rattle.swc_ecma_parser_reader.proofs.Loops.{stmt_shorter, clauses_done, clauses_more}
 use Rattle.swc_ecma_parser_reader.proofs.Chains.{if_last, if_more}
-use Rattle.swc_ecma_parser_reader.proofs.CompleteParts.{behind_setting, break_reads, calm_first, calm_last, clause_ends, close_reads, closes_at, code_stays, condition_reads, continue_reads, debugger_reads, empty_reads, expect_reads, expr_stmt_reads, head_reads, import_stmt_reads, items_read, name_no_function, name_no_class, no_brace, no_label_here, optional_end_reads, return_reads, throw_reads, told_reads, variables_reads, note_with_reads, code_behind, using_reads}
+use Rattle.swc_ecma_parser_reader.proofs.CompleteParts.{behind_setting, break_reads, clause_ends, close_reads, closes_at, code_stays, condition_reads, continue_reads, debugger_reads, empty_reads, expect_reads, expr_stmt_reads, head_reads, import_stmt_reads, items_read, name_no_function, name_no_class, no_brace, no_label_here, optional_end_reads, return_reads, statement_calm, throw_reads, variables_reads, note_with_reads, code_behind, using_reads}
 use Rattle.swc_ecma_parser_grammar.proofs.Naming.{name_is_free}
 use Rattle.swc_ecma_parser_grammar.specs.Using.{is_await_using_declaration, is_using_declaration}
 use Rattle.swc_ecma_parser_reader.proofs.CompleteFor.{no_arrow, opening_reads_init, opening_reads_in, opening_reads_of}
@@ -170,12 +171,15 @@ module _ (n : ℕ) (below : Below n) (reads : (at : Position) (k : Code) (x : Tr
   own_name_quiet env (no_own_name_rule l e g) = (ap (walk env) g, ap notes g, ap has_meta g)
   own_name_quiet env (own_name_rule u sp r o g) = (ap (walk env) g, ap notes g, ap has_meta g)
 
-  -- no fault is told behind it, so an error token may stand there
-  function_expr_reads : (k : Code) (x : Tree) (c d : Place) → ReadsFunctionExpr (ReadsStmt n) (ReadsParams n) k x c d → Reads (function n expression_form) k x c d
+  function_expr_reads : (k : Code) (x : Tree) (c d : Place) → ReadsFunctionExpr (ReadsStmt n) (ReadsParams n) k x c d → ReadsCalm (function n expression_form) k x c d
   unfolding function function_by function_expr function_parts misdirected spanned
-  function_expr_reads k x c d r w f h =
+  function_expr_reads k x c d r w f h q =
       let env = env_of k w.labels in
+      let fn = tree.function (spanned c d) (listed []) (parameter_trees r.patterns) r.body r.is_async r.is_generator in
       let a = walks (in_params env) false (trees r.patterns) in
+      let b = walk_body (walks_in_body env) r.body in
+      let l = misplaced_directive (has_plain_params (parameter_trees r.patterns)) r.body in
+      let here = calm_last d (walk env r.name) (walk env fn) (walk env x) (ap (walk env) r.is) q in
       let quiet = own_name_quiet env r.reads_name in
       rw (
         word_reads k c r.word w f h r.reads_async r.is_function,
@@ -183,8 +187,8 @@ module _ (n : ℕ) (below : Below n) (reads : (at : Position) (k : Code) (x : Tr
         own_name_reads r.is_async r.is_generator r.name k r.behind_word r.behind_name w f h r.reads_name,
         parameters_reads n below (in_parameters k r.is_async r.is_generator) r.patterns r.behind_name r.middle r.reads_parameters w f h,
         function_body_reads r.is_async r.is_generator k r.body r.middle d w (f ++ a) (h ⊕ all_notes_of (trees r.patterns)) r.reads_body,
+        told_reads l d k w (f ++ a ++ b) _ (calm_last d (a ++ b) l (walk env fn) (ap (λ z. z ++ b ++ l) (parameters_walk (in_params env) r.patterns)) here),
         r.is,
-        r.directs,
         quiet.0,
         quiet.1,
         quiet.2,
@@ -208,7 +212,7 @@ module _ (n : ℕ) (below : Below n) (reads : (at : Position) (k : Code) (x : Tr
       ) (simp (append_assoc, append-nil, or_nil) refl)
 
   setter_reads : (k : Code) (key p body x : Tree) (c m d : Place) → ReadsParts (ReadsStmt n) (ReadsParams n) k false false (p ∷ []) body m d → is_rest p ≡ false
-      → is_plain_param p ≡ is_binding_name p → misplaced_directive (is_plain_param p) body ≡ [] → x ≡ tree.setter_prop (spanned c d) key p body → MethodIsRead (function n) setter_form k key x c m d
+      → is_plain_param p ≡ is_binding_name p → is_error (kind_at d) ≡ false → x ≡ tree.setter_prop (spanned c d) key p body → MethodIsRead (function n) setter_form k key x c m d
   unfolding function function_by setter spanned
   setter_reads k key p body x c m d r q s z e w f h =
       let env = env_of k w.labels in
@@ -218,13 +222,13 @@ module _ (n : ℕ) (below : Below n) (reads : (at : Position) (k : Code) (x : Tr
         parameters_reads n below (in_parameters k false false) (p ∷ []) m r.middle r.reads_parameters w f' h',
         q,
         function_body_reads false false k body r.middle d w (f' ++ walks (in_params env) false (trees (p ∷ []))) (h' ⊕ all_notes_of (trees (p ∷ []))) r.reads_body,
-        e,
         ← s,
-        z,
+        told_reads (misplaced_directive (is_plain_param p) body) d k w (f' ++ walks (in_params env) false (trees (p ∷ [])) ++ walk_body (walks_in_body env) body) _ (inr z),
+        e,
       ) (simp (append_assoc, append-nil, or_assoc, or_nil) refl)
 
   method_reads : (k : Code) (a g : Bool) (key : Tree) (ps : List Tree) (body x : Tree) (c m d : Place) → ReadsParts (ReadsStmt n) (ReadsParams n) k a g ps body m d
-      → misplaced_directive (has_plain_params (parameter_trees ps)) body ≡ [] → x ≡ tree.method_prop (spanned c d) key (tree.function (spanned c d) (listed []) (parameter_trees ps) body a g)
+      → is_error (kind_at d) ≡ false → x ≡ tree.method_prop (spanned c d) key (tree.function (spanned c d) (listed []) (parameter_trees ps) body a g)
       → MethodIsRead (function n) (method_form a g) k key x c m d
   unfolding function function_by plain_method function_parts misdirected spanned
   method_reads k a g key ps body x c m d r z e w f h =
@@ -234,8 +238,8 @@ module _ (n : ℕ) (below : Below n) (reads : (at : Position) (k : Code) (x : Tr
       rw (
         parameters_reads n below (in_parameters k a g) ps m r.middle r.reads_parameters w f' h',
         function_body_reads a g k body r.middle d w (f' ++ walks (in_params env) false (trees ps)) (h' ⊕ all_notes_of (trees ps)) r.reads_body,
+        told_reads (misplaced_directive (has_plain_params (parameter_trees ps)) body) d k w (f' ++ walks (in_params env) false (trees ps) ++ walk_body (walks_in_body env) body) _ (inr z),
         e,
-        z,
         parameters_walk (in_params env) ps,
         ap (λ z. z.held_back) (parameters_notes ps),
         ap (λ z. z.found_module_item) (parameters_notes ps),
@@ -267,7 +271,7 @@ module _ (n : ℕ) (below : Below n) (reads : (at : Position) (k : Code) (x : Tr
   clause_reads k b x c d w f h (case_clause_rule test xs m a r i s e) z =
       rw (
         seen c kind.Case a,
-        expr_reads n below expression (with_in k) test (after c) m r w f h,
+        expr_reads n below expression (with_in k) test (after c) m r w f h (inr (ap is_error i)),
         clause_from_reads (span_at c) test xs k m d w (f ++ walk (env_of k w.labels) test) (h ⊕ notes_of test) i s z,
         e,
         append_assoc f (walk (env_of k w.labels) test) (walks (env_of k w.labels) false (trees xs)),
@@ -399,10 +403,10 @@ module _ (n : ℕ) (below : Below n) (reads : (at : Position) (k : Code) (x : Tr
 
   -- ---- `for`
 
-  part_reads : (j : TokenKind) → opens j ≡ false → (k : Code) (x : Tree) (c d : Place) → PartRule (ReadsClass n) k x c d → kind_at d ≡ j → Reads (head_part j (expr n expression)) k x c d
+  part_reads : (j : TokenKind) → opens j ≡ false → is_error j ≡ false → (k : Code) (x : Tree) (c d : Place) → PartRule (ReadsClass n) k x c d → kind_at d ≡ j → Reads (head_part j (expr n expression)) k x c d
   unfolding head_part
-  part_reads j o k x c d (no_part_rule b e) z w f h = rw (seen c j (ap kind_at (sym b) ∙ z), e, b, append-nil f, append-nil h.held_back, or_nil h.found_module_item) refl
-  part_reads j o k x c d (part_rule r) z w f h = rw (unopened c j (expr_opens n (with_in k) x c d r) o, expr_reads n below expression (with_in k) x c d r w f h) refl
+  part_reads j o i k x c d (no_part_rule b e) z w f h = rw (seen c j (ap kind_at (sym b) ∙ z), e, b, append-nil f, append-nil h.held_back, or_nil h.found_module_item) refl
+  part_reads j o i k x c d (part_rule r) z w f h = rw (unopened c j (expr_opens n (with_in k) x c d r) o, expr_reads n below expression (with_in k) x c d r w f h (inr (ap is_error z ∙ i))) refl
 
   -- `;` is neither `in` nor `of`, and `of` is a name
   no_head_word : (c : Place) → kind_at c ≡ kind.Semi → (sees kind.In c ≡ false) × (word_at (codes "of") c ≡ false)
@@ -446,9 +450,9 @@ module _ (n : ℕ) (below : Below n) (reads : (at : Position) (k : Code) (x : Tr
         (no_head_word l s).1,
         first.holds (st l k w f1 h1),
         expect_reads kind.Semi l k w f1 h1 s,
-        part_reads kind.Semi refl k b (after l) m t u w f1 h1,
+        part_reads kind.Semi refl refl k b (after l) m t u w f1 h1,
         expect_reads kind.Semi m k w f2 h2 u,
-        part_reads kind.RParen refl k g (after m) i v z w f2 h2,
+        part_reads kind.RParen refl refl k g (after m) i v z w f2 h2,
         expect_reads kind.RParen i k w f3 h3 z,
         reads sub_statement (in_loop k) y (after i) d j w f3 h3
             (calm_last d (walk env a ++ walk env b ++ walk env g) (walk (env_of (in_loop k) w.labels) y) (walk env x) (ap (walk env) e) q),
@@ -477,7 +481,7 @@ module _ (n : ℕ) (below : Below n) (reads : (at : Position) (k : Code) (x : Tr
         seen m kind.In s,
         first.holds (st m k w f1 h1),
         told_reads l m k w f1 h1 (inr (ap is_error s)),
-        expr_reads n below expression (with_in k) b (after m) i t w f2 h1,
+        expr_reads n below expression (with_in k) b (after m) i t w f2 h1 (inr (ap is_error z)),
         expect_reads kind.RParen i k w f3 h2 z,
         reads sub_statement (in_loop k) y (after i) d j w f3 h2
             (calm_last d (walk env a ++ l ++ walk env b) (walk (env_of (in_loop k) w.labels) y) (walk env x) (ap (walk env) e) q),
@@ -509,7 +513,7 @@ module _ (n : ℕ) (below : Below n) (reads : (at : Position) (k : Code) (x : Tr
         s,
         first.holds (st m k w f1 h1),
         told_reads l m k w f1 h1 (inr (of_stands m s).1),
-        expr_reads n below assignment (with_in k) b (after m) i t w f2 h1,
+        expr_reads n below assignment (with_in k) b (after m) i t w f2 h1 (inr (ap is_error z)),
         expect_reads kind.RParen i k w f3 h2 z,
         reads sub_statement (in_loop k) y (after i) d j w f3 h2
             (calm_last d (walk env a ++ l ++ walk env b) (walk (env_of (in_loop k) w.labels) y) (walk env x) (ap (walk env) e) q),
@@ -628,13 +632,13 @@ module _ (n : ℕ) (below : Below n) (reads : (at : Position) (k : Code) (x : Tr
   by_rules at k x c d n' (block_rule r) w f h q = rw r.opens (block_reads k x c d r w f h)
   by_rules at k x c d n' (empty_rule e g i) w f h q = rw e (empty_reads k x c d g i w f h)
   by_rules at k x c d n' (debugger_rule e g i) w f h q = rw e (debugger_reads k x c d g i w f h)
-  by_rules at k x c d n' (variables_rule decl.Var xs m a e r g i) w f h q = rw (saw c kind.Var e) (variables_reads n below decl.Var xs m k x c d r g i w f h)
-  by_rules at k x c d n' (variables_rule decl.Const xs m a e r g i) w f h q = rw (saw c kind.Const e, declares at a) (variables_reads n below decl.Const xs m k x c d r g i w f h)
-  by_rules at k x c d n' (variables_rule decl.Let xs m a e r g i) w f h q = rw (let_stands c e, declares at a, e) (variables_reads n below decl.Let xs m k x c d r g i w f h)
+  by_rules at k x c d n' (variables_rule decl.Var xs m a e r g i) w f h q = rw (saw c kind.Var e) (variables_reads n below decl.Var xs m k x c d r g i w f h q)
+  by_rules at k x c d n' (variables_rule decl.Const xs m a e r g i) w f h q = rw (saw c kind.Const e, declares at a) (variables_reads n below decl.Const xs m k x c d r g i w f h q)
+  by_rules at k x c d n' (variables_rule decl.Let xs m a e r g i) w f h q = rw (let_stands c e, declares at a, e) (variables_reads n below decl.Let xs m k x c d r g i w f h q)
   by_rules at k x c d n' (using_rule v xs m a (no_await l i) b r e g) w f h q =
       let b' = subst (λ z. is_using_declaration k z ≡ true) i b in
       rw (using_stands k c b', using_no_function k c b', placed at v l a, b')
-      (using_reads n below xs k x c d (subst (λ z. ReadsSeparated (DeclaratorRule (ReadsClass n assignment) (ReadsPat n) (with_in k) false decl.Var) xs (after z) d) i r) e (g ∙ ap (λ z. tree.using (spanned c d) z (listed xs)) l) w f h)
+      (using_reads n below xs k x c d (subst (λ z. ReadsSeparated (DeclaratorRule (ReadsClass n assignment) (ReadsPat n) (with_in k) false decl.Var) xs (after z) d) i r) e (g ∙ ap (λ z. tree.using (spanned c d) z (listed xs)) l) w f h q)
   by_rules at k x c d n' (using_rule v xs m a (await_word l i j) b r e g) w f h q =
       absurd (true≢false (sym (declares_so at k c m v a i j b) ∙ n'))
   by_rules at k x c d n' (if_statement_rule r) w f h q = rw (if_begins r) (if_reads r w f h q)
@@ -651,7 +655,7 @@ module _ (n : ℕ) (below : Below n) (reads : (at : Position) (k : Code) (x : Tr
       (and_no at.include_decl _ (let_before_colon c (seen (after c) kind.Colon (ap kind_at (sym r.next) ∙ i)))) (name_no_function k.flags v s c m r o) (kinds.no_async_function c m r.next (colon_no_function m i)) (name_no_class k.flags v s c m r o)
       (and_no at.include_decl _ (no_using_before k c (seen (after c) kind.Colon (ap kind_at (sym r.next) ∙ i))))
       ∙ rw (label_begins k v s c m r o i) (labeled_reads v s y m k x c d r o i t e w f h q)
-  by_rules at k x c d n' (throw_rule y m e b r g i) w f h q = rw e (throw_reads n below y m k x c d b r g i w f h)
+  by_rules at k x c d n' (throw_rule y m e b r g i) w f h q = rw e (throw_reads n below y m k x c d b r g i w f h q)
   by_rules at k x c d n' (try_rule y z v m i e r s t b g) w f h q = rw e (try_reads y z v m i k x c d r s t b g w f h)
   by_rules at k x c d n' (with_rule y z m e o r s i) w f h q = rw e (with_reads y z m k x c d o r s i w f h q)
   by_rules at k x c d n' (while_rule y z m e r s i) w f h q = rw e (while_reads y z m k x c d r s i w f h q)
@@ -660,8 +664,8 @@ module _ (n : ℕ) (below : Below n) (reads : (at : Position) (k : Code) (x : Tr
       let o = no_block_or_import at c b in
       opened (stmt n) (expr n) (pattern n) (head_cover n) (parameters n) (member n) (operators n) at (st c k w f h) (kind_at c) (expr_opens n (with_in k) e c m r) o.0 o.1 (expr_no_const n (with_in k) e c m r) o.2 o.3 o.4 o.5
       (and_no at.include_decl _ (no_using_here n k (with_in k) e c m d r.0 g))
-      ∙ rw (no_label_here n below k e c m r l, b) (expr_stmt_reads n below e m k x c d r l i g j w f h)
-  by_rules at k x c d n' (import_rule e m b r g j) w f h q = rw (import_stands c b, b) (import_stmt_reads n below e m k x c d b r g j w f h)
+      ∙ rw (no_label_here n below k w.labels e c m r l (statement_calm k w.labels e m x d (spanned c d) g j q), b) (expr_stmt_reads n below e m k x c d r l i g j w f h q)
+  by_rules at k x c d n' (import_rule e m b r g j) w f h q = rw (import_stands c b, b) (import_stmt_reads n below e m k x c d b r g j w f h q)
 
 -- ---- the parameter of a setter
 
@@ -709,38 +713,36 @@ module _ (n : ℕ) (b : Whole n) where
   functions : IsFunctionRead (language.Reads n) (function n)
   unfolding function function_by
   functions = record {
-    reads = λ k x c d name y r e s w f h. function_expr_reads n b.parts b.stmts b.members k x c d (function_narrows n k x c d name y r e s) w f h;
+    reads = λ k x c d name y r e s w f h q. function_expr_reads n b.parts b.stmts b.members k x c d (function_narrows n k x c d name y r e s) w f h q;
     getters = λ k key body x c m d r e s w f h.
         let t = and_yes (is_supported_key_in k.flags.module key) _ (kinds.supported_as _ x (tree.getter_prop (spanned c d) key body) e s) in
         let i = and_yes (supported_in k.flags.module body) _ t.1 in
         getter_reads n b.parts b.stmts b.members k key body x c m d (parts_narrow n k false false [] body m d r refl i.0 (λ o. clean_is (notes body) (in_module k.flags.module _ i.1 o))) e w f h;
-    setters = λ k key p body x c m d r q e s w f h.
+    setters = λ k key p body x c m d r q e s o w f h.
         let t = and_yes (is_supported_key_in k.flags.module key) _ (kinds.supported_as _ x (tree.setter_prop (spanned c d) key p body) e s) in
         let i = and_yes (supported_in k.flags.module p && supported_in k.flags.module body) _ t.1 in
         let j = and_yes (supported_in k.flags.module p) _ i.0 in
-        let l = and_yes (is_rightly_set p body) _ i.1 in
         setter_reads n b.parts b.stmts b.members k key p body x c m d
         (parts_narrow n k false false (p ∷ []) body m d r (parameters_same k.flags.module (p ∷ []) ∙ and_both (supported_in k.flags.module p) true j.0 refl) j.1
-        (λ o. clean_is (notes body) (and_yes (has_no_note p) _ (in_module k.flags.module _ l.1 o)).1))
-        q (parameter_plain n p r.reads_parameters) (clean_is _ l.0) e w f h;
-    methods = λ k a g key ps body x c m d r e s w f h.
+        (λ z. clean_is (notes body) (and_yes (has_no_note p) _ (in_module k.flags.module _ i.1 z)).1))
+        q (parameter_plain n p r.reads_parameters) o e w f h;
+    methods = λ k a g key ps body x c m d r e s o w f h.
         let fn = tree.function (spanned c d) (listed []) (parameter_trees ps) body a g in
         let t = and_yes (is_supported_key_in k.flags.module key) _ (kinds.supported_as _ x (tree.method_prop (spanned c d) key fn) e s) in
         let i = and_yes (supported_in k.flags.module fn) _ t.1 in
         let j = and_yes (supported_in k.flags.module (parameter_trees ps)) _ i.0 in
-        let l = and_yes (is_rightly_directed fn) _ i.1 in
         method_reads n b.parts b.stmts b.members k a g key ps body x c m d
-        (parts_narrow n k a g ps body m d r j.0 j.1 (λ o. (nil-split (notes (parameter_trees ps)) (notes body) (clean_is _ (in_module k.flags.module _ l.1 o))).1))
-        (clean_is _ l.0) e w f h;
+        (parts_narrow n k a g ps body m d r j.0 j.1 (λ z. (nil-split (notes (parameter_trees ps)) (notes body) (clean_is _ (in_module k.flags.module _ i.1 z))).1))
+        o e w f h;
     classes = class_expr_reads n b.parts b.members;
     patterns = λ k p c d r s w f h. parameter_form_reads n b.parts k p c d r s w f h;
     blocks = λ a k x c d r s q w f h. arrow_block_reads n b.parts b.stmts b.members a k x c d (block_narrows n k a x c d r s q) w f h;
     falls = functions_fall n;
   }
 
-  heads_above : (k : Code) (x : Tree) (c d : Place) → ReadsClass (suc n) expression k x c d → ReadsAs (AsExpr x) (head_cover (suc n)) k x c d
+  heads_above : (k : Code) (x : Tree) (c d : Place) → ReadsClass (suc n) expression k x c d → ReadsAsCalm (AsExpr x) (head_cover (suc n)) k x c d
   unfolding function head_cover
-  heads_above k x c d r w f h = head_expr_reads n (expr n) (cover n) b.parts.exprs (function n) functions k x c d r.0 r.1 w f h
+  heads_above k x c d r w f h q = head_expr_reads n (expr n) (cover n) b.parts.exprs (function n) functions k x c d r.0 r.1 w f h q
 
   targets_above : (k : Code) (p : Tree) (c d : Place) → ReadsTarget (suc n) k p c d → Heads k p d → ReadsAs (AsLeft p) (head_cover (suc n)) k p c d
   unfolding function head_cover
@@ -761,7 +763,7 @@ whole zero = record {
   parts = record {
     exprs = read_nowhere (expr zero) (cover zero) (expr_falls zero) (cover_falls zero) (tied_at zero) (parts_at zero);
     patterns = pattern_nowhere (pattern zero) (element zero) (pattern_falls zero) (element_falls zero);
-    heads = λ k x c d r w f h. absurd r.0;
+    heads = λ k x c d r w f h q. absurd r.0;
     targets = λ k p c d r e w f h. absurd r.0;
     decorateds = λ k x c d r w f h. absurd r.0;
   };

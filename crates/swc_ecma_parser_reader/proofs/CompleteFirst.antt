@@ -91,7 +91,7 @@ module _ (n : ℕ) (below : Below n) where
   first_reads at k x c d o u (using_rule v xs m a (no_await l i) b r e g) = apart c kind.Ident (sym (ap kind_at i) ∙ using_stands k m b) o refl
   first_reads at k x c d o u (using_rule v xs m a (await_word l i j) b r e g) =
       let s = subst (λ z. ReadsSeparated (DeclaratorRule (ReadsClass n assignment) (ReadsPat n) (with_in k) false decl.Var) xs (after z) d) j r in
-      (λ w f h q. await_using_reads n below xs k x c d s e (g ∙ ap (λ z. tree.using (spanned c d) z (listed xs)) l) w f h, declarators_nest n (with_in k) xs (after (after c)) d s)
+      (λ w f h q. await_using_reads n below xs k x c d s e (g ∙ ap (λ z. tree.using (spanned c d) z (listed xs)) l) w f h q, declarators_nest n (with_in k) xs (after (after c)) d s)
   first_reads at k x c d o u (class_rule name y a r b e) = apart c kind.Class r.0.is_class o refl
   first_reads at k x c d o u (function_rule a r) = function_apart c r.word r.reads_async r.is_function o
   first_reads at k x c d o u (block_rule r) = apart c kind.LBrace r.opens o refl

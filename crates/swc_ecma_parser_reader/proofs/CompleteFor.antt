@@ -16,7 +16,7 @@ use Rattle.swc_ecma_parser_input.specs.Place.{Place, after}
 use Rattle.swc_ecma_parser_model.specs.declared.leaves.VarDeclKind.{VarDeclKind}
 use Rattle.swc_ecma_parser_model.specs.declared.leaves.VarDeclKind.TheVariants as decl
 use Rattle.swc_ecma_parser_model.specs.Tree as tree
-use Rattle.swc_ecma_parser_model.specs.Tree.{Tree, Text, listed}
+use Rattle.swc_ecma_parser_model.specs.Tree.{Tree, Text, listed, trees}
 use Rattle.swc_ecma_parser_model.specs.Forms.{is_binding_name}
 use Rattle.swc_ecma_parser_grammar.specs.Looks.{kind_at, breaks_at, sees, same_kind, spanned, span_at}
 use Rattle.swc_ecma_parser_grammar.specs.Names.{Code, identifier_at}
@@ -25,7 +25,7 @@ use Rattle.swc_ecma_parser_grammar.specs.Variables.{begins_variables}
 use Rattle.swc_ecma_parser_grammar.specs.Using.{may_declare_using, awaits_using, declares_behind, stands_in_head}
 use Rattle.swc_ecma_parser_grammar.specs.Reads.{with_in, head_code, HeadVariables, InitRule, no_init_rule, init_variables_rule, init_expression_rule, LeftRule, declared_rule, left_target_rule, OfLeftRule, of_left_rule, of_using_rule, of_await_rule, DeclaratorRule, ReadsSeparated}
 use Rattle.swc_ecma_parser_grammar.specs.ReadsSupported.{ReadsClass, ReadsPat, ReadsTarget}
-use Rattle.swc_ecma_parser_grammar.specs.Walk.{env_of, walk}
+use Rattle.swc_ecma_parser_grammar.specs.Walk.{env_of, walk, walks}
 use Rattle.swc_ecma_parser_grammar.specs.language.Begins.{begins_expression, begins_unary}
 use Rattle.swc_ecma_parser_grammar.specs.language.Contexts.{without_in}
 use Rattle.swc_ecma_parser_grammar.specs.language.Goals.{Class, expression, assignment, assigning, pattern_goal}
@@ -37,12 +37,14 @@ use Rattle.swc_ecma_parser_grammar.proofs.StatementBegins.{word_place}
 use Rattle.swc_ecma_parser_grammar.proofs.Using.{no_other, word_target, word_no_function, using_alone}
 use Rattle.swc_ecma_parser_grammar.proofs.UsingParts.{target_bound, using_read, declares_in_head, bound_stands}
 use Rattle.swc_ecma_parser_grammar.proofs.AwaitHeads.{awaited_words, declares_so, undeclared_unnamed, undeclared_of}
-use Rattle.swc_ecma_parser_reader.specs.Notes.{Notes, no_notes, ◌⊕◌, notes_of}
-use Rattle.swc_ecma_parser_reader.specs.State.{Scope, State, Outcome, Reader, coded, flagged}
+use Rattle.swc_ecma_parser_reader.specs.Notes.{Notes, no_notes, ◌⊕◌, notes_of, all_notes_of}
+use Rattle.swc_ecma_parser_reader.specs.State.{Scope, State, Outcome, Reader, coded, flagged, loop}
 use Rattle.swc_ecma_parser_reader.specs.Expressions.{Cover}
-use Rattle.swc_ecma_parser_reader.specs.Reader.{expr, head_cover, pattern, declarators, Opening, Nothing, Variables, Resource, Named, Expression, as_init, as_left, head_variables, undeclared, using_head, named_head, await_or_expression, async_head, head_expression, await_head, async_or_expression, head_target, opening}
+use Rattle.swc_ecma_parser_reader.specs.Reader.{expr, head_cover, pattern, declarators, declarators_turn, Opening, Nothing, Variables, Resource, Named, Expression, as_init, as_left, head_variables, undeclared, using_head, named_head, await_or_expression, async_head, head_expression, await_head, async_or_expression, head_target, opening}
 use Rattle.swc_ecma_parser_reader.proofs.Notes.{or_nil, notes_nil}
 use Rattle.swc_ecma_parser_reader.proofs.Answered.{st, Gets, ReadsAs}
+use Rattle.swc_ecma_parser_reader.proofs.Calm.{settled_as}
+use Rattle.swc_ecma_parser_reader.proofs.Errors.{is_error}
 use Rattle.swc_ecma_parser_reader.proofs.Below.{Below, pattern_reads}
 use Rattle.swc_ecma_parser_reader.proofs.CompleteParts.{many_declarators}
 use Rattle.swc_ecma_parser_reader.proofs.Meets.{saw}
@@ -51,6 +53,7 @@ use Rattle.swc_ecma_parser_reader.proofs.SoundFor.{awaited_walk, awaited_notes}
 use Rattle.swc_ecma_parser_reader.proofs.Using.{by_contradiction, word_begins_head, async_of_words}
 use Rattle.swc_ecma_parser_reader.proofs.expressions.Covers as covers
 use Rattle.swc_ecma_parser_reader.proofs.expressions.CompleteHeads as heads
+use Rattle.swc_ecma_parser_reader.proofs.expressions.CompleteParts.{AsExpr}
 use Rattle.swc_ecma_parser_reader.proofs.expressions.CompleteKinds.{seen, names_stand}
 use Rattle.swc_ecma_parser_reader.proofs.expressions.HeadEnds.{of_named, in_unnamed}
 
@@ -238,18 +241,31 @@ module _ (inner_expr : Class → Reader Tree) (inner_pat : Reader Tree) (inner_c
   opening_async s e u a i = opening_target s e u (async_no_await s.at i) ∙ rw (a, i) refl
 
 module _ (n : ℕ) (below : Below n) where
+  -- where no error token stands behind them, declarators and an expression are read
+  declarators_settled : (word : VarDeclKind) (xs : List Tree) (k : Code) (c d : Place) (w : Scope) (f : List Fault) (h : Notes)
+      → ReadsSeparated (DeclaratorRule (ReadsClass n assignment) (ReadsPat n) k true word) xs c d → is_error (kind_at d) ≡ false
+      → loop (declarators_turn (expr n) (pattern n) true word) [] (st c k w f h) ≡ Ok (xs, st d k w (f ++ walks (env_of k w.labels) false (trees xs)) (h ⊕ all_notes_of (trees xs)))
+  declarators_settled word xs k c d w f h r q = many_declarators n below true word xs [] k c d w f h r (inr q)
+
+  head_settled : (k : Code) (x : Tree) (c d : Place) → ReadsClass n expression k x c d → is_error (kind_at d) ≡ false → ReadsAs (AsExpr x) (head_cover n) k x c d
+  head_settled k x c d r e = settled_as (AsExpr x) (head_cover n) k x c d e (below.heads k x c d r)
+
+  -- and so is what waits for a word, whatever stands behind it
+  head_awaited : (k : Code) (x : Tree) (c d : Place) → ReadsClass n expression k x c d → awaits_using x ≡ true → ReadsAs (AsExpr x) (head_cover n) k x c d
+  head_awaited k x c d r a w f h = below.heads k x c d r w f h (inl (awaited_walk x k w.labels a))
+
   declared_reads : (word : VarDeclKind) (xs : List Tree) (k : Code) (x : Tree) (c d : Place) (w : Scope) (f : List Fault) (h : Notes)
-      → ReadsSeparated (DeclaratorRule (ReadsClass n assignment) (ReadsPat n) (head_code word k) true word) xs (after c) d → x ≡ tree.var (spanned c d) word (listed xs)
+      → ReadsSeparated (DeclaratorRule (ReadsClass n assignment) (ReadsPat n) (head_code word k) true word) xs (after c) d → x ≡ tree.var (spanned c d) word (listed xs) → is_error (kind_at d) ≡ false
       → head_variables (expr n) (pattern n) word (st c k w f h) ≡ Ok (Variables x, st d k w (f ++ walk (env_of k w.labels) x) (h ⊕ notes_of x))
   unfolding head_variables declarators spanned
-  declared_reads decl.Var xs k x c d w f h r e = rw (many_declarators n below true decl.Var xs [] (without_in k) (after c) d w f h r, e) refl
-  declared_reads decl.Const xs k x c d w f h r e = rw (many_declarators n below true decl.Const xs [] (with_in k) (after c) d w f h r, e) refl
-  declared_reads decl.Let xs k x c d w f h r e = rw (many_declarators n below true decl.Let xs [] (with_in k) (after c) d w f h r, e) refl
+  declared_reads decl.Var xs k x c d w f h r e q = rw (declarators_settled decl.Var xs (without_in k) (after c) d w f h r q, e) refl
+  declared_reads decl.Const xs k x c d w f h r e q = rw (declarators_settled decl.Const xs (with_in k) (after c) d w f h r q, e) refl
+  declared_reads decl.Let xs k x c d w f h r e q = rw (declarators_settled decl.Let xs (with_in k) (after c) d w f h r q, e) refl
 
   head_variables_read : (v : Bool) (k : Code) (x : Tree) (c d : Place) (w : Scope) (f : List Fault) (h : Notes) → HeadVariables (ReadsClass n) (ReadsPat n) k x c d
-      → opening (expr n) (pattern n) (head_cover n) v (st c k w f h) ≡ Ok (Variables x, st d k w (f ++ walk (env_of k w.labels) x) (h ⊕ notes_of x))
-  head_variables_read v k x c d w f h r =
-      opening_declares (expr n) (pattern n) (head_cover n) v r.word (st c k w f h) r.begins ∙ declared_reads r.word r.declarators k x c d w f h r.reads r.is
+      → is_error (kind_at d) ≡ false → opening (expr n) (pattern n) (head_cover n) v (st c k w f h) ≡ Ok (Variables x, st d k w (f ++ walk (env_of k w.labels) x) (h ⊕ notes_of x))
+  head_variables_read v k x c d w f h r q =
+      opening_declares (expr n) (pattern n) (head_cover n) v r.word (st c k w f h) r.begins ∙ declared_reads r.word r.declarators k x c d w f h r.reads r.is q
 
   -- an expression, or a target, behind which nothing is declared
   head_stays : (v : Bool) (k : Code) (c d : Place) (z : Scope) (f fs : List Fault) (h ns : Notes) → may_begin_head c ≡ true → may_declare_using k c ≡ false → (v && begins_async_of c) ≡ false
@@ -262,25 +278,33 @@ module _ (n : ℕ) (below : Below n) where
   no_using_init k x c d r e = by_contradiction (may_declare_using k c) (λ h. let (_, u, i, _) = declares_in_head k c h in
       semicolon_no_name (after c) (sym (ap kind_at (using_alone k c u i (without_in k) n x d r.0)) ∙ e) (no_other k.flags (after c) i).no_semi)
 
-  pub opening_reads_init : (k : Code) (x : Tree) (c d : Place) → InitRule (ReadsClass n) (ReadsPat n) k x c d → kind_at d ≡ kind.Semi → ReadsAs (AsInit x) (opening (expr n) (pattern n) (head_cover n) false) k x c d
-  unfolding opening head_expression
-  opening_reads_init k x c d (no_init_rule a b e) z w f h =
-      record { value = Nothing; holds = λ s. rw e refl; is = rw (seen c kind.Semi a, e, b, append-nil f, append-nil h.held_back, or_nil h.found_module_item) refl }
-  opening_reads_init k x c d (init_variables_rule r) z w f h = record { value = Variables x; holds = λ s. refl; is = head_variables_read false k x c d w f h r }
-  opening_reads_init k x c d (init_expression_rule a r) z w f h =
-      let g = below.heads (without_in k) x c d r w f h in
+  -- an expression that is read is the first part of three
+  init_with : (k : Code) (x : Tree) (c d : Place) (w : Scope) (f : List Fault) (h : Notes)
+      → Gets (AsExpr x) (head_cover n (st c (without_in k) w f h)) (st d (without_in k) w (f ++ walk (env_of (without_in k) w.labels) x) (h ⊕ notes_of x))
+      → may_begin_head c ≡ true → may_declare_using k c ≡ false → declares_behind k d ≡ false
+      → Gets (AsInit x) (opening (expr n) (pattern n) (head_cover n) false (st c k w f h)) (st d k w (f ++ walk (env_of k w.labels) x) (h ⊕ notes_of x))
+  unfolding head_expression
+  init_with k x c d w f h g a u o =
       record {
         value = Expression g.value;
         holds = λ s. covers.close_reads g.value s g.holds.1 ∙ rw g.holds.0 refl;
-        is = head_stays false k c d w f (walk (env_of (without_in k) w.labels) x) h (notes_of x) a (no_using_init k x c d r z) refl g.value g.is (undeclared_unnamed k d (no_name_semicolon k.flags d z)) ∙ rw g.is refl;
+        is = head_stays false k c d w f (walk (env_of (without_in k) w.labels) x) h (notes_of x) a u refl g.value g.is o ∙ rw g.is refl;
       }
+
+  pub opening_reads_init : (k : Code) (x : Tree) (c d : Place) → InitRule (ReadsClass n) (ReadsPat n) k x c d → kind_at d ≡ kind.Semi → ReadsAs (AsInit x) (opening (expr n) (pattern n) (head_cover n) false) k x c d
+  unfolding opening
+  opening_reads_init k x c d (no_init_rule a b e) z w f h =
+      record { value = Nothing; holds = λ s. rw e refl; is = rw (seen c kind.Semi a, e, b, append-nil f, append-nil h.held_back, or_nil h.found_module_item) refl }
+  opening_reads_init k x c d (init_variables_rule r) z w f h = record { value = Variables x; holds = λ s. refl; is = head_variables_read false k x c d w f h r (ap is_error z) }
+  opening_reads_init k x c d (init_expression_rule a r) z w f h =
+      init_with k x c d w f h (head_settled (without_in k) x c d r (ap is_error z) w f h) a (no_using_init k x c d r z) (undeclared_unnamed k d (no_name_semicolon k.flags d z))
 
   -- ---- what takes each value
 
   -- a name alone leaves everything but the place as it was
-  name_reads : (k : Code) (p : Tree) (c d : Place) (w : Scope) (f : List Fault) (h : Notes) → is_binding_name p ≡ true → ReadsPat n k p c d → pattern n (st c k w f h) ≡ Ok (p, st d k w f h)
-  name_reads k (tree.ident_pat s text) c d w f h i r = pattern_reads n below k (tree.ident_pat s text) c d r w f h ∙ rw (append-nil f, append-nil h.held_back, or_nil h.found_module_item) refl
-  name_reads k _ c d w f h i r = cc
+  bound_reads : (k : Code) (s : Span) (text : Text) (c d : Place) (w : Scope) (f : List Fault) (h : Notes) → ReadsPat n k (tree.ident_pat s text) c d
+      → pattern n (st c k w f h) ≡ Ok (tree.ident_pat s text, st d k w f h)
+  bound_reads k s text c d w f h r = pattern_reads n below k (tree.ident_pat s text) c d r w f h ∙ rw (append-nil f, append-nil h.held_back, or_nil h.found_module_item) refl
 
   target_reads : (v : Bool) (k : Code) (x : Tree) (c d : Place) → may_begin_head c ≡ true → ReadsTarget n (without_in k) x c d → may_declare_using k c ≡ false → (v && begins_async_of c) ≡ false
       → declares_behind k d ≡ false → heads.Heads (without_in k) x d → ReadsAs (AsLeftSide x) (opening (expr n) (pattern n) (head_cover n) v) k x c d
@@ -301,7 +325,7 @@ module _ (n : ℕ) (below : Below n) where
 
   pub opening_reads_in : (k : Code) (x : Tree) (c d : Place) → LeftRule (ReadsClass n) (ReadsPat n) (ReadsTarget n) k x c d → kind_at d ≡ kind.In
       → ReadsAs (AsLeftSide x) (opening (expr n) (pattern n) (head_cover n) false) k x c d
-  opening_reads_in k x c d (declared_rule r) e w f h = record { value = Variables x; holds = λ s. refl; is = head_variables_read false k x c d w f h r }
+  opening_reads_in k x c d (declared_rule r) e w f h = record { value = Variables x; holds = λ s. refl; is = head_variables_read false k x c d w f h r (ap is_error e) }
   opening_reads_in k x c d (left_target_rule a r) e w f h =
       target_reads false k x c d a r (no_using_target k x c d r (λ i. absurd (true≢false (sym i ∙ in_unnamed k.flags d e)))) refl (undeclared_unnamed k d (in_unnamed k.flags d e)) (inl (e, refl)) w f h
 
@@ -318,11 +342,11 @@ module _ (n : ℕ) (below : Below n) where
       }
 
   -- what `using` declares
-  resource_reads : (v : Bool) (k : Code) (name x : Tree) (c d : Place) → may_declare_using k c ≡ true → ReadsPat n k name (after c) d → is_binding_name name ≡ true
-      → x ≡ tree.using (spanned c d) false (listed (tree.declarator (spanned (after c) d) name tree.absent ∷ [])) → word_at (codes "of") d ≡ true
+  named_resource : (v : Bool) (k : Code) (s : Span) (text : Text) (x : Tree) (c d : Place) → may_declare_using k c ≡ true → ReadsPat n k (tree.ident_pat s text) (after c) d
+      → x ≡ tree.using (spanned c d) false (listed (tree.declarator (spanned (after c) d) (tree.ident_pat s text) tree.absent ∷ [])) → word_at (codes "of") d ≡ true
       → ReadsAs (AsLeftSide x) (opening (expr n) (pattern n) (head_cover n) v) k x c d
   unfolding named_head using_head undeclared spanned
-  resource_reads v k (tree.ident_pat s text) x c d u r i e o w f h =
+  named_resource v k s text x c d u r e o w f h =
       let g = declares_in_head k c u in
       let (t, p) = using_read n k c g.1 (after c) d (tree.ident_pat s text) r.0 in
       let b = (names_stand n k (tree.ident_pat s text) (after c) d r.0 refl refl).1 in
@@ -331,9 +355,9 @@ module _ (n : ℕ) (below : Below n) where
         holds = λ s. refl;
         is = opening_names (expr n) (pattern n) (head_cover n) v (st c k w f h) (word_begins_head c (word_place (codes "using") c g.1)) u
             ∙ rw (
-              name_reads k (tree.ident_pat t (codes "using")) c (after c) w f h refl (p, refl),
+              bound_reads k t (codes "using") c (after c) w f h (p, refl),
               in_head (after (after c)) (ap (word_at (codes "of")) (sym b) ∙ o),
-              name_reads k (tree.ident_pat s text) (after c) d w f h refl r,
+              bound_reads k s text (after c) d w f h r,
               no_in d o,
               e,
               append-nil f,
@@ -341,14 +365,20 @@ module _ (n : ℕ) (below : Below n) where
               or_nil h.found_module_item,
             ) refl;
       }
-  resource_reads v k _ x c d u r i e o w f h = cc
+
+  resource_reads : (v : Bool) (k : Code) (name x : Tree) (c d : Place) → may_declare_using k c ≡ true → ReadsPat n k name (after c) d → is_binding_name name ≡ true
+      → x ≡ tree.using (spanned c d) false (listed (tree.declarator (spanned (after c) d) name tree.absent ∷ [])) → word_at (codes "of") d ≡ true
+      → ReadsAs (AsLeftSide x) (opening (expr n) (pattern n) (head_cover n) v) k x c d
+  resource_reads v k name x c d u r i e o = let z = name_shape name i in
+      named_resource v k z.span z.text x c d u (subst (λ p. ReadsPat n k p (after c) d) z.is r)
+      (e ∙ ap (λ p. tree.using (spanned c d) false (listed (tree.declarator (spanned (after c) d) p tree.absent ∷ []))) z.is) o
 
   -- what `await using` declares, from the name on
   resource_declared : (w : Bool) (k : Code) (s : Span) (text : Text) (c m d : Place) (z : Scope) (f : List Fault) (h : Notes) → ReadsPat n k (tree.ident_pat s text) m d → word_at (codes "of") d ≡ true
       → using_head (expr n) (pattern n) w (span_at c) (st m k z f h)
       ≡ Ok (Resource (tree.using (spanned c d) w (listed (tree.declarator (spanned m d) (tree.ident_pat s text) tree.absent ∷ []))), st d k z f h)
   unfolding using_head undeclared spanned
-  resource_declared w k s text c m d z f h r o = rw (name_reads k (tree.ident_pat s text) m d z f h refl r, no_in d o) refl
+  resource_declared w k s text c m d z f h r o = rw (bound_reads k s text m d z f h r, no_in d o) refl
 
   await_step : (v : Bool) (k : Code) (c m : Place) (z : Scope) (f fs : List Fault) (h ns : Notes) (x : Cover) → head_cover n (st c (without_in k) z f h) ≡ Ok (x, st m (without_in k) z (f ++ fs) (h ⊕ ns))
       → fs ≡ [] → ns ≡ no_notes → awaits_using x.x ≡ true → declares_behind k m ≡ true
@@ -363,24 +393,31 @@ module _ (n : ℕ) (below : Below n) where
       (Ok (Resource x, st d k z (f ++ walk (env_of k z.labels) x) (h ⊕ notes_of x)))
   named_so k c m d z f h s text x e = ap (λ y. Ok (Resource y, st d k z (f ++ walk (env_of k z.labels) y) (h ⊕ notes_of y))) (sym e)
 
+  named_with : (v : Bool) (k : Code) (y : Tree) (s : Span) (text : Text) (x : Tree) (c m d : Place) (w : Scope) (f : List Fault) (h : Notes)
+      → Gets (AsExpr y) (head_cover n (st c (without_in k) w f h)) (st m (without_in k) w (f ++ walk (env_of (without_in k) w.labels) y) (h ⊕ notes_of y))
+      → kind_at c ≡ kind.Await → awaits_using y ≡ true → declares_behind k m ≡ true → ReadsPat n k (tree.ident_pat s text) m d
+      → x ≡ tree.using (spanned c d) true (listed (tree.declarator (spanned m d) (tree.ident_pat s text) tree.absent ∷ [])) → word_at (codes "of") d ≡ true
+      → Gets (AsLeftSide x) (opening (expr n) (pattern n) (head_cover n) v (st c k w f h)) (st d k w (f ++ walk (env_of k w.labels) x) (h ⊕ notes_of x))
+  named_with v k y s text x c m d w f h g t a b q e o =
+      record {
+        value = Resource x;
+        holds = λ s. refl;
+        is = opening_awaits (expr n) (pattern n) (head_cover n) v (st c k w f h) (await_begins_head c t) (await_no_using k c t) (seen c kind.Await t)
+            ∙ await_step v k c m w f (walk (env_of (without_in k) w.labels) y) h (notes_of y) g.value g.is (awaited_walk y (without_in k) w.labels a) (awaited_notes y a) (ap awaits_using g.holds.0 ∙ a) b
+            ∙ resource_declared true k s text c m d w f h q o
+            ∙ ap (λ z. Ok (Resource (tree.using (spanned c d) true (listed (tree.declarator (spanned m d) (tree.ident_pat s text) tree.absent ∷ []))), z)) (sym (nothing_added d k w f [] h no_notes refl refl))
+            ∙ named_so k c m d w f h s text x e;
+      }
+
   named_reads : (v : Bool) (k : Code) (y : Tree) (s : Span) (text : Text) (x : Tree) (c m d : Place) → k.setting.explicit_resource_management ≡ true → ReadsClass n expression (without_in k) y c m
       → awaits_using y ≡ true → word_at (codes "of") m ≡ false → ReadsPat n k (tree.ident_pat s text) m d
       → x ≡ tree.using (spanned c d) true (listed (tree.declarator (spanned m d) (tree.ident_pat s text) tree.absent ∷ [])) → word_at (codes "of") d ≡ true
       → ReadsAs (AsLeftSide x) (opening (expr n) (pattern n) (head_cover n) v) k x c d
   named_reads v k y s text x c m d u r a b q e o w f h =
       let t = awaited_words n (without_in k) y c m r.0 a in
-      let g = below.heads (without_in k) y c m r w f h in
       let l = (names_stand n k (tree.ident_pat s text) m d q.0 refl q.1).1 in
-      record {
-        value = Resource x;
-        holds = λ s. refl;
-        is = opening_awaits (expr n) (pattern n) (head_cover n) v (st c k w f h) (await_begins_head c t.stands) (await_no_using k c t.stands) (seen c kind.Await t.stands)
-            ∙ await_step v k c m w f (walk (env_of (without_in k) w.labels) y) h (notes_of y) g.value g.is (awaited_walk y (without_in k) w.labels a) (awaited_notes y a) (ap awaits_using g.holds.0 ∙ a)
-            (declares_so k m u (bound_stands n k (tree.ident_pat s text) m d refl q.0) b (in_head (after m) (ap (word_at (codes "of")) (sym l) ∙ o)))
-            ∙ resource_declared true k s text c m d w f h q o
-            ∙ ap (λ z. Ok (Resource (tree.using (spanned c d) true (listed (tree.declarator (spanned m d) (tree.ident_pat s text) tree.absent ∷ []))), z)) (sym (nothing_added d k w f [] h no_notes refl refl))
-            ∙ named_so k c m d w f h s text x e;
-      }
+      named_with v k y s text x c m d w f h (head_awaited (without_in k) y c m r a w f h) t.stands a
+      (declares_so k m u (bound_stands n k (tree.ident_pat s text) m d refl q.0) b (in_head (after m) (ap (word_at (codes "of")) (sym l) ∙ o))) q e o
 
   awaited_reads : (v : Bool) (k : Code) (y name x : Tree) (c m d : Place) → k.setting.explicit_resource_management ≡ true → ReadsClass n expression (without_in k) y c m → awaits_using y ≡ true
       → word_at (codes "of") m ≡ false → ReadsPat n k name m d → is_binding_name name ≡ true → x ≡ tree.using (spanned c d) true (listed (tree.declarator (spanned m d) name tree.absent ∷ []))
@@ -392,7 +429,7 @@ module _ (n : ℕ) (below : Below n) where
   -- behind it `of` stands, and no `=>` behind that
   pub opening_reads_of : (v : Bool) (k : Code) (x : Tree) (c d : Place) → OfLeftRule (ReadsClass n) (ReadsPat n) (ReadsTarget n) k v x c d → word_at (codes "of") d ≡ true → sees kind.Arrow (after d) ≡ false
       → ReadsAs (AsLeftSide x) (opening (expr n) (pattern n) (head_cover n) v) k x c d
-  opening_reads_of v k x c d (of_left_rule (declared_rule r) i) o a w f h = record { value = Variables x; holds = λ s. refl; is = head_variables_read v k x c d w f h r }
+  opening_reads_of v k x c d (of_left_rule (declared_rule r) i) o a w f h = record { value = Variables x; holds = λ s. refl; is = head_variables_read v k x c d w f h r (ap is_error (word_place (codes "of") d o)) }
   opening_reads_of v k x c d (of_left_rule (left_target_rule b r) i) o a w f h = by_test (v && begins_async_of c) refl
     where
       u : may_declare_using k c ≡ false

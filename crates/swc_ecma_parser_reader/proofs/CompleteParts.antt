@@ -1,5 +1,5 @@
--- What the grammar allows of the parts of statements is read: ends, declarators, statements one behind another, what is told, and
--- statements that hold no other.
+-- What the grammar allows of the parts of statements is read: ends, declarators, statements one behind another, and statements that
+-- hold no other.
 use Rattle.swc_ecma_parser_token.specs.declared.token.Word.TheVariants as word
 use Rattle.swc_ecma_parser_token.specs.declared.keyword.Keyword.TheVariants as keyword
 use Rattle.swc_ecma_parser_input.specs.declared.context.Context.{Context}
@@ -13,7 +13,7 @@ use Rattle.swc_ecma_parser_grammar.proofs.Tests.{and_yes}
 use Rattle.swc_ecma_parser_grammar.proofs.Marks.{name_before_colon}
 use Rattle.swc_ecma_parser_grammar.specs.Names.{is_name, is_reserved, name_at, is_clean_name, is_identifier, Code}
 use Rattle.swc_ecma_parser_reader.proofs.StatementEnds.{no_lack}
-use Rattle.swc_ecma_parser_reader.specs.Reader.{begins_label, note_with, expr, pattern, told, target, unbroken, break_stmt, uncontinued, continue_stmt, misplaced, operand, returned, return_stmt, empty, debugger, initialized, declarator, declarators_turn, declarators, declaration_end, variables, closes, at_end, close, directs, items_turn, items, note_statement, no_label, stmt_end, expr_stmt, optional_end, import_stmt, thrown, throw, head, condition, begins_clause, closes_clause, shebang_of, shebang_in, shebang, misusing, using_from, using_stmt, await_using_stmt, nests, operators}
+use Rattle.swc_ecma_parser_reader.specs.Reader.{begins_label, note_with, expr, pattern, target, unbroken, break_stmt, uncontinued, continue_stmt, misplaced, operand, returned, return_stmt, empty, debugger, initialized, declarator, declarators_turn, declarators, declaration_end, variables, closes, at_end, close, directs, items_turn, items, note_statement, no_label, stmt_end, expr_stmt, optional_end, import_stmt, thrown, throw, head, condition, begins_clause, closes_clause, shebang_of, shebang_in, shebang, misusing, using_from, using_stmt, await_using_stmt, nests, operators}
 use Rattle.std.specs.Prelude.{◌&&◌, ◌||◌, codes}
 use Rattle.swc_ecma_parser_common.specs.declared.span.Span.{Span}
 use Rattle.swc_ecma_parser_error.specs.Kind as faults
@@ -42,11 +42,11 @@ use Rattle.swc_ecma_parser_grammar.specs.Notes.{notes, statement_note, as_note, 
 use Rattle.swc_ecma_parser_grammar.specs.language.Noted.{has_meta}
 use Rattle.swc_ecma_parser_grammar.specs.Walk as walks_of
 use Rattle.swc_ecma_parser_grammar.specs.Walk.{env_of, walk, walks}
-use Rattle.swc_ecma_parser_reader.specs.State.{Scope, State, Outcome, Reader, noted, holding_back, fault, labelled, expect, end, fault_at, loop}
+use Rattle.swc_ecma_parser_reader.specs.State.{Scope, State, Outcome, Reader, noted, holding_back, labelled, expect, end, fault_at, loop}
 use Rattle.swc_ecma_parser_reader.proofs.Notes.{or_nil, or_assoc}
-use Rattle.swc_ecma_parser_reader.proofs.Answered.{st, Reads, ReadsCalm}
-use Rattle.swc_ecma_parser_reader.proofs.Errors.{is_error, fault_here}
-use Rattle.swc_ecma_parser_reader.proofs.Between.{nil-split}
+use Rattle.swc_ecma_parser_reader.proofs.Answered.{st, Reads, Calm, ReadsCalm}
+use Rattle.swc_ecma_parser_reader.proofs.Calm.{told_reads, calm_same, calm_first, calm_last, calm_before, calm_before_optional}
+use Rattle.swc_ecma_parser_reader.proofs.Errors.{is_error}
 use Rattle.swc_ecma_parser_reader.proofs.expressions.CompleteParts.{name_reads}
 use Rattle.swc_ecma_parser_grammar.specs.Own.{break_faults, continue_faults, return_faults}
 use Rattle.swc_ecma_parser_reader.proofs.expressions.CompleteKinds.{seen, named_here}
@@ -83,30 +83,6 @@ optional_end_reads c d k w f h (by_nothing e g) = rw (e, g) refl
 pub close_reads : (c : Place) (k : Code) (w : Scope) (f : List Fault) (h : Notes) → kind_at c ≡ kind.RBrace → close (st c k w f h) ≡ Ok (tt, st (after c) k w f h)
 unfolding close
 close_reads c k w f h e = rw (seen c kind.RBrace e) refl
-
--- ---- faults that are told
-
-pub fault_reads : (g : Fault) (d : Place) (k : Code) (w : Scope) (f : List Fault) (h : Notes) → is_error (kind_at d) ≡ false → fault g (st d k w f h) ≡ Ok (tt, st d k w (f ++ g ∷ []) h)
-fault_reads g d k w f h e = fault_here (st d k w f h) g e
-
--- each by itself, where no error token stands
-pub told_reads : (fs : List Fault) (d : Place) (k : Code) (w : Scope) (f : List Fault) (h : Notes) → (fs ≡ []) ⊎ (is_error (kind_at d) ≡ false) → told fs (st d k w f h) ≡ Ok (tt, st d k w (f ++ fs) h)
-told_reads [] d k w f h q = rw (append-nil f) refl
-told_reads (g ∷ gs) d k w f h (inl e) = cc
-told_reads (g ∷ gs) d k w f h (inr e) = rw (fault_reads g d k w f h e, told_reads gs d k w (f ++ g ∷ []) h (inr e)) (simp (append_assoc) refl)
-
--- where a list of faults is empty its parts are
-pub calm_same : (d : Place) (whole fs : List Fault) → whole ≡ fs → (whole ≡ []) ⊎ (is_error (kind_at d) ≡ false) → (fs ≡ []) ⊎ (is_error (kind_at d) ≡ false)
-calm_same d whole fs e (inl z) = inl (sym e ∙ z)
-calm_same d whole fs e (inr a) = inr a
-
-pub calm_first : (d : Place) (es fs whole : List Fault) → whole ≡ es ++ fs → (whole ≡ []) ⊎ (is_error (kind_at d) ≡ false) → (es ≡ []) ⊎ (is_error (kind_at d) ≡ false)
-calm_first d es fs whole e (inl z) = inl (nil-split es fs (sym e ∙ z)).0
-calm_first d es fs whole e (inr a) = inr a
-
-pub calm_last : (d : Place) (es fs whole : List Fault) → whole ≡ es ++ fs → (whole ≡ []) ⊎ (is_error (kind_at d) ≡ false) → (fs ≡ []) ⊎ (is_error (kind_at d) ≡ false)
-calm_last d es fs whole e (inl z) = inl (nil-split es fs (sym e ∙ z)).1
-calm_last d es fs whole e (inr a) = inr a
 
 -- ---- `break`, `continue` and `return`
 
@@ -150,10 +126,10 @@ continue_reads y m k x c d r g e w f h q =
       or_nil h.found_module_item,
     ) refl
 
-pub operand_reads : (n : ℕ) (below : Below n) (k : Code) (x : Tree) (c d : Place) → OperandRule (ReadsClass n) k x c d → Reads (operand (expr n expression)) k x c d
+pub operand_reads : (n : ℕ) (below : Below n) (k : Code) (x : Tree) (c d : Place) → OperandRule (ReadsClass n) k x c d → ReadsCalm (operand (expr n expression)) k x c d
 unfolding operand
-operand_reads n below k x c d (no_operand_rule e g i) w f h = rw (e, i, g, append-nil f, append-nil h.held_back, or_nil h.found_module_item) refl
-operand_reads n below k x c d (operand_rule e r) w f h = rw (e, expr_reads n below expression (with_in k) x c d r w f h) refl
+operand_reads n below k x c d (no_operand_rule e g i) w f h q = rw (e, i, g, append-nil f, append-nil h.held_back, or_nil h.found_module_item) refl
+operand_reads n below k x c d (operand_rule e r) w f h q = rw (e, expr_reads n below expression (with_in k) x c d r w f h q) refl
 
 pub return_reads : (n : ℕ) (below : Below n) (y : Tree) (m : Place) (k : Code) (x : Tree) (c d : Place) → OperandRule (ReadsClass n) k y (after c) m → Ends m d → x ≡ tree.return (spanned c d) y
     → ReadsCalm (return_stmt (expr n expression)) k x c d
@@ -161,10 +137,12 @@ unfolding return_stmt returned misplaced spanned
 return_reads n below y m k x c d r g e w f h q =
     let l = return_faults (k.flags.in_function || k.setting.allow_return_outside_function) (spanned c d) in
     let a = walk (env_of k w.labels) y in
+    let whole = walk (env_of k w.labels) x in
+    let z = ap (walk (env_of k w.labels)) e in
     rw (
-      operand_reads n below k y (after c) m r w f h,
+      operand_reads n below k y (after c) m r w f h (calm_before m d a g (calm_first d a l whole z q)),
       ends_read faults.Expected m d k w (f ++ a) (h ⊕ notes_of y) g,
-      told_reads l d k w (f ++ a) (h ⊕ notes_of y) (calm_last d a l (walk (env_of k w.labels) x) (ap (walk (env_of k w.labels)) e) q),
+      told_reads l d k w (f ++ a) (h ⊕ notes_of y) (calm_last d a l whole z q),
       e,
       append_assoc f a l,
     ) refl
@@ -183,14 +161,14 @@ debugger_reads k x c d e g w f h = rw (ends_read faults.Expected (after c) d k w
 
 module _ (n : ℕ) (below : Below n) (in_head : Bool) (word : VarDeclKind) where
   pub declarator_reads : (k : Code) (x : Tree) (c d : Place) → DeclaratorRule (ReadsClass n assignment) (ReadsPat n) k in_head word x c d
-      → Reads (declarator (expr n) (pattern n) in_head word) k x c d
+      → ReadsCalm (declarator (expr n) (pattern n) in_head word) k x c d
   unfolding declarator initialized spanned
-  declarator_reads k x c d (plain_rule p r e b g) w f h = rw (pattern_reads n below (with_in k) p c d r w f h, e, b, g, append-nil (walk (env_of k w.labels) p), append-nil (notes p), or_nil (has_meta p)) refl
-  declarator_reads k x c d (initialized_rule p y m r e s g) w f h =
+  declarator_reads k x c d (plain_rule p r e b g) w f h q = rw (pattern_reads n below (with_in k) p c d r w f h, e, b, g, append-nil (walk (env_of k w.labels) p), append-nil (notes p), or_nil (has_meta p)) refl
+  declarator_reads k x c d (initialized_rule p y m r e s g) w f h q =
       rw (
         pattern_reads n below (with_in k) p c m r w f h,
         seen m kind.Assign e,
-        expr_reads n below assignment k y (after m) d s w (f ++ walk (env_of k w.labels) p) (h ⊕ notes_of p),
+        expr_reads n below assignment k y (after m) d s w (f ++ walk (env_of k w.labels) p) (h ⊕ notes_of p) (calm_last d (walk (env_of k w.labels) p) (walk (env_of k w.labels) y) _ (ap (walk (env_of k w.labels)) g) q),
         g,
         append_assoc f (walk (env_of k w.labels) p) (walk (env_of k w.labels) y),
         append_assoc h.held_back (notes p) (notes y),
@@ -199,23 +177,26 @@ module _ (n : ℕ) (below : Below n) (in_head : Bool) (word : VarDeclKind) where
 
   pub many_declarators : (xs found : List Tree) (k : Code) (c d : Place) (w : Scope) (f : List Fault) (h : Notes)
       → ReadsSeparated (DeclaratorRule (ReadsClass n assignment) (ReadsPat n) k in_head word) xs c d
+      → (walks (env_of k w.labels) false (trees xs) ≡ []) ⊎ (is_error (kind_at d) ≡ false)
       → loop (declarators_turn (expr n) (pattern n) in_head word) found (st c k w f h)
       ≡ Ok (found ++ xs, st d k w (f ++ walks (env_of k w.labels) false (trees xs)) (h ⊕ all_notes_of (trees xs)))
-  many_declarators [] found k c d w f h r = absurd r
-  many_declarators (x ∷ []) found k c d w f h r =
+  many_declarators [] found k c d w f h r q = absurd r
+  many_declarators (x ∷ []) found k c d w f h r q =
       rw (append-nil (walk (env_of k w.labels) x), append-nil (notes x), or_nil (has_meta x))
-      (declarators_done n in_head word found (st c k w f h) x (st d k w (f ++ walk (env_of k w.labels) x) (h ⊕ notes_of x)) (declarator_begins n k in_head word x c d r.0) (declarator_reads k x c d r.0 w f h) r.1)
-  many_declarators (x ∷ y ∷ ys) found k c d w f h (m, r, e, more) =
-      declarators_more n in_head word found (st c k w f h) x (st m k w (f ++ walk (env_of k w.labels) x) (h ⊕ notes_of x)) (declarator_begins n k in_head word x c m r) (declarator_reads k x c m r w f h) (seen m kind.Comma e)
-      ∙ many_declarators (y ∷ ys) (found ++ x ∷ []) k (after m) d w (f ++ walk (env_of k w.labels) x) (h ⊕ notes_of x) more ∙ simp (append_assoc, or_assoc) refl
+      (declarators_done n in_head word found (st c k w f h) x (st d k w (f ++ walk (env_of k w.labels) x) (h ⊕ notes_of x)) (declarator_begins n k in_head word x c d r.0) (declarator_reads k x c d r.0 w f h (calm_first d (walk (env_of k w.labels) x) [] (walks (env_of k w.labels) false (trees (x ∷ []))) refl q)) r.1)
+  many_declarators (x ∷ y ∷ ys) found k c d w f h (m, r, e, more) q =
+      declarators_more n in_head word found (st c k w f h) x (st m k w (f ++ walk (env_of k w.labels) x) (h ⊕ notes_of x)) (declarator_begins n k in_head word x c m r) (declarator_reads k x c m r w f h (inr (ap is_error e))) (seen m kind.Comma e)
+      ∙ many_declarators (y ∷ ys) (found ++ x ∷ []) k (after m) d w (f ++ walk (env_of k w.labels) x) (h ⊕ notes_of x) more
+      (calm_last d (walk (env_of k w.labels) x) (walks (env_of k w.labels) false (trees (y ∷ ys))) (walks (env_of k w.labels) false (trees (x ∷ y ∷ ys))) refl q) ∙ simp (append_assoc, or_assoc) refl
 
 pub variables_reads : (n : ℕ) (below : Below n) (word : VarDeclKind) (xs : List Tree) (m : Place) (k : Code) (x : Tree) (c d : Place)
     → ReadsSeparated (DeclaratorRule (ReadsClass n assignment) (ReadsPat n) (with_in k) false word) xs (after c) m → Ends m d
-    → x ≡ tree.var (spanned c d) word (listed xs) → Reads (variables (expr n) (pattern n) word) k x c d
+    → x ≡ tree.var (spanned c d) word (listed xs) → ReadsCalm (variables (expr n) (pattern n) word) k x c d
 unfolding variables declarators
-variables_reads n below word xs m k x c d r e g w f h =
+variables_reads n below word xs m k x c d r e g w f h q =
+    let a = walks (env_of k w.labels) false (trees xs) in
     rw (
-      many_declarators n below false word xs [] (with_in k) (after c) m w f h r,
+      many_declarators n below false word xs [] (with_in k) (after c) m w f h r (calm_before m d a e (calm_same d _ a (ap (walk (env_of k w.labels)) g) q)),
       declaration_end_reads (expr n expression) m d k w (f ++ walks (env_of k w.labels) false (trees xs)) (h ⊕ all_notes_of (trees xs)) e,
       g,
     ) refl
@@ -223,16 +204,22 @@ variables_reads n below word xs m k x c d r e g w f h =
 pub using_reads : (n : ℕ) (below : Below n) (xs : List Tree) (k : Code) (x : Tree) (c d : Place)
     → ReadsSeparated (DeclaratorRule (ReadsClass n assignment) (ReadsPat n) (with_in k) false decl.Var) xs (after c) d
     → using_faults k.setting.explicit_resource_management (spanned c d) xs ≡ [] → x ≡ tree.using (spanned c d) false (listed xs)
-    → Reads (using_stmt (declarators (expr n) (pattern n) false decl.Var)) k x c d
+    → ReadsCalm (using_stmt (declarators (expr n) (pattern n) false decl.Var)) k x c d
 unfolding using_stmt using_from misusing declarators spanned
-using_reads n below xs k x c d r e g w f h = rw (many_declarators n below false decl.Var xs [] (with_in k) (after c) d w f h r, e, g) refl
+using_reads n below xs k x c d r e g w f h q =
+    rw (many_declarators n below false decl.Var xs [] (with_in k) (after c) d w f h r (calm_same d _ (walks (env_of k w.labels) false (trees xs)) (ap (walk (env_of k w.labels)) g) q), e, g) refl
 
 pub await_using_reads : (n : ℕ) (below : Below n) (xs : List Tree) (k : Code) (x : Tree) (c d : Place)
     → ReadsSeparated (DeclaratorRule (ReadsClass n assignment) (ReadsPat n) (with_in k) false decl.Var) xs (after (after c)) d
     → using_faults k.setting.explicit_resource_management (spanned c d) xs ≡ [] → x ≡ tree.using (spanned c d) true (listed xs)
-    → Reads (await_using_stmt (declarators (expr n) (pattern n) false decl.Var)) k x c d
+    → ReadsCalm (await_using_stmt (declarators (expr n) (pattern n) false decl.Var)) k x c d
 unfolding await_using_stmt using_from misusing declarators spanned
-await_using_reads n below xs k x c d r e g w f h = rw (many_declarators n below false decl.Var xs [] (with_in k) (after (after c)) d w f h r, e, g) refl
+await_using_reads n below xs k x c d r e g w f h q =
+    rw (
+      many_declarators n below false decl.Var xs [] (with_in k) (after (after c)) d w f h r (calm_same d _ (walks (env_of k w.labels) false (trees xs)) (ap (walk (env_of k w.labels)) g) q),
+      e,
+      g,
+    ) refl
 
 -- where a declarator is read, a part of it can be
 pub declarators_nest : (n : ℕ) (k : Code) (xs : List Tree) (c d : Place) → ReadsSeparated (DeclaratorRule (ReadsClass n assignment) (ReadsPat n) k false decl.Var) xs c d → nests n ≡ true
@@ -341,12 +328,16 @@ pub note_with_reads : (span : Span) (m : Place) (k : Code) (w : Scope) (f : List
 unfolding note_with
 note_with_reads span m k w f h o = rw (o, or_nil h.found_module_item) refl
 
+-- the expression of a statement is calm where the statement is
+pub statement_calm : (k : Code) (labels : List Text) (e : Tree) (m : Place) (x : Tree) (d : Place) (s : Span) → Ends m d → x ≡ tree.expr_stmt s e → Calm k labels x d → Calm k labels e m
+statement_calm k labels e m x d s g j q = calm_before m d (walk (env_of k labels) e) g (calm_same d _ _ (ap (walk (env_of k labels)) j) q)
+
 pub expr_stmt_reads : (n : ℕ) (below : Below n) (e : Tree) (m : Place) (k : Code) (x : Tree) (c d : Place) → ReadsClass n expression (with_in k) e c m → is_ident e && sees kind.Colon m ≡ false
-    → k.flags.module && is_ident_named (codes "interface") e ≡ false → Ends m d → x ≡ tree.expr_stmt (spanned c d) e → Reads (expr_stmt (expr n expression) (operators n)) k x c d
+    → k.flags.module && is_ident_named (codes "interface") e ≡ false → Ends m d → x ≡ tree.expr_stmt (spanned c d) e → ReadsCalm (expr_stmt (expr n expression) (operators n)) k x c d
 unfolding expr_stmt stmt_end no_label
-expr_stmt_reads n below e m k x c d r l i g j w f h =
+expr_stmt_reads n below e m k x c d r l i g j w f h q =
     rw (
-      expr_reads n below expression (with_in k) e c m r w f h,
+      expr_reads n below expression (with_in k) e c m r w f h (statement_calm k w.labels e m x d (spanned c d) g j q),
       l,
       note_reads e m k w (f ++ walk (env_of k w.labels) e) (h ⊕ notes_of e) i,
       no_lack m d g,
@@ -358,11 +349,11 @@ expr_stmt_reads n below e m k x c d r l i g j w f h =
     ) refl
 
 pub import_stmt_reads : (n : ℕ) (below : Below n) (e : Tree) (m : Place) (k : Code) (x : Tree) (c d : Place) → begins_import_expression c ≡ true → ReadsClass n expression (with_in k) e c m → OptionalEnds m d
-    → x ≡ tree.expr_stmt (spanned c d) e → Reads (import_stmt (expr n expression)) k x c d
+    → x ≡ tree.expr_stmt (spanned c d) e → ReadsCalm (import_stmt (expr n expression)) k x c d
 unfolding import_stmt
-import_stmt_reads n below e m k x c d b r g j w f h =
+import_stmt_reads n below e m k x c d b r g j w f h q =
     rw (
-      expr_reads n below expression (with_in k) e c m r w f h,
+      expr_reads n below expression (with_in k) e c m r w f h (calm_before_optional m d _ g (calm_same d _ (walk (env_of k w.labels) e) (ap (walk (env_of k w.labels)) j) q)),
       optional_end_reads m d k w (f ++ walk (env_of k w.labels) e) (h ⊕ notes_of e) g,
       j,
       import_unnoted n (with_in k) e c m r b,
@@ -377,13 +368,13 @@ unfolding expect
 expect_reads j c k w f h e = rw (seen c j e) refl
 
 pub throw_reads : (n : ℕ) (below : Below n) (y : Tree) (m : Place) (k : Code) (x : Tree) (c d : Place) → breaks_at (after c) ≡ false → ReadsClass n expression (with_in k) y (after c) m → Ends m d
-    → x ≡ tree.throw (spanned c d) y → Reads (throw (expr n expression)) k x c d
+    → x ≡ tree.throw (spanned c d) y → ReadsCalm (throw (expr n expression)) k x c d
 unfolding throw thrown
-throw_reads n below y m k x c d b r g e w f h =
+throw_reads n below y m k x c d b r g e w f h q =
     rw (
       b,
       (goes_open (kind_at (after c)) (expr_opens n (with_in k) y (after c) m r)).1,
-      expr_reads n below expression (with_in k) y (after c) m r w f h,
+      expr_reads n below expression (with_in k) y (after c) m r w f h (calm_before m d _ g (calm_same d _ (walk (env_of k w.labels) y) (ap (walk (env_of k w.labels)) e) q)),
       ends_read faults.Expected m d k w (f ++ walk (env_of k w.labels) y) (h ⊕ notes_of y) g,
       e,
     ) refl
@@ -393,7 +384,7 @@ unfolding head
 head_reads n below k x c d r w f h =
     rw (
       expect_reads kind.LParen c k w f h r.opens,
-      expr_reads n below expression (with_in k) x (after c) r.close r.reads w f h,
+      expr_reads n below expression (with_in k) x (after c) r.close r.reads w f h (inr (ap is_error r.closes)),
       expect_reads kind.RParen r.close k w (f ++ walk (env_of k w.labels) x) (h ⊕ notes_of x) r.closes,
       r.next,
     ) refl
@@ -403,7 +394,7 @@ unfolding condition labelled
 condition_reads n below k x c d r w f h =
     rw (
       expect_reads kind.LParen c k w f h r.opens,
-      expr_reads n below expression (with_in k) x (after c) r.close r.reads w f h,
+      expr_reads n below expression (with_in k) x (after c) r.close r.reads w f h (inr (ap is_error r.closes)),
       expect_reads kind.RParen r.close k w (f ++ walk (env_of k w.labels) x) (h ⊕ notes_of x) r.closes,
       r.next,
     ) refl
@@ -445,21 +436,22 @@ starts_clean : (k : Code) (c : Place) (v : Word) (s : Span) → ReadsToken (toke
 starts_clean k c v s r f h a = elim (h v s r f) [ inl e ↦ absurd (true≢false (sym e ∙ a)) | inr e ↦ e ]
 
 -- what an expression statement begins with is no label: the name would be all of its expression
-pub no_label_here : (n : ℕ) (below : Below n) (k : Code) (e : Tree) (c m : Place) → ReadsClass n expression (with_in k) e c m → is_ident e && sees kind.Colon m ≡ false → begins_label k c ≡ false
+pub no_label_here : (n : ℕ) (below : Below n) (k : Code) (labels : List Text) (e : Tree) (c m : Place) → ReadsClass n expression (with_in k) e c m → is_ident e && sees kind.Colon m ≡ false → Calm k labels e m
+    → begins_label k c ≡ false
 unfolding begins_label is_name is_clean_name is_identifier is_reserved tree_of place_of
-no_label_here zero below k e c m r l = absurd r.0
-no_label_here (suc n) below k e c m r l = by_test (name_at k.flags c && sees kind.Colon (after c)) refl
+no_label_here zero below k labels e c m r l q = absurd r.0
+no_label_here (suc n) below k labels e c m r l q = by_test (name_at k.flags c && sees kind.Colon (after c)) refl
   where
     by_test : (b : Bool) → (name_at k.flags c && sees kind.Colon (after c)) ≡ b → b ≡ false
     by_test false h = refl
     by_test true h =
         let g = and_yes (name_at k.flags c) (sees kind.Colon (after c)) h in
         let (v, s, i, f) = named_here k.flags c g.0 in
-        let w : Scope = record { labels = []; mark = None } in
+        let w : Scope = record { labels = labels; mark = None } in
         let colon = saw (after c) kind.Colon g.1 in
         let clean = starts_clean (with_in k) c v s i f (expressions_start (suc n) expression (with_in k) e c m r.0) (ended_awaits (with_in k).flags c (after c) refl (ap ends_name colon)) in
-        let o = sym (expr_reads (suc n) below expression (with_in k) e c m r w [] no_notes)
-        ∙ expr_reads (suc n) below expression (with_in k) (tree.ident s (word_text v)) c (after c) (name_before_colon n (with_in k) v s c (after c) i clean colon) w [] no_notes in
+        let o = sym (expr_reads (suc n) below expression (with_in k) e c m r w [] no_notes q)
+        ∙ expr_reads (suc n) below expression (with_in k) (tree.ident s (word_text v)) c (after c) (name_before_colon n (with_in k) v s c (after c) i clean colon) w [] no_notes (inl refl) in
         absurd (true≢false (sym (ap (λ z. is_ident z && sees kind.Colon m) (ap tree_of o) ∙ ap (sees kind.Colon) (ap (place_of c) o) ∙ g.1) ∙ l))
 
 -- a word is no brace

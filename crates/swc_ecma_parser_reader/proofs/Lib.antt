@@ -27,6 +27,7 @@ pub mod Plain
 pub mod Opens
 pub mod Chains
 pub mod Answered
+pub mod Calm
 pub mod Below
 pub mod Using
 pub mod HeadWords

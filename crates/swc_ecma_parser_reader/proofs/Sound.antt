@@ -63,7 +63,7 @@ use Rattle.swc_ecma_parser_grammar.proofs.MethodParts.{parts_widen, params_suppo
 use Rattle.swc_ecma_parser_grammar.proofs.Arrows.{block_widens, block_supported, block_unnoted}
 use Rattle.swc_ecma_parser_grammar.proofs.Unnoted.{joined}
 use Rattle.swc_ecma_parser_grammar.specs.Parameters.{parameters}
-use Rattle.swc_ecma_parser_grammar.specs.Supported.{supported_in, is_supported_key_in, is_rightly_directed, is_rightly_set, has_no_note, is_clean}
+use Rattle.swc_ecma_parser_grammar.specs.Supported.{supported_in, is_supported_key_in, has_no_note, is_clean}
 use Rattle.swc_ecma_parser_grammar.specs.language.Expressions.{block_body}
 use Rattle.swc_ecma_parser_grammar.specs.language.Objects.{getter_rule, setter_rule, method_rule}
 use Rattle.swc_ecma_parser_model.specs.Targets.{as_properties}
@@ -580,8 +580,8 @@ module _ (n : ℕ) (k : Code) (x : Tree) (c d : Place) (key : Tree) where
     setter_rule key r.p r.body (record { behind_head = j; behind_key = r.behind_key; reads_head = w; reads_key = i; reads_parts = parts_widen n k false false ps r.body r.behind_key d p; arity = ap not r.no_rest }) r.is,
     ap (supported_in m) r.is ∙ and_both (is_supported_key_in m key) _ h (and_both (supported_in m r.p && supported_in m r.body) _
         (and_both (supported_in m r.p) _ (and_yes (supported_in m r.p) _ (params_supported n k false false ps r.body r.behind_key d p)).0 (body_supported n k false false ps r.body r.behind_key d p))
-        (and_both (is_rightly_set r.p r.body) _ (ap is_clean r.directs) (tested m (has_no_note r.p && has_no_note r.body) (λ o. and_both (has_no_note r.p) _
-        (ap is_clean (nil-split (notes r.p) [] (parameters_unnoted n k false false ps r.body r.behind_key d o p)).0) (ap is_clean (body_unnoted n k false false ps r.body r.behind_key d o p)))))),
+        (tested m (has_no_note r.p && has_no_note r.body) (λ o. and_both (has_no_note r.p) _
+        (ap is_clean (nil-split (notes r.p) [] (parameters_unnoted n k false false ps r.body r.behind_key d o p)).0) (ap is_clean (body_unnoted n k false false ps r.body r.behind_key d o p))))),
     λ ys. ap (λ z. as_properties (also z ys)) r.is,
   )
 
@@ -591,8 +591,8 @@ module _ (n : ℕ) (k : Code) (x : Tree) (c d : Place) (key : Tree) where
         method_rule a g key r.patterns r.body (record { behind_head = j; behind_key = r.behind_key; reads_head = w; reads_key = i; reads_parts = parts_widen n k a g r.patterns r.body r.behind_key d p; arity = refl }) r.is,
         ap (supported_in m) r.is ∙ and_both (is_supported_key_in m key) _ h (and_both (supported_in m fn) _
             (and_both (supported_in m (parameters r.patterns)) _ (params_supported n k a g r.patterns r.body r.behind_key d p) (body_supported n k a g r.patterns r.body r.behind_key d p))
-            (and_both (is_rightly_directed fn) _ (ap is_clean r.directs) (tested m (has_no_note fn) (λ o. ap is_clean
-            (joined (notes (parameters r.patterns)) (notes r.body) (parameters_unnoted n k a g r.patterns r.body r.behind_key d o p) (body_unnoted n k a g r.patterns r.body r.behind_key d o p)))))),
+            (tested m (has_no_note fn) (λ o. ap is_clean
+            (joined (notes (parameters r.patterns)) (notes r.body) (parameters_unnoted n k a g r.patterns r.body r.behind_key d o p) (body_unnoted n k a g r.patterns r.body r.behind_key d o p))))),
         λ ys. ap (λ z. as_properties (also z ys)) r.is,
       )
 

@@ -30,7 +30,7 @@ use Rattle.swc_ecma_parser_reader.specs.Reader.{closes, close, items, block_from
 use Rattle.swc_ecma_parser_reader.proofs.Notes.{or_nil, notes_nil}
 use Rattle.swc_ecma_parser_reader.proofs.Meets.{Meets, meets_then, meets_if}
 use Rattle.swc_ecma_parser_reader.proofs.Errors.{is_error, fault_here}
-use Rattle.swc_ecma_parser_reader.proofs.Between.{Sound, SoundTree, SoundStep, same, nil-split, sound_then, sound_more, sound_moved, sound_here, sound_as, sound_after, sound_clean, sound_under, sound_enclosed, sound_noted, within_sound}
+use Rattle.swc_ecma_parser_reader.proofs.Between.{Sound, SoundTree, SoundStep, same, sound_then, sound_more, sound_moved, sound_here, sound_as, sound_after, sound_under, sound_enclosed, sound_noted, within_sound}
 use Rattle.swc_ecma_parser_reader.proofs.expressions.SoundSteps.{meets_as, reject_meets, name_sound, Takes, expect_sound}
 use Rattle.swc_ecma_parser_reader.proofs.expressions.SoundCovers.{star_sound}
 use Rattle.swc_ecma_parser_reader.proofs.patterns.Sound.{AllUnwrapped, anything}
@@ -103,7 +103,6 @@ module _ (Stmt : Code → Position → Tree → Place → Place → Type 0) (Par
     pub before : P k c behind_key
     pub parts : ReadsParts Stmt Params k false false (p ∷ []) body behind_key d
     pub no_rest : is_rest p ≡ false
-    pub directs : misplaced_directive (is_plain_param p) body ≡ []
     pub is : x ≡ tree.setter_prop (spanned c d) key p body
 
   pub record MethodRead (w g : Bool) (x : Tree) (k : Code) (c d : Place) : Type 0 where
@@ -112,7 +111,6 @@ module _ (Stmt : Code → Position → Tree → Place → Place → Type 0) (Par
     pub behind_key : Place
     pub before : P k c behind_key
     pub parts : ReadsParts Stmt Params k w g patterns body behind_key d
-    pub directs : misplaced_directive (has_plain_params (parameters patterns)) body ≡ []
     pub is : x ≡ tree.method_prop (spanned c d) key (tree.function (spanned c d) (listed []) (parameters patterns) body w g)
 
 -- ---- functions
@@ -253,12 +251,6 @@ module _ (Stmt : Code → Position → Tree → Place → Place → Type 0) (Par
       (λ x t p. sound_as s t refl refl refl (λ (w, sp, r, i, e) _. own_name_rule w sp r i e) p))
       (λ _. sound_here s (λ l. no_own_name_rule l refl refl))
 
-  -- what its walk tells of a directive that comes too late
-  untold : (env : Env) (w g : Bool) (s : Span) (i x : Tree) (ps : List Tree) (body : Tree) → x ≡ tree.function s (listed []) (parameters ps) body w g → walk env i ++ walk env x ≡ []
-      → misplaced_directive (has_plain_params (parameters ps)) body ≡ []
-  untold env w g s i x ps body e h = (nil-split (walk (walks.in_params env) (parameters ps) ++ walks.walk_body (walks.in_body env) body) (misplaced_directive (has_plain_params (parameters ps)) body)
-      (sym (ap (walk env) e) ∙ (nil-split (walk env i) (walk env x) h).1)).1
-
   module _ (opens : (k : Code) (ps : List Tree) (c d : Place) → Params k ps c d → kind_at c ≡ kind.LParen) where
     pub function_expr_sound : (s : State) → begins_function s.at ≡ true → Meets (λ x t. SoundTree (λ k. ReadsFunctionExpr Stmt Params k) s x t) (function_expr inner params s)
     unfolding function_expr spanned Parts OwnName Words
@@ -266,7 +258,7 @@ module _ (Stmt : Code → Position → Tree → Place → Place → Type 0) (Par
         meets_then _ (star c) _ (star_sound c) (λ g r v.
         meets_then _ (own_name u g r) _ (own_name_sound u g r) (λ i m p.
         meets_then _ (function_parts inner params u g (span_at s.at) m) _ (function_parts_sound u g (span_at s.at) m) (λ x t q.
-        sound_as s t refl refl refl (λ ((j, (c, (f, k, d, n'), (y, o, w)), (ps, body, n, a, b, z)), (l, h)). record {
+        sound_as s t refl refl refl (λ (j, (c, (f, k, d, n'), (y, o, w)), (ps, body, n, a, b, z)). record {
           is_async = u;
           is_generator = g;
           name = i;
@@ -282,9 +274,8 @@ module _ (Stmt : Code → Position → Tree → Place → Place → Type 0) (Par
           reads_name = w (opens (in_parameters s.code u g) ps j n a);
           reads_parameters = a;
           reads_body = b;
-          directs = untold (env_of s.code l) u g _ i x ps body z h;
           is = ap (λ v. tree.fn_expr (span_of v) i v) z;
-        }) (sound_clean s t (sound_then (sound_then e (sound_then v p)) q))))))
+        }) (sound_then (sound_then e (sound_then v p)) q)))))
 
   -- ---- methods, behind their key
 
@@ -328,10 +319,6 @@ module _ (Stmt : Code → Position → Tree → Place → Place → Type 0) (Par
       unfolding getter SoundGetter
       getter_sound = meets_then _ (within (λ k. in_parameters k false false) params m) _ (within_params m) (λ ps u q. getter_from ps u q)
 
-      -- what its walk tells of a directive that comes too late
-      unset : (env : Env) (span : Span) (y body : Tree) → walk env (tree.setter_prop span key y body) ≡ [] → misplaced_directive (is_plain_param y) body ≡ []
-      unset env span y body h = (nil-split (walk env key ++ walk (walks.in_params env) y ++ walks.walk_body (walks.in_body env) body) (misplaced_directive (is_plain_param y) body) h).1
-
       -- behind its parameter
       setter_of : (y : Tree) (u : State) → is_plain_param y ≡ is_binding_name y → is_rest y ≡ false
           → Sound same (λ k l. walk (walks.in_params (env_of k l)) y) (notes_of y) (λ k. Params (in_parameters k false false) (y ∷ [])) m u
@@ -348,16 +335,15 @@ module _ (Stmt : Code → Position → Tree → Place → Place → Type 0) (Par
           (λ k c d. (o : Place) × ((j : Place) × ((i : Place) × P k c i × Params (in_parameters k false false) (y ∷ []) i j) × (ReadsBraced Stmt true (in_body k false false) x j o × (o ≡ v.at))) × (d ≡ o)) s t =
           sound_as s t refl (ap (λ b. walk env key ++ walk (walks.in_params env) y ++ walks.walk_body (walks.in_body env) x ++ misplaced_directive b x) (sym e)) (setter_notes span key y x) (λ z. z)
           (sound_then (sound_then (sound_then p q) known) w) in
-          sound_as s t refl refl refl (λ ((o, (j, (i, a, b), (c, g)), h), (k, n)). record {
+          sound_as s t refl refl refl (λ (o, (j, (i, a, b), (c, g)), h). record {
             p = y;
             body = x;
             behind_key = i;
             before = a;
             parts = record { middle = j; reads_parameters = b; reads_body = subst (ReadsBraced Stmt true (in_body s.code false false) x j) (sym h) c };
             no_rest = l;
-            directs = unset (env_of s.code k) span y x n;
             is = ap (λ d. tree.setter_prop (record { lo = (span_at s.at).lo; hi = d.last.hi }) key y x) (sym (h ∙ g));
-          }) (sound_clean s t whole)))
+          }) whole))
 
       setter_from : (ps : List Tree) (u : State) → Sound same (λ k l. walks.walks (walks.in_params (env_of k l)) false (trees ps)) (all_notes_of (trees ps)) (λ k. Params (in_parameters k false false) ps) m u
           → AllUnwrapped ps u → Meets SoundSetter (and_then (one_parameter (span_at s.at) ps u) (λ y v. and_then (function_body inner params false false v) (λ body n.
@@ -403,15 +389,14 @@ module _ (Stmt : Code → Position → Tree → Place → Place → Type 0) (Par
       unfolding plain_method spanned Parts
       method_sound w g = meets_then _ (function_parts inner params w g (span_at s.at) m) _
           (meets_both _ _ (function_parts inner params w g (span_at s.at) m) (function_parts_sound w g (span_at s.at) m) (function_form w g (span_at s.at) m)) (λ x t (q, (f, ps, body, e)).
-          sound_as s t refl (method_walk (env_of s.code s.scope.labels) (span_of x) f x ps body w g e) refl (λ ((i, a, (qs, y, j, b, c, z)), (l, h)). record {
+          sound_as s t refl (method_walk (env_of s.code s.scope.labels) (span_of x) f x ps body w g e) refl (λ (i, a, (qs, y, j, b, c, z)). record {
             patterns = qs;
             body = y;
             behind_key = i;
             before = a;
             parts = record { middle = j; reads_parameters = b; reads_body = c };
-            directs = untold (env_of s.code l) w g _ key x qs y z h;
             is = ap (λ v. tree.method_prop (span_of v) key v) z;
-          }) (sound_clean s t (sound_then p q)))
+          }) (sound_then p q))
 
   -- whatever the key is, they leave the code as it was
   no_parameter_stays : (start : Span) (ps : List Tree) (u : State) → Meets (λ _ v. v ≡ u) (no_parameter start ps u)

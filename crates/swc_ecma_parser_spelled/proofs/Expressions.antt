@@ -10,7 +10,6 @@ use Rattle.swc_ecma_parser_grammar.specs.Looks.{span_at, spanned}
 use Rattle.swc_ecma_parser_grammar.specs.Names.{Code}
 use Rattle.swc_ecma_parser_grammar.specs.Parameters.{parameters}
 use Rattle.swc_ecma_parser_grammar.specs.Reads.{with_in}
-use Rattle.swc_ecma_parser_grammar.specs.Supported.{is_clean, is_rightly_directed, is_rightly_set, is_rightly_headed}
 use Rattle.swc_ecma_parser_grammar.specs.Walk as walks
 use Rattle.swc_ecma_parser_grammar.specs.Walk.{walk, walk_body, in_params}
 use Rattle.swc_ecma_parser_grammar.specs.language.Goals.{Goal, Class, Purpose, binding, expression, assignment, operator, unary, left_side, callee, expr_goal, callee_goal, pattern_goal, element_goal}
@@ -33,7 +32,7 @@ use Rattle.swc_ecma_parser_grammar.proofs.SupportedIn.{parted}
 use Rattle.swc_ecma_parser_grammar.specs.Supported.{supported}
 use Rattle.swc_ecma_parser_spelled.specs.Spelled.{Whole, WholeGoal}
 use Rattle.swc_ecma_parser_spelled.proofs.Wholes.{pair, as_form, leaf, both, three, WholeKey, WholeBody, EachWhole, each_as, list_whole, parameters_whole, listed_whole, separated_whole, elements_whole}
-use Rattle.swc_ecma_parser_spelled.proofs.Parts.{name_supported, WholeParts, key_whole, access_whole, element_whole, arguments_whole, block_whole, pattern_item_whole, patterns_whole, function_parts, function_whole, function_rightly, class_whole}
+use Rattle.swc_ecma_parser_spelled.proofs.Parts.{name_supported, WholeParts, key_whole, access_whole, element_whole, arguments_whole, block_whole, pattern_item_whole, patterns_whole, function_parts, function_whole, class_whole}
 
 module _ (In : Goal → Type 0) (small : (g : Goal) → In g → WholeGoal g) where
   -- ---- objects
@@ -49,7 +48,7 @@ module _ (In : Goal → Type 0) (small : (g : Goal) → In g → WholeGoal g) wh
       let j = parted (walk env key ++ walk (in_params env) p) (walk_body (walks.in_body env) body) i.0 in
       let l = parted (walk env key) (walk (in_params env) p) j.0 in
       and_both _ _ (f env l.0)
-      (and_both _ _ (and_both _ _ (w (in_params env) l.1) (b (walks.in_body env) j.1)) (and_both (is_rightly_set p body) true (ap is_clean i.1) refl))
+      (and_both _ _ (and_both _ _ (w (in_params env) l.1) (b (walks.in_body env) j.1)) refl)
 
   method_whole : (s : Span) (key : Tree) (ps : List Tree) (body : Tree) (a g : Bool) → WholeKey key → WholeParts ps body
       → Whole (tree.method_prop s key (tree.function s (listed []) (parameters ps) body a g))
@@ -58,8 +57,7 @@ module _ (In : Goal → Type 0) (small : (g : Goal) → In g → WholeGoal g) wh
       let j = parted (walk env key ++ walk (in_params env) (parameters ps)) (walk_body (walks.in_body env) body) i.0 in
       let l = parted (walk env key) (walk (in_params env) (parameters ps)) j.0 in
       and_both _ _ (f env l.0)
-      (and_both _ _ (and_both _ _ (parameters_whole ps p.each (in_params env) l.1) (p.inside (walks.in_body env) j.1))
-      (and_both (is_rightly_directed (tree.function s (listed []) (parameters ps) body a g)) true (ap is_clean i.1) refl))
+      (and_both _ _ (and_both _ _ (parameters_whole ps p.each (in_params env) l.1) (p.inside (walks.in_body env) j.1)) refl)
 
   property_whole : (k : Code) (x : Tree) (c d : Place) → PropertyRule In k x c d → Whole x
   property_whole k x c d (objects.spread_rule e h r i) = as_form x (tree.spread_prop (span_at c) e) i (small (expr_goal assignment (with_in k) e (after c) d) r)
@@ -100,7 +98,7 @@ module _ (In : Goal → Type 0) (small : (g : Goal) → In g → WholeGoal g) wh
       as_form x (tree.fn_expr (spanned c d) name fn) e (λ env h.
       let i = parted (walk env name) (walk env fn) h in
       and_both _ _ (name_supported r.reads_name)
-      (and_both _ _ (function_whole In small no_decorators r env i.1) (and_both (is_rightly_directed fn) true (function_rightly In small r env i.1) refl)))
+      (and_both _ _ (function_whole In small no_decorators r env i.1) refl))
   primary_whole {x = x} {c = c} {d = d} (left.class_rule name body r e) =
       as_form x (tree.class_expr (spanned c d) name body) e (both name body (leaf name (name_supported r.reads_name)) (class_whole In small no_decorators r))
   primary_whole {k = k} {x = x} {c = c} {d = d} (left.paren_rule y m h r i g e) = as_form x (tree.paren (spanned c d) y) e (small (expr_goal expression (with_in k) y (after c) m) r)
@@ -176,7 +174,7 @@ module _ (In : Goal → Type 0) (small : (g : Goal) → In g → WholeGoal g) wh
   arrow_whole s ps body is_async p b env h =
       let i = parted (walk env (listed ps) ++ walk (walks.in_body env) body) _ h in
       let j = parted (walk env (listed ps)) (walk (walks.in_body env) body) i.0 in
-      and_both _ _ (and_both _ _ (list_whole ps p env j.0) (b (walks.in_body env) j.1)) (and_both (is_rightly_headed (listed ps) body) true (ap is_clean i.1) refl)
+      and_both _ _ (and_both _ _ (list_whole ps p env j.0) (b (walks.in_body env) j.1)) refl
 
   pub assignment_whole : (k : Code) (x : Tree) (c d : Place) → AssignmentRule In k x c d → Whole x
   assignment_whole k x c d (expressions.operators_rule r h) = binary_whole r

@@ -1,5 +1,5 @@
 -- Keys, accesses, arguments, blocks, functions and classes are supported where the walk finds no fault.
-use Rattle.std.proofs.Common.{◌≡◌, Bool, true, false, true≢false, List, [], ◌∷◌, ◌++◌, refl, sym, ◌∙◌, ap}
+use Rattle.std.proofs.Common.{◌≡◌, Bool, true, false, true≢false, List, [], ◌∷◌, ◌++◌, refl, sym, ap}
 use Rattle.std.specs.Prelude.{◌&&◌, ◌||◌, if◌then◌else◌}
 use Rattle.swc_ecma_parser_common.specs.declared.span.Span.{Span}
 use Rattle.swc_ecma_parser_error.specs.Kind.{Fault}
@@ -12,7 +12,6 @@ use Rattle.swc_ecma_parser_grammar.specs.Looks.{spanned}
 use Rattle.swc_ecma_parser_grammar.specs.Names.{Code}
 use Rattle.swc_ecma_parser_grammar.specs.Parameters.{parameters}
 use Rattle.swc_ecma_parser_grammar.specs.Reads.{with_in}
-use Rattle.swc_ecma_parser_grammar.specs.Supported.{is_clean, is_rightly_directed}
 use Rattle.swc_ecma_parser_grammar.specs.Walk.{Env, walk, walk_body, walk_method, in_params, in_class}
 use Rattle.swc_ecma_parser_grammar.specs.Walk as walks
 use Rattle.swc_ecma_parser_grammar.specs.language.Goals.{Goal, Purpose, binding, expression, assignment, left_side, expr_goal, pattern_goal, element_goal, stmt_goal, member_goal, decorator_goal}
@@ -142,20 +141,10 @@ module _ (In : Goal → Type 0) (small : (g : Goal) → In g → WholeGoal g) wh
       let i = parted (walk env ds ++ walk (in_params env) (parameters ps) ++ walk_body (walks.in_body env) body) _ h in
       triple (w env) (parameters_whole ps p.each (in_params env)) (p.inside (walks.in_body env)) i.0
 
-  rightly_of : (s : Span) (ds : Tree) (ps : List Tree) (body : Tree) (a g : Bool) (env : Env) → walk env (tree.function s ds (parameters ps) body a g) ≡ []
-      → is_rightly_directed (tree.function s ds (parameters ps) body a g) ≡ true
-  rightly_of s ds ps body a g env h =
-      ap is_clean (parted (walk env ds ++ walk (in_params env) (parameters ps) ++ walk_body (walks.in_body env) body) _ h).1
-
   pub function_whole : {is_expression : Bool} {k : Code} {decorators name x : Tree} {c d : Place} → Whole decorators → FunctionRule In is_expression k decorators name x c d → Whole x
   function_whole {decorators = ds} {x = x} {c = c} {d = d} w r =
       as_form x (tree.function (spanned c d) ds (parameters r.patterns) r.body r.is_async r.is_generator) r.is
       (function_of (spanned c d) ds r.patterns r.body r.is_async r.is_generator w (function_parts r.reads_parts))
-
-  pub function_rightly : {is_expression : Bool} {k : Code} {decorators name x : Tree} {c d : Place} → FunctionRule In is_expression k decorators name x c d
-      → (env : Env) → walk env x ≡ [] → is_rightly_directed x ≡ true
-  function_rightly {decorators = ds} {x = x} {c = c} {d = d} r env h =
-      ap is_rightly_directed r.is ∙ rightly_of (spanned c d) ds r.patterns r.body r.is_async r.is_generator env (sym (ap (walk env) r.is) ∙ h)
 
   -- ---- classes
 

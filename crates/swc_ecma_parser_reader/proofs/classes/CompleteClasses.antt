@@ -43,7 +43,9 @@ use Rattle.swc_ecma_parser_reader.specs.Reader.{closes, named, expr, member}
 use Rattle.swc_ecma_parser_reader.proofs.Notes.{or_nil, or_assoc}
 use Rattle.swc_ecma_parser_reader.proofs.Answered.{st, Reads}
 use Rattle.swc_ecma_parser_reader.proofs.Below.{Below, expr_reads}
-use Rattle.swc_ecma_parser_reader.proofs.CompleteParts.{close_reads, told_reads}
+use Rattle.swc_ecma_parser_reader.proofs.Calm.{told_reads}
+use Rattle.swc_ecma_parser_reader.proofs.CompleteParts.{close_reads}
+use Rattle.swc_ecma_parser_reader.proofs.Errors.{is_error}
 use Rattle.swc_ecma_parser_reader.proofs.expressions.CompleteKinds.{seen, supported_as, object_here}
 use Rattle.swc_ecma_parser_reader.proofs.expressions.CompleteKinds as kinds
 use Rattle.swc_ecma_parser_reader.proofs.expressions.CompleteParts.{expect_reads, name_reads}
@@ -113,7 +115,7 @@ module _ (n : ℕ) (below : Below n) (reads_member : (k : Code) (x : Tree) (c d 
       → Reads (extended (expr n left_side) (member n)) k x c d
   unfolding extended
   extended_reads k x c d (no_heritage i e) o s w f h = rw (brace_kinds c (ap kind_at (sym i) ∙ o), i, e, append-nil f, append-nil h.held_back, or_nil h.found_module_item) refl
-  extended_reads k x c d (heritage_rule i r) o s w f h = rw (seen c kind.Extends i) (expr_reads n below left_side k x (after c) d (r, s) w f h)
+  extended_reads k x c d (heritage_rule i r) o s w f h = rw (seen c kind.Extends i) (expr_reads n below left_side k x (after c) d (r, s) w f h (inr (ap is_error o)))
 
   -- ---- members one behind another
 

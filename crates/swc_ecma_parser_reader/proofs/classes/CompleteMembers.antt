@@ -43,10 +43,10 @@ use Rattle.swc_ecma_parser_reader.specs.Methods.{MethodForm, getter_form, setter
 use Rattle.swc_ecma_parser_reader.specs.Members as members
 use Rattle.swc_ecma_parser_reader.specs.Members.{kind_of_form, form_is_async, form_is_generator, parameter_faults, misnamed, method_parts, method, constructor, plain_method, static_block, before_constructor, behind_key, keyed_member, begins_block, behind_accessed_key, accessed_key, accessed, accessor_member, full_member, empty_member, member_level, field_end, field_named, field_value, field_from, field}
 use Rattle.swc_ecma_parser_reader.specs.Reader.{expr, cover, stmt, decorated_in, parameters, braced, function_body, misdirected}
-use Rattle.swc_ecma_parser_reader.proofs.Answered.{st, Reads}
+use Rattle.swc_ecma_parser_reader.proofs.Answered.{st, Reads, ReadsCalm}
 use Rattle.swc_ecma_parser_reader.proofs.Below.{Below, parameters_reads}
 use Rattle.swc_ecma_parser_reader.proofs.Between.{nil-split}
-use Rattle.swc_ecma_parser_reader.proofs.CompleteParts.{told_reads}
+use Rattle.swc_ecma_parser_reader.proofs.Calm.{told_reads, before_end}
 use Rattle.swc_ecma_parser_reader.proofs.Errors.{is_error}
 use Rattle.swc_ecma_parser_reader.proofs.Notes.{or_nil, or_true, or_assoc}
 use Rattle.swc_ecma_parser_reader.proofs.SoundFunctions.{parameters_walk, parameters_notes}
@@ -328,26 +328,26 @@ module _ (n : ℕ) (below : Below n)
   field_end_reads c d k w f h (by_semicolon e g) = rw (seen c kind.Semi e, g) refl
   field_end_reads c d k w f h (by_insertion e i g) = rw (e, i, g) refl
 
-  value_reads : (k : Code) (key x : Tree) (c d : Place) → FieldValueRule (language.Reads n) k key x c d → supported_in k.flags.module x ≡ true → Reads (field_value (expr n) (cover n)) k x c d
+  value_reads : (k : Code) (key x : Tree) (c d : Place) → FieldValueRule (language.Reads n) k key x c d → supported_in k.flags.module x ≡ true → ReadsCalm (field_value (expr n) (cover n)) k x c d
   unfolding field_value
-  value_reads k key x c d (no_value a p g e i) s w f h = rw (a, i, e, append-nil f, append-nil h.held_back, or_nil h.found_module_item) refl
-  value_reads k key x c d (a_value i r) s w f h = rw (seen c kind.Assign i) (inside_reads (language.Reads n) (expr n) (cover n) below.exprs assignment k x (after c) d r s w f h)
+  value_reads k key x c d (no_value a p g e i) s w f h q = rw (a, i, e, append-nil f, append-nil h.held_back, or_nil h.found_module_item) refl
+  value_reads k key x c d (a_value i r) s w f h q = rw (seen c kind.Assign i) (inside_reads (language.Reads n) (expr n) (cover n) below.exprs assignment k x (after c) d r s w f h q)
 
   -- from behind the key
   field_reads : (ds : List Tree) (is_static is_accessor : Bool) (key value x : Tree) (k : Code) (c i j d : Place) → is_constructor_key key ≡ false
       → FieldValueRule (language.Reads n) k key value i j → Ends j d → x ≡ field_member (spanned c d) key value is_static is_accessor (listed ds) → supported_in k.flags.module value ≡ true
-      → (w : Scope) (f : List Fault) (h : Notes) → field (expr n) (cover n) ds is_static is_accessor (span_at c) key
+      → is_error (kind_at d) ≡ false → (w : Scope) (f : List Fault) (h : Notes) → field (expr n) (cover n) ds is_static is_accessor (span_at c) key
       (st i k w (f ++ walk (env_of k w.labels) (listed ds) ++ walk (env_of k w.labels) key) (h ⊕ notes_of (listed ds) ⊕ notes_of key))
       ≡ Ok (x, st d k w (f ++ walk (env_of k w.labels) x) (h ⊕ notes_of x))
   unfolding field field_from field_named spanned
-  field_reads ds is_static is_accessor key value x k c i j d o v q e s w f h =
+  field_reads ds is_static is_accessor key value x k c i j d o v q e s a w f h =
       let env = env_of k w.labels in
       let f' = f ++ walk env (listed ds) in
       let h' = h ⊕ notes_of (listed ds) in
       rw (
         (field_goes key value v q).goes,
         o,
-        value_reads k key value i j v s w (f' ++ walk env key) (h' ⊕ notes_of key),
+        value_reads k key value i j v s w (f' ++ walk env key) (h' ⊕ notes_of key) (inr (before_end j d q a)),
         field_end_reads j d k w (f' ++ walk env key ++ walk env value) (h' ⊕ notes_of key ⊕ notes_of value) q,
         ap (walk env) e ∙ field_walk (spanned c d) key value is_static (listed ds) is_accessor env,
         ap notes e ∙ field_noted (spanned c d) key value is_static (listed ds) is_accessor,
@@ -356,10 +356,10 @@ module _ (n : ℕ) (below : Below n)
       ) (simp (append_assoc, or_assoc) refl)
 
   keyed_field_reads : (first : Span) (v : Leading) (is_static : Bool) (key value x : Tree) (k : Code) (c m i j d : Place) → MemberKeyRule (language.Reads n) k key m i → is_constructor_key key ≡ false
-      → FieldValueRule (language.Reads n) k key value i j → Ends j d → x ≡ field_member (spanned c d) key value is_static false (listed v.found) → supported_in k.flags.module x ≡ true
+      → FieldValueRule (language.Reads n) k key value i j → Ends j d → x ≡ field_member (spanned c d) key value is_static false (listed v.found) → supported_in k.flags.module x ≡ true → is_error (kind_at d) ≡ false
       → ReadsBehind v.found (keyed_member (expr n) (cover n) (stmt n nested_item) (parameters n) v is_static (span_at c) first) k x m d
   unfolding keyed_member behind_key
-  keyed_field_reads first v is_static key value x k c m i j d r o a q e s w f h =
+  keyed_field_reads first v is_static key value x k c m i j d r o a q e s z w f h =
       let t = field_supported k.flags.module (spanned c d) key value is_static false (listed v.found) (supported_as _ x (field_member (spanned c d) key value is_static false (listed v.found)) e s) in
       let g = field_goes key value a q in
       let f' = f ++ walk (env_of k w.labels) (listed v.found) in
@@ -368,7 +368,7 @@ module _ (n : ℕ) (below : Below n)
         bare_words r g.ended w f' h',
         member_key_reads (language.Reads n) (expr n) (cover n) below.exprs k key m i r t.1 w f' h',
         g.no_paren,
-      ) (field_reads v.found is_static false key value x k c i j d o a q e t.2 w f h)
+      ) (field_reads v.found is_static false key value x k c i j d o a q e t.2 z w f h)
 
   -- behind `accessor`: neither a block nor words stand before its key
   accessed_reads : (first : Span) (v : Leading) (is_static : Bool) (accessor : Span) (key value x : Tree) (k : Code) (c m i j d : Place) → MemberKeyRule (language.Reads n) k key m i → is_constructor_key key ≡ false
@@ -387,7 +387,7 @@ module _ (n : ℕ) (below : Below n)
         no_words_here r g.ended,
         member_key_reads (language.Reads n) (expr n) (cover n) below.exprs k key m i r t.1 w f' h',
         g.no_paren,
-      ) (field_reads v.found is_static true key value x k c i j d o a q e t.2 w f h)
+      ) (field_reads v.found is_static true key value x k c i j d o a q e t.2 z.0 w f h)
 
   -- ---- behind `static`, or without it
 
@@ -436,7 +436,7 @@ module _ (n : ℕ) (below : Below n)
       )
   core_reads first v is_static k x c m d (field_rule key value i j r o u q e) a s z =
       let t : Keyed m = key_keyed r ((field_goes key value u q).no_brace z.1) in
-      (t.no_semicolon, keyed_reads v is_static (span_at c) first k x m d a t (keyed_field_reads first v is_static key value x k c m i j d r o u q e s))
+      (t.no_semicolon, keyed_reads v is_static (span_at c) first k x m d a t (keyed_field_reads first v is_static key value x k c m i j d r o u q e s z.0))
   core_reads first v is_static k x c m d (static_block_rule body f b g r e) a s z = let none = listed_none v.found g in (
     brace_no_semicolon m r.opens,
     subst (λ b. ReadsBehind v.found (members.behind_static (expr n) (cover n) (stmt n nested_item) (parameters n) v b (span_at c) first) k x m d) (sym f)

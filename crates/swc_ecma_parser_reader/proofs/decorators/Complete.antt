@@ -1,5 +1,5 @@
 -- What the language allows of decorators is read, with the faults of the walk and the notes held back, and no others.
-use Rattle.std.proofs.Common.{◌≡◌, Bool, true, false, true≢false, List, [], ◌∷◌, ◌++◌, length, Ok, refl, sym, ◌∙◌, ap, append_assoc, append-nil}
+use Rattle.std.proofs.Common.{◌≡◌, inr, Bool, true, false, true≢false, List, [], ◌∷◌, ◌++◌, length, Ok, refl, sym, ◌∙◌, ap, append_assoc, append-nil}
 use Rattle.std.specs.Prelude.{◌&&◌, if◌then◌else◌}
 use Rattle.swc_ecma_parser_common.specs.declared.span.Span.{Span}
 use Rattle.swc_ecma_parser_error.specs.Kind as faults
@@ -36,7 +36,8 @@ use Rattle.swc_ecma_parser_reader.specs.State.{Scope, State, Reader, within, loo
 use Rattle.swc_ecma_parser_reader.specs.Expressions.{Cover, access, arguments, accessed, called}
 use Rattle.swc_ecma_parser_reader.specs.Decorators.{chain_turn, chain_from, chain, behind_group, group, decorated, decorator, decorators_turn, decorators}
 use Rattle.swc_ecma_parser_reader.proofs.Notes.{or_nil, or_assoc}
-use Rattle.swc_ecma_parser_reader.proofs.Answered.{st, Reads}
+use Rattle.swc_ecma_parser_reader.proofs.Answered.{st, Reads, ReadsCalm}
+use Rattle.swc_ecma_parser_reader.proofs.Errors.{is_error}
 use Rattle.swc_ecma_parser_reader.proofs.Steps.{loop_more, loop_done}
 use Rattle.swc_ecma_parser_reader.proofs.Takes.{Falls}
 use Rattle.swc_ecma_parser_reader.proofs.expressions.Falls.{access_falls, arguments_fall}
@@ -123,9 +124,9 @@ module _ (In : Goal → Type 0) (inner : Class → Reader Tree) (cover : Reader 
 
   -- ---- what stands behind `@`: what stands in parentheses is read by a reader of whole expressions
 
-  module _ (whole : Reader Tree) (reads_whole : (k : Code) (x : Tree) (c d : Place) → ExpressionRule In k x c d → supported_in k.flags.module x ≡ true → Reads whole k x c d) where
-    whole_reads : (k : Code) (x : Tree) (c d : Place) → ExpressionRule In (with_in k) x c d → supported_in k.flags.module x ≡ true → Reads (within with_in whole) k x c d
-    whole_reads k x c d r s w f h = rw (reads_whole (with_in k) x c d r s w f h) refl
+  module _ (whole : Reader Tree) (reads_whole : (k : Code) (x : Tree) (c d : Place) → ExpressionRule In k x c d → supported_in k.flags.module x ≡ true → ReadsCalm whole k x c d) where
+    whole_reads : (k : Code) (x : Tree) (c d : Place) → ExpressionRule In (with_in k) x c d → supported_in k.flags.module x ≡ true → ReadsCalm (within with_in whole) k x c d
+    whole_reads k x c d r s w f h q = rw (reads_whole (with_in k) x c d r s w f h q) refl
 
     first_group : (k : Code) (x : Tree) (c d : Place) → sees kind.LParen c ≡ true → Reads (group inner cover whole) k x c d → Reads (decorated inner cover whole) k x c d
     unfolding decorated
@@ -141,7 +142,7 @@ module _ (In : Goal → Type 0) (inner : Class → Reader Tree) (cover : Reader 
         let n = r.next in
         let e : sees kind.LParen (after r.close) ≡ false = sym (ap (sees kind.LParen) n) ∙ i in
         rw (
-          whole_reads k x (after c) r.close r.reads_expression s w f h,
+          whole_reads k x (after c) r.close r.reads_expression s w f h (inr (ap is_error r.closes)),
           expect_reads kind.RParen r.close k w (f ++ walk (env_of k w.labels) x) (h ⊕ notes_of x) r.closes,
           e,
           n,
@@ -153,7 +154,7 @@ module _ (In : Goal → Type 0) (inner : Class → Reader Tree) (cover : Reader 
     group_call_reads y z m k x c d r a e s w f h =
         let t = and_yes (supported_in k.flags.module y) _ (supported_as _ x (tree.call (spanned (after c) d) y z) e s) in
         rw (
-          whole_reads k y (after c) r.close r.reads_expression t.0 w f h,
+          whole_reads k y (after c) r.close r.reads_expression t.0 w f h (inr (ap is_error r.closes)),
           expect_reads kind.RParen r.close k w (f ++ walk (env_of k w.labels) y) (h ⊕ notes_of y) r.closes,
           ← r.next,
           seen m kind.LParen a.opens,

@@ -7,7 +7,7 @@ use Rattle.swc_ecma_parser_grammar.proofs.ExpressionBegins.{await_stands}
 use Rattle.swc_ecma_parser_grammar.proofs.Binding.{parameter_down, item_down}
 use Rattle.swc_ecma_parser_grammar.proofs.Marks.{awaits_apart}
 use Rattle.swc_ecma_parser_reader.proofs.expressions.Awaits.{update_no_await}
-use Rattle.std.proofs.Common.{◌≡◌, ℕ, zero, suc, ◌≤◌, Bool, true, false, List, [], ◌∷◌, ◌++◌, length, inl, inr, Option, Some, None, Ok, refl, sym, ◌∙◌, ap, arith, append_assoc, append-nil, subst}
+use Rattle.std.proofs.Common.{◌≡◌, ℕ, zero, suc, ◌≤◌, Bool, true, false, List, [], ◌∷◌, ◌++◌, length, ◌⊎◌, inl, inr, Option, Some, None, Ok, refl, sym, ◌∙◌, ap, arith, append_assoc, append-nil, subst}
 use Rattle.std.specs.Prelude.{◌&&◌, ◌||◌, is_some, codes, not}
 use Rattle.std.proofs.lemmas.Bool.{le-leb}
 use Rattle.swc_ecma_parser_common.specs.declared.span.Span.{Span}
@@ -51,7 +51,9 @@ use Rattle.swc_ecma_parser_reader.specs.Methods.{FunctionForm}
 use Rattle.swc_ecma_parser_reader.specs.Expressions.{Cover, done, goes_on, begins_async_call, is_head, heads_arrow, closed_left, simple, update_behind, read_operator, operator_at, left_operand, unmixed, unassigned, unheaded, left, left_expr, prefixed, update_before, await_allowed, await_expr, postfix, unary_expr, operated, binary_turn, binary_from, binary_expr, conditional, assigned_to, assigned, behind_operators, operators_expr, cover_expr, assignment_expr, sequence_turn, sequence_from, expression_expr, expr_level, is_literal, plain_expr}
 use Rattle.swc_ecma_parser_reader.specs.Yields.{begins_yield, bare_yield, yielded, behind_yield, yield_expr}
 use Rattle.swc_ecma_parser_reader.proofs.Notes.{or_nil, or_assoc}
-use Rattle.swc_ecma_parser_reader.proofs.Answered.{st, Reads, Gets, gets_also, ReadsAs}
+use Rattle.swc_ecma_parser_reader.proofs.Answered.{st, Reads, Calm, ReadsCalm, Gets, gets_also, ReadsAs, ReadsAsCalm}
+use Rattle.swc_ecma_parser_reader.proofs.Calm.{calm_same, calm_first, calm_last, settled_as}
+use Rattle.swc_ecma_parser_reader.proofs.Errors.{is_error}
 use Rattle.swc_ecma_parser_reader.proofs.Takes.{moves, Falls}
 use Rattle.swc_ecma_parser_reader.proofs.Steps.{loop_more, loop_done}
 use Rattle.swc_ecma_parser_reader.proofs.Meets.{saw}
@@ -63,7 +65,7 @@ use Rattle.swc_ecma_parser_reader.proofs.expressions.Groups.{IsTied, ReadsParts,
 use Rattle.swc_ecma_parser_reader.proofs.expressions.AsyncHeads.{plain_async_grouped, never_async_named}
 use Rattle.swc_ecma_parser_reader.proofs.expressions.AsyncGroups.{operators_async_grouped}
 use Rattle.swc_ecma_parser_reader.proofs.expressions.NamedArrows.{never_named}
-use Rattle.swc_ecma_parser_reader.proofs.expressions.CompleteKinds.{names_stand, supported_as, seen, begins, element_begins, ends_part, ended_at, ended_stops, ended_continues, no_async_function, left_first, operand_plain, operand_update, update_plain, operator_stops, assign_stops, question_stops, stops_unary, unary_stops, stopped, update_seen, postfix_seen, assign_seen, unassigned_at}
+use Rattle.swc_ecma_parser_reader.proofs.expressions.CompleteKinds.{names_stand, supported_as, seen, begins, element_begins, ends_part, part_calm, ended_at, ended_stops, ended_continues, no_async_function, left_first, operand_plain, operand_update, update_plain, operator_stops, assign_stops, question_stops, stops_unary, unary_stops, stopped, update_seen, postfix_seen, assign_seen, unassigned_at, update_calm, operator_calm, assign_calm}
 use Rattle.swc_ecma_parser_reader.proofs.expressions.Loops.{shorter_by}
 use Rattle.swc_ecma_parser_reader.proofs.expressions.CompleteParts.{expect_reads, AsExpr, AsElement, AsTarget, IsRead, IsFunctionRead, inside_reads}
 use Rattle.swc_ecma_parser_reader.proofs.expressions.CompleteCovers.{AsLiteral, array_pattern, object_pattern}
@@ -194,10 +196,12 @@ nothing_goes_on : (s : State) → ends_part (kind_at s.at) ≡ true → goes_on 
 unfolding goes_on operator_at continues_conditional
 nothing_goes_on s e = let t = ended_at s.at e in or_none _ _ (ended_stops s.at e) (rw (t.binary, t.question, t.assigns) refl)
 
--- what is asked of where a pattern without a default ends: nothing goes on with a name or a member, nor with an array or object
+-- what is asked of where a pattern without a default ends: nothing goes on with a name or a member, nor with an array or object, and no
+-- error token stands there
 pub record Closes (k : Code) (p : Tree) (c d : Place) : Type 0 where
   pub function : sees kind.Function d ≡ false
   pub assign : sees kind.Assign d ≡ false
+  pub calm : is_error (kind_at d) ≡ false
   pub leaf_ends : (e : Tree) → p ≡ leaf e → continues_assignment k e c d ≡ false
   pub literal_ends : (w : Scope) (f : List Fault) (h : Notes) → goes_on (st d k w f h) ≡ false
 
@@ -205,6 +209,7 @@ part_closes : (k : Code) (p : Tree) (c d : Place) → ends_part (kind_at d) ≡ 
 part_closes k p c d t = record {
   function = (ended_at d t).function;
   assign = (ended_at d t).assign;
+  calm = part_calm d t;
   leaf_ends = λ e i. ended_continues k e c d t;
   literal_ends = λ w f h. nothing_goes_on (st d k w f h) t;
 }
@@ -214,30 +219,39 @@ module _ (In : Goal → Type 0) (inner : Class → Reader Tree) (cover : Reader 
 
   -- a left side, and no token that goes on with it
   side_reads : (k : Code) (x : Tree) (c d : Place) → LeftSideRule In k x c d → supported_in k.flags.module x ≡ true → sees kind.Dot d ≡ false → sees kind.LBracket d ≡ false → sees kind.LParen d ≡ false
-      → Reads (left inner cover function true) k x c d
-  side_reads k x c d r s dot bracket paren w f h = left_reads In inner cover given function functions true k x c d r s refl (or_none _ _ dot bracket) paren w f h
+      → ReadsCalm (left inner cover function true) k x c d
+  side_reads k x c d r s dot bracket paren w f h q = left_reads In inner cover given function functions true k x c d r s refl (or_none _ _ dot bracket) paren w f h q
 
-  operand_reads : (k : Code) (x : Tree) (c d : Place) → LeftSideRule In k x c d → awaits k.flags c ≡ false → supported_in k.flags.module x ≡ true → continues_left_side d ≡ false → Reads (unary_expr inner cover function) k x c d
+  operand_reads : (k : Code) (x : Tree) (c d : Place) → LeftSideRule In k x c d → awaits k.flags c ≡ false → supported_in k.flags.module x ≡ true → continues_left_side d ≡ false → ReadsCalm (unary_expr inner cover function) k x c d
   unfolding unary_expr postfix
-  operand_reads k x c d r a s e w f h =
+  operand_reads k x c d r a s e w f h q =
       let first = left_first In k x c d r s in
       let t = stopped d e in
-      rw (operand_plain (kind_at c) first, a, operand_update (kind_at c) first, side_reads k x c d r s t.dot t.bracket t.paren w f h, t.postfix) refl
+      rw (operand_plain (kind_at c) first, a, operand_update (kind_at c) first, side_reads k x c d r s t.dot t.bracket t.paren w f h q, t.postfix) refl
 
   prefixed_reads : (op : UnaryOp) (e : Tree) (k : Code) (x : Tree) (c d : Place) → unary_operator (kind_at c) ≡ Some op → In (expr_goal unary k e (after c) d) → supported_in k.flags.module e ≡ true
-      → x ≡ tree.unary (spanned c d) op e → Reads (unary_expr inner cover function) k x c d
+      → x ≡ tree.unary (spanned c d) op e → ReadsCalm (unary_expr inner cover function) k x c d
   unfolding unary_expr prefixed spanned
-  prefixed_reads op e k x c d o r s j w f h = rw (o, given.reads unary k e (after c) d r s w f h, j) refl
+  prefixed_reads op e k x c d o r s j w f h q = rw (o, given.reads unary k e (after c) d r s w f h (calm_same d _ _ (ap (walk (env_of k w.labels)) j) q), j) refl
 
   update_before_reads : (op : UpdateOp) (e : Tree) (k : Code) (x : Tree) (c d : Place) → update_operator (kind_at c) ≡ Some op → In (expr_goal unary k e (after c) d) → supported_in k.flags.module e ≡ true
-      → is_simple_target e ≡ true → x ≡ tree.update (spanned c d) op true e → Reads (unary_expr inner cover function) k x c d
+      → is_simple_target e ≡ true → x ≡ tree.update (spanned c d) op true e → ReadsCalm (unary_expr inner cover function) k x c d
   unfolding unary_expr update_before simple spanned
-  update_before_reads op e k x c d o r s t j w f h = rw (update_plain (kind_at c) op o, awaits_apart k.flags c (update_no_await (kind_at c) op o), o, given.reads unary k e (after c) d r s w f h, t, j) refl
+  update_before_reads op e k x c d o r s t j w f h q =
+      rw (
+        update_plain (kind_at c) op o,
+        awaits_apart k.flags c (update_no_await (kind_at c) op o),
+        o,
+        given.reads unary k e (after c) d r s w f h (calm_same d _ _ (ap (walk (env_of k w.labels)) j) q),
+        t,
+        j,
+      ) refl
 
   await_reads : (e : Tree) (k : Code) (x : Tree) (c d : Place) → awaits k.flags c ≡ true → may_await k ≡ true → In (expr_goal unary k e (after c) d) → supported_in k.flags.module e ≡ true
-      → x ≡ tree.await (spanned c d) e → Reads (unary_expr inner cover function) k x c d
+      → x ≡ tree.await (spanned c d) e → ReadsCalm (unary_expr inner cover function) k x c d
   unfolding unary_expr await_expr await_allowed spanned
-  await_reads e k x c d a m r s j w f h = rw (ap unary_operator (await_stands k.flags c a), a, m, given.reads unary k e (after c) d r s w f h, j) refl
+  await_reads e k x c d a m r s j w f h q =
+      rw (ap unary_operator (await_stands k.flags c a), a, m, given.reads unary k e (after c) d r s w f h (calm_same d _ _ (ap (walk (env_of k w.labels)) j) q), j) refl
 
   update_behind_reads : (op : UpdateOp) (e : Tree) (m : Place) (k : Code) (x : Tree) (c d : Place) → LeftSideRule In k e c m → awaits k.flags c ≡ false → supported_in k.flags.module e ≡ true → is_simple_target e ≡ true
       → breaks_at m ≡ false → update_operator (kind_at m) ≡ Some op → d ≡ after m → x ≡ tree.update (spanned c d) op false e → Reads (unary_expr inner cover function) k x c d
@@ -245,30 +259,30 @@ module _ (In : Goal → Type 0) (inner : Class → Reader Tree) (cover : Reader 
   update_behind_reads op e m k x c d r a s t b o i j w f h =
       let first = left_first In k e c m r s in
       let apart = update_seen m op o in
-      rw (operand_plain (kind_at c) first, a, operand_update (kind_at c) first, side_reads k e c m r s apart.0 apart.1 apart.2 w f h, postfix_seen m op b o, t, j, i) refl
+      rw (operand_plain (kind_at c) first, a, operand_update (kind_at c) first, side_reads k e c m r s apart.0 apart.1 apart.2 w f h (inr (update_calm m op o)), postfix_seen m op b o, t, j, i) refl
 
-  unary_reads : (k : Code) (x : Tree) (c d : Place) → UnaryRule In k x c d → supported_in k.flags.module x ≡ true → continues_unary x d ≡ false → Reads (unary_expr inner cover function) k x c d
-  unary_reads k x c d (rules.operand_rule r) s e w f h = operand_reads k x c d r.0 r.1 s (unary_stops x d (left_simple In k x c d r.0) e) w f h
-  unary_reads k x c d (rules.unary_rule op y i r j) s e w f h = prefixed_reads op y k x c d i r (supported_as _ x (tree.unary (spanned c d) op y) j s) j w f h
-  unary_reads k x c d (rules.prefix_rule op y i r t j) s e w f h = update_before_reads op y k x c d i r (supported_as _ x (tree.update (spanned c d) op true y) j s) t j w f h
-  unary_reads k x c d (rules.postfix_rule op y m r t b o i j) s e w f h =
+  unary_reads : (k : Code) (x : Tree) (c d : Place) → UnaryRule In k x c d → supported_in k.flags.module x ≡ true → continues_unary x d ≡ false → ReadsCalm (unary_expr inner cover function) k x c d
+  unary_reads k x c d (rules.operand_rule r) s e w f h q = operand_reads k x c d r.0 r.1 s (unary_stops x d (left_simple In k x c d r.0) e) w f h q
+  unary_reads k x c d (rules.unary_rule op y i r j) s e w f h q = prefixed_reads op y k x c d i r (supported_as _ x (tree.unary (spanned c d) op y) j s) j w f h q
+  unary_reads k x c d (rules.prefix_rule op y i r t j) s e w f h q = update_before_reads op y k x c d i r (supported_as _ x (tree.update (spanned c d) op true y) j s) t j w f h q
+  unary_reads k x c d (rules.postfix_rule op y m r t b o i j) s e w f h q =
       update_behind_reads op y m k x c d r.0 r.1 (supported_as _ x (tree.update (spanned c d) op false y) j s) t b o i j w f h
-  unary_reads k x c d (rules.await_rule y a m r j) s e w f h = await_reads y k x c d a m r (supported_as _ x (tree.await (spanned c d) y) j s) j w f h
+  unary_reads k x c d (rules.await_rule y a m r j) s e w f h q = await_reads y k x c d a m r (supported_as _ x (tree.await (spanned c d) y) j s) j w f h q
 
   -- ---- binary operators
 
   -- an operator and its right operand
   left_grouped : (start : Span) (op : BinaryOp) (x y : Tree) (k : Code) (m d : Place) → groups_left op ≡ true → In (expr_goal (operator (suc (precedence op))) k y (after m) d)
-      → supported_in k.flags.module y ≡ true → mixes op x ≡ false → mixes op y ≡ false → (w : Scope) (f : List Fault) (h : Notes)
+      → supported_in k.flags.module y ≡ true → mixes op x ≡ false → mixes op y ≡ false → (w : Scope) (f : List Fault) (h : Notes) → Calm k w.labels y d
       → operated inner cover start x op (st m k w f h) ≡ Ok (tree.bin (record { lo = start.lo; hi = d.last.hi }) op x y, st d k w (f ++ walk (env_of k w.labels) y) (h ⊕ notes_of y))
   unfolding operated left_operand unmixed
-  left_grouped start op x y k m d g r s a b w f h = rw (g, given.reads (operator (suc (precedence op))) k y (after m) d r s w f h, a, b) refl
+  left_grouped start op x y k m d g r s a b w f h q = rw (g, given.reads (operator (suc (precedence op))) k y (after m) d r s w f h q, a, b) refl
 
   power_grouped : (start : Span) (x y : Tree) (k : Code) (m d : Place) → is_unary x ≡ false → In (expr_goal (operator (precedence binary.Exp)) k y (after m) d) → supported_in k.flags.module y ≡ true
-      → (w : Scope) (f : List Fault) (h : Notes)
+      → (w : Scope) (f : List Fault) (h : Notes) → Calm k w.labels y d
       → operated inner cover start x binary.Exp (st m k w f h) ≡ Ok (tree.bin (record { lo = start.lo; hi = d.last.hi }) binary.Exp x y, st d k w (f ++ walk (env_of k w.labels) y) (h ⊕ notes_of y))
   unfolding operated left_operand unmixed
-  power_grouped start x y k m d u r s w f h = rw (u, given.reads (operator (precedence binary.Exp)) k y (after m) d r s w f h, power_mixes x, power_mixes y) refl
+  power_grouped start x y k m d u r s w f h q = rw (u, given.reads (operator (precedence binary.Exp)) k y (after m) d r s w f h q, power_mixes x, power_mixes y) refl
 
   operator_more : (l : ℕ) (start : Span) (op : BinaryOp) (x y : Tree) (k : Code) (m d : Place) (w : Scope) (f : List Fault) (h : Notes) (i : List Fault) (j : Notes) → operator_at l (st m k w f h) ≡ Some op
       → operated inner cover start x op (st m k w f h) ≡ Ok (y, st d k w i j) → binary_from inner cover l start x (st m k w f h) ≡ binary_from inner cover l start y (st d k w i j)
@@ -283,47 +297,47 @@ module _ (In : Goal → Type 0) (inner : Class → Reader Tree) (cover : Reader 
 
   -- What was read so far is reached by the loop of any operators that bind no more tightly.
   binary_reached : (l : ℕ) (k : Code) (n : ℕ) (x : Tree) (c d : Place) → l ≤ n → BinaryRule In k n x c d → supported_in k.flags.module x ≡ true → continues_unary x d ≡ false → (w : Scope) (f : List Fault) (h : Notes)
-      → binary_expr inner cover function l (st c k w f h) ≡ binary_from inner cover l (span_at c) x (st d k w (f ++ walk (env_of k w.labels) x) (h ⊕ notes_of x))
+      → Calm k w.labels x d → binary_expr inner cover function l (st c k w f h) ≡ binary_from inner cover l (span_at c) x (st d k w (f ++ walk (env_of k w.labels) x) (h ⊕ notes_of x))
   unfolding binary_expr spanned
-  binary_reached l k n x c d b (rules.single_rule r) s e w f h = rw (unary_reads k x c d r s e w f h) refl
-  binary_reached l k n x c d b (rules.left_rule op y z m p g o r i q u v j) s e w f h =
+  binary_reached l k n x c d b (rules.single_rule r) s e w f h a = rw (unary_reads k x c d r s e w f h a) refl
+  binary_reached l k n x c d b (rules.left_rule op y z m p g o r i q u v j) s e w f h a =
       let t = and_yes (supported_in k.flags.module y) _ (supported_as _ x (tree.bin (spanned c d) op y z) j s) in
       let below : l ≤ precedence op = omega arith in
       let f' = f ++ walk (env_of k w.labels) y in
       let h' = h ⊕ notes_of y in
-      binary_reached l k (precedence op) y c m below r t.0 (stops_unary y m (operator_stops m op i)) w f h
+      binary_reached l k (precedence op) y c m below r t.0 (stops_unary y m (operator_stops m op i)) w f h (inr (operator_calm m op i))
       ∙ operator_more l (span_at c) op y (tree.bin (spanned c d) op y z) k m d w f' h' (f' ++ walk (env_of k w.labels) z) (h' ⊕ notes_of z)
-      (bound l op m k w f' h' i o below) (left_grouped (span_at c) op y z k m d g q t.1 u v w f' h')
+      (bound l op m k w f' h' i o below) (left_grouped (span_at c) op y z k m d g q t.1 u v w f' h' (calm_last d (walk (env_of k w.labels) y) (walk (env_of k w.labels) z) _ (ap (walk (env_of k w.labels)) j) a))
       ∙ rw (j, append_assoc f _ _, append_assoc h.held_back _ _, or_assoc h.found_module_item _ _) refl
-  binary_reached l k n x c d b (rules.power_rule y z m p r a i q j) s e w f h =
+  binary_reached l k n x c d b (rules.power_rule y z m p r a i q j) s e w f h u =
       let t = and_yes (supported_in k.flags.module y) _ (supported_as _ x (tree.bin (spanned c d) binary.Exp y z) j s) in
       let below : l ≤ precedence binary.Exp = omega arith in
       let o : binary_operator (kind_at m) ≡ Some binary.Exp = rw i refl in
       let f' = f ++ walk (env_of k w.labels) y in
       let h' = h ⊕ notes_of y in
-      rw (unary_reads k y c m r t.0 (stops_unary y m (operator_stops m binary.Exp o)) w f h)
+      rw (unary_reads k y c m r t.0 (stops_unary y m (operator_stops m binary.Exp o)) w f h (inr (operator_calm m binary.Exp o)))
       (operator_more l (span_at c) binary.Exp y (tree.bin (spanned c d) binary.Exp y z) k m d w f' h' (f' ++ walk (env_of k w.labels) z) (h' ⊕ notes_of z)
-      (bound l binary.Exp m k w f' h' o refl below) (power_grouped (span_at c) y z k m d a q t.1 w f' h')
+      (bound l binary.Exp m k w f' h' o refl below) (power_grouped (span_at c) y z k m d a q t.1 w f' h' (calm_last d (walk (env_of k w.labels) y) (walk (env_of k w.labels) z) _ (ap (walk (env_of k w.labels)) j) u))
       ∙ rw (j, append_assoc f _ _, append_assoc h.held_back _ _, or_assoc h.found_module_item _ _) refl)
 
   binary_reads : (l : ℕ) (k : Code) (x : Tree) (c d : Place) → BinaryRule In k l x c d → supported_in k.flags.module x ≡ true → continues_unary x d ≡ false → binds k l (binary_operator (kind_at d)) ≡ false
-      → Reads (binary_expr inner cover function l) k x c d
-  binary_reads l k x c d r s e b w f h =
+      → ReadsCalm (binary_expr inner cover function l) k x c d
+  binary_reads l k x c d r s e b w f h q =
       let f' = f ++ walk (env_of k w.labels) x in
       let h' = h ⊕ notes_of x in
-      binary_reached l k l x c d (omega arith) r s e w f h ∙ operators_stop l (span_at c) x (st d k w f' h') (unbound l d k w f' h' b)
+      binary_reached l k l x c d (omega arith) r s e w f h q ∙ operators_stop l (span_at c) x (st d k w f' h') (unbound l d k w f' h' b)
 
   -- ---- AssignmentExpression
 
-  operators_read : (k : Code) (x : Tree) (c d : Place) → BinaryRule In k 1 x c d → supported_in k.flags.module x ≡ true → continues_assignment k x c d ≡ false → Reads (operators_expr inner cover function) k x c d
+  operators_read : (k : Code) (x : Tree) (c d : Place) → BinaryRule In k 1 x c d → supported_in k.flags.module x ≡ true → continues_assignment k x c d ≡ false → ReadsCalm (operators_expr inner cover function) k x c d
   unfolding operators_expr behind_operators unheaded continues_assignment continues_operand continues_conditional
-  operators_read k x c d r s e w f h =
+  operators_read k x c d r s e w f h q =
       let (operand, more) = or_no _ _ e in
       let (unary_ends, operators) = or_no (continues_unary x d) _ operand in
       let (question, others) = or_no (sees kind.QuestionMark d) _ more in
       let (assigns, heads) = or_no (is_some (assign_operator (kind_at d))) _ others in
       rw (
-        binary_reads 1 k x c d r s unary_ends operators w f h,
+        binary_reads 1 k x c d r s unary_ends operators w f h q,
         question,
         unassigned_at d assigns,
         headless x k c d w (f ++ walk (env_of k w.labels) x) (h ⊕ notes_of x) heads,
@@ -331,31 +345,31 @@ module _ (In : Goal → Type 0) (inner : Class → Reader Tree) (cover : Reader 
 
   conditional_reads : (test yes_case no_case : Tree) (i j : Place) (k : Code) (x : Tree) (c d : Place) → BinaryRule In k 1 test c i → kind_at i ≡ kind.QuestionMark
       → In (expr_goal assignment (with_in k) yes_case (after i) j) → kind_at j ≡ kind.Colon → In (expr_goal assignment k no_case (after j) d) → continues_conditional d ≡ false
-      → supported_in k.flags.module test ≡ true → supported_in k.flags.module yes_case ≡ true → supported_in k.flags.module no_case ≡ true → x ≡ tree.cond (spanned c d) test yes_case no_case → Reads (operators_expr inner cover function) k x c d
+      → supported_in k.flags.module test ≡ true → supported_in k.flags.module yes_case ≡ true → supported_in k.flags.module no_case ≡ true → x ≡ tree.cond (spanned c d) test yes_case no_case → ReadsCalm (operators_expr inner cover function) k x c d
   unfolding operators_expr behind_operators conditional unassigned spanned
-  conditional_reads test yes_case no_case i j k x c d r q a b o u s t v e w f h =
+  conditional_reads test yes_case no_case i j k x c d r q a b o u s t v e w f h z =
       let env = env_of k w.labels in
       rw (
-        binary_reads 1 k test c i r s (stops_unary test i (question_stops i q)) (rw q refl) w f h,
+        binary_reads 1 k test c i r s (stops_unary test i (question_stops i q)) (rw q refl) w f h (inr (ap is_error q)),
         seen i kind.QuestionMark q,
-        inside_reads In inner cover given assignment k yes_case (after i) j a t w (f ++ walk env test) (h ⊕ notes_of test),
+        inside_reads In inner cover given assignment k yes_case (after i) j a t w (f ++ walk env test) (h ⊕ notes_of test) (inr (ap is_error b)),
         expect_reads kind.Colon j k w ((f ++ walk env test) ++ walk env yes_case) ((h ⊕ notes_of test) ⊕ notes_of yes_case) b,
-        given.reads assignment k no_case (after j) d o v w ((f ++ walk env test) ++ walk env yes_case) ((h ⊕ notes_of test) ⊕ notes_of yes_case),
+        given.reads assignment k no_case (after j) d o v w ((f ++ walk env test) ++ walk env yes_case) ((h ⊕ notes_of test) ⊕ notes_of yes_case) (calm_last d (walk env test ++ walk env yes_case) (walk env no_case) _ (ap (walk env) e) z),
         u,
         e,
       ) (simp (append_assoc, or_assoc) refl)
 
   assigned_reads : (op : AssignOp) (x y : Tree) (m : Place) (k : Code) (z : Tree) (c d : Place) → OperandRule In k x c m → is_simple_target x ≡ true → assign_operator (kind_at m) ≡ Some op
-      → In (expr_goal assignment k y (after m) d) → supported_in k.flags.module x ≡ true → supported_in k.flags.module y ≡ true → z ≡ tree.assign (spanned c d) op x y → Reads (operators_expr inner cover function) k z c d
+      → In (expr_goal assignment k y (after m) d) → supported_in k.flags.module x ≡ true → supported_in k.flags.module y ≡ true → z ≡ tree.assign (spanned c d) op x y → ReadsCalm (operators_expr inner cover function) k z c d
   unfolding operators_expr behind_operators assigned assigned_to spanned
-  assigned_reads op x y m k z c d r g o q s t e w f h =
+  assigned_reads op x y m k z c d r g o q s t e w f h u =
       let apart = assign_seen m op o in
       rw (
-        binary_reads 1 k x c m (rules.single_rule (rules.operand_rule r)) s (stops_unary x m (assign_stops m op o)) (rw apart.0 refl) w f h,
+        binary_reads 1 k x c m (rules.single_rule (rules.operand_rule r)) s (stops_unary x m (assign_stops m op o)) (rw apart.0 refl) w f h (inr (assign_calm m op o)),
         apart.1,
         o,
         g,
-        given.reads assignment k y (after m) d q t w (f ++ walk (env_of k w.labels) x) (h ⊕ notes_of x),
+        given.reads assignment k y (after m) d q t w (f ++ walk (env_of k w.labels) x) (h ⊕ notes_of x) (calm_last d (walk (env_of k w.labels) x) (walk (env_of k w.labels) y) _ (ap (walk (env_of k w.labels)) e) u),
         e,
       ) (simp (append_assoc, or_assoc) refl)
 
@@ -367,8 +381,8 @@ module _ (In : Goal → Type 0) (inner : Class → Reader Tree) (cover : Reader 
 
   -- An operand begins with no word of its own, with no name before `=>` and with none behind `async`; what stands in parentheses, or
   -- in those of a call of `async`, is read part by part.
-  plain_reads : (k : Code) (x : Tree) (c d : Place) → Reads (operators_expr inner cover function) k x c d → Reads (plain_expr inner cover function) k x c d
-  plain_reads k x c d r w f h = by_kind (sees kind.LParen c) (begins_async_call c) refl refl
+  plain_reads : (k : Code) (x : Tree) (c d : Place) → ReadsCalm (operators_expr inner cover function) k x c d → ReadsCalm (plain_expr inner cover function) k x c d
+  plain_reads k x c d r w f h q = by_kind (sees kind.LParen c) (begins_async_call c) refl refl
     where
       s : State
       s = st c k w f h
@@ -378,10 +392,10 @@ module _ (In : Goal → Type 0) (inner : Class → Reader Tree) (cover : Reader 
 
       by_kind : (b g : Bool) → sees kind.LParen c ≡ b → begins_async_call c ≡ g → plain_expr inner cover function s ≡ Ok (x, t)
       by_kind true g e i = let o = saw c kind.LParen e in
-          plain_grouped inner cover function s o ∙ operators_grouped inner function cover given.tied given.parts s o x t (r w f h)
-      by_kind false true e i = plain_async_grouped inner cover function s i ∙ operators_async_grouped inner cover given.tied given.parts function s i x t (r w f h)
-      by_kind false false e i = plain_operators inner cover function s (never_yields inner cover function s x t (r w f h)) (never_named inner cover function s x t (r w f h)) e
-          (never_async_named inner cover function s x t (r w f h)) i ∙ r w f h
+          plain_grouped inner cover function s o ∙ operators_grouped inner function cover given.tied given.parts s o x t (r w f h q)
+      by_kind false true e i = plain_async_grouped inner cover function s i ∙ operators_async_grouped inner cover given.tied given.parts function s i x t (r w f h q)
+      by_kind false false e i = plain_operators inner cover function s (never_yields inner cover function s x t (r w f h q)) (never_named inner cover function s x t (r w f h q)) e
+          (never_async_named inner cover function s x t (r w f h q)) i ∙ r w f h q
 
   bare_yield_reads : (k : Code) (x : Tree) (c d : Place) → k.flags.in_generator ≡ true → kind_at c ≡ kind.Yield → d ≡ after c → continues_yield k d ≡ false → x ≡ tree.yield (spanned c d) tree.absent false
       → Reads (plain_expr inner cover function) k x c d
@@ -393,25 +407,25 @@ module _ (In : Goal → Type 0) (inner : Class → Reader Tree) (cover : Reader 
       by_line false b = let (star, more) = or_no (sees kind.Mul (after c)) _ (subst (λ z. (not z && (sees kind.Mul (after c) || begins_expression k.flags (after c))) ≡ false) b (subst (λ z. continues_yield k z ≡ false) n t)) in rw (b, star, more) refl
 
   yield_reads : (y : Tree) (k : Code) (x : Tree) (c d : Place) → k.flags.in_generator ≡ true → kind_at c ≡ kind.Yield → breaks_at (after c) ≡ false → begins_expression k.flags (after c) ≡ true
-      → In (expr_goal assignment k y (after c) d) → supported_in k.flags.module y ≡ true → x ≡ tree.yield (spanned c d) y false → Reads (plain_expr inner cover function) k x c d
+      → In (expr_goal assignment k y (after c) d) → supported_in k.flags.module y ≡ true → x ≡ tree.yield (spanned c d) y false → ReadsCalm (plain_expr inner cover function) k x c d
   unfolding plain_expr yield_expr behind_yield yielded spanned
-  yield_reads y k x c d g i b t r s e w f h = rw (
+  yield_reads y k x c d g i b t r s e w f h q = rw (
     yields_here k c g i,
     b,
     begun_no_star k.flags (after c) t,
     t,
-    given.reads assignment k y (after c) d r s w f h,
+    given.reads assignment k y (after c) d r s w f h (calm_same d _ _ (ap (walk (env_of k w.labels)) e) q),
     e,
   ) refl
 
   delegate_reads : (y : Tree) (k : Code) (x : Tree) (c d : Place) → k.flags.in_generator ≡ true → kind_at c ≡ kind.Yield → breaks_at (after c) ≡ false → kind_at (after c) ≡ kind.Mul
-      → In (expr_goal assignment k y (after (after c)) d) → supported_in k.flags.module y ≡ true → x ≡ tree.yield (spanned c d) y true → Reads (plain_expr inner cover function) k x c d
+      → In (expr_goal assignment k y (after (after c)) d) → supported_in k.flags.module y ≡ true → x ≡ tree.yield (spanned c d) y true → ReadsCalm (plain_expr inner cover function) k x c d
   unfolding plain_expr yield_expr behind_yield yielded spanned
-  delegate_reads y k x c d g i b m r s e w f h = rw (
+  delegate_reads y k x c d g i b m r s e w f h q = rw (
     yields_here k c g i,
     b,
     seen (after c) kind.Mul m,
-    given.reads assignment k y (after (after c)) d r s w f h,
+    given.reads assignment k y (after (after c)) d r s w f h (calm_same d _ _ (ap (walk (env_of k w.labels)) e) q),
     e,
   ) refl
 
@@ -424,11 +438,11 @@ module _ (In : Goal → Type 0) (inner : Class → Reader Tree) (cover : Reader 
   commaless s v t g (inr (inr o)) = ap (λ (u : Cover). u.comma) o.is
 
   -- what is read as an expression is read as what may still become a pattern
-  kept : (k : Code) (x : Tree) (c d : Place) → Reads (plain_expr inner cover function) k x c d → ReadsAs (AsWhole x) (cover_expr inner cover function) k x c d
-  kept k x c d r w f h =
+  kept : (k : Code) (x : Tree) (c d : Place) → ReadsCalm (plain_expr inner cover function) k x c d → ReadsAsCalm (AsWhole x) (cover_expr inner cover function) k x c d
+  kept k x c d r w f h q =
       let s = st c k w f h in
       let t = st d k w (f ++ walk (env_of k w.labels) x) (h ⊕ notes_of x) in
-      let o = plain_cover inner cover function s x t (r w f h) in
+      let o = plain_cover inner cover function s x t (r w f h q) in
       record { value = o.v; holds = (o.is, o.unmarked, λ g. commaless s o.v t (ap is_literal o.is ∙ g) (cover_is inner cover function s o.v t o.reads)); is = o.reads }
 
   -- an array or object that is a pattern
@@ -446,9 +460,9 @@ module _ (In : Goal → Type 0) (inner : Class → Reader Tree) (cover : Reader 
   -- one that is assigned to
   destructured : (p y : Tree) (m : Place) (k : Code) (c d : Place) → PatternRule In assigning k p c m → is_pattern_target p ≡ true → kind_at m ≡ kind.Assign
       → In (expr_goal assignment k y (after m) d) → supported_in k.flags.module p ≡ true → supported_in k.flags.module y ≡ true
-      → ReadsAs (AsWhole (tree.assign (spanned c d) assign.Assign p y)) (cover_expr inner cover function) k (tree.assign (spanned c d) assign.Assign p y) c d
+      → ReadsAsCalm (AsWhole (tree.assign (spanned c d) assign.Assign p y)) (cover_expr inner cover function) k (tree.assign (spanned c d) assign.Assign p y) c d
   unfolding assigned_to spanned
-  destructured p y m k c d r g e q s t w f h =
+  destructured p y m k c d r g e q s t w f h z =
       let (first, reads) = literal_reads k p c m r g s in
       let v = reads w f h in
       let f' = f ++ walk (env_of k w.labels) p in
@@ -464,7 +478,7 @@ module _ (In : Goal → Type 0) (inner : Class → Reader Tree) (cover : Reader 
         equals = seen m kind.Assign e;
         no_comma = v.holds.2;
         is_target = v.holds.0;
-        value = rw (given.reads assignment k y (after m) d q t w f' h') refl;
+        value = rw (given.reads assignment k y (after m) d q t w f' h' (calm_last d (walk (env_of k w.labels) p) (walk (env_of k w.labels) y) (walk (env_of k w.labels) x) refl z)) refl;
         is = refl;
       } in
       record {
@@ -473,29 +487,29 @@ module _ (In : Goal → Type 0) (inner : Class → Reader Tree) (cover : Reader 
         is = assigns_cover inner cover function (st c k w f h) (done x) (st d k w (f' ++ walk (env_of k w.labels) y) (h' ⊕ notes_of y)) u ∙ rw (append_assoc f _ _, append_assoc h.held_back _ _, or_assoc h.found_module_item _ _) refl;
       }
 
-  pub whole_reads : (k : Code) (x : Tree) (c d : Place) → AssignmentRule In k x c d → supported_in k.flags.module x ≡ true → ReadsAs (AsWhole x) (cover_expr inner cover function) k x c d
-  whole_reads k x c d (rules.operators_rule r e) s w f h = kept k x c d (plain_reads k x c d (operators_read k x c d r s e)) w f h
-  whole_reads k x c d (rules.conditional_rule t y z i j r q a b o u e) s w f h =
+  pub whole_reads : (k : Code) (x : Tree) (c d : Place) → AssignmentRule In k x c d → supported_in k.flags.module x ≡ true → ReadsAsCalm (AsWhole x) (cover_expr inner cover function) k x c d
+  whole_reads k x c d (rules.operators_rule r e) s w f h l = kept k x c d (plain_reads k x c d (operators_read k x c d r s e)) w f h l
+  whole_reads k x c d (rules.conditional_rule t y z i j r q a b o u e) s w f h l =
       let p = and_yes (supported_in k.flags.module t) _ (supported_as _ x (tree.cond (spanned c d) t y z) e s) in
       let p' = and_yes (supported_in k.flags.module y) _ p.1 in
-      kept k x c d (plain_reads k x c d (conditional_reads t y z i j k x c d r q a b o u p.0 p'.0 p'.1 e)) w f h
-  whole_reads k x c d (rules.assign_rule op y z m r t o q e) s w f h =
+      kept k x c d (plain_reads k x c d (conditional_reads t y z i j k x c d r q a b o u p.0 p'.0 p'.1 e)) w f h l
+  whole_reads k x c d (rules.assign_rule op y z m r t o q e) s w f h l =
       let p = and_yes (supported_in k.flags.module y) _ (supported_as _ x (tree.assign (spanned c d) op y z) e s) in
-      kept k x c d (plain_reads k x c d (assigned_reads op y z m k x c d r t o q p.0 p.1 e)) w f h
-  whole_reads k x c d (rules.destructuring_rule y z m r t a b e) s w f h =
+      kept k x c d (plain_reads k x c d (assigned_reads op y z m k x c d r t o q p.0 p.1 e)) w f h l
+  whole_reads k x c d (rules.destructuring_rule y z m r t a b e) s w f h l =
       let p = and_yes (supported_in k.flags.module y) _ (supported_as _ x (tree.assign (spanned c d) assign.Assign y z) e s) in
-      rw e (destructured y z m k c d r t a b p.0 p.1 w f h)
-  whole_reads k x c d (rules.arrow_rule a ps y i j v r t b u e) s w f h =
-      kept k x c d (arrow_reads In inner cover given function functions a ps y i j k x c d v r t b u e s) w f h
-  whole_reads k x c d (rules.bare_yield_rule g i n t e) s w f h = kept k x c d (bare_yield_reads k x c d g i n t e) w f h
-  whole_reads k x c d (rules.yield_rule y g i b t r e) s w f h =
-      kept k x c d (yield_reads y k x c d g i b t r (supported_as _ x (tree.yield (spanned c d) y false) e s) e) w f h
-  whole_reads k x c d (rules.delegate_rule y g i b m r e) s w f h =
-      kept k x c d (delegate_reads y k x c d g i b m r (supported_as _ x (tree.yield (spanned c d) y true) e s) e) w f h
+      rw e (destructured y z m k c d r t a b p.0 p.1 w f h (calm_same d _ _ (ap (walk (env_of k w.labels)) e) l))
+  whole_reads k x c d (rules.arrow_rule a ps y i j v r t b u e) s w f h l =
+      kept k x c d (arrow_reads In inner cover given function functions a ps y i j k x c d v r t b u e s) w f h l
+  whole_reads k x c d (rules.bare_yield_rule g i n t e) s w f h l = kept k x c d (λ w f h l. bare_yield_reads k x c d g i n t e w f h) w f h l
+  whole_reads k x c d (rules.yield_rule y g i b t r e) s w f h l =
+      kept k x c d (yield_reads y k x c d g i b t r (supported_as _ x (tree.yield (spanned c d) y false) e s) e) w f h l
+  whole_reads k x c d (rules.delegate_rule y g i b m r e) s w f h l =
+      kept k x c d (delegate_reads y k x c d g i b m r (supported_as _ x (tree.yield (spanned c d) y true) e s) e) w f h l
 
-  assignment_reads : (k : Code) (x : Tree) (c d : Place) → AssignmentRule In k x c d → supported_in k.flags.module x ≡ true → Reads (assignment_expr inner cover function) k x c d
-  assignment_reads k x c d r s w f h =
-      let v = whole_reads k x c d r s w f h in
+  assignment_reads : (k : Code) (x : Tree) (c d : Place) → AssignmentRule In k x c d → supported_in k.flags.module x ≡ true → ReadsCalm (assignment_expr inner cover function) k x c d
+  assignment_reads k x c d r s w f h q =
+      let v = whole_reads k x c d r s w f h q in
       let t = st d k w (f ++ walk (env_of k w.labels) x) (h ⊕ notes_of x) in
       covers.assignment_reads inner cover function (st c k w f h) v.value t v.is v.holds.1 ∙ ap (λ z. Ok (z, t)) v.holds.0
 
@@ -520,7 +534,7 @@ module _ (In : Goal → Type 0) (inner : Class → Reader Tree) (cover : Reader 
       let r = operators_read k l.e c d (rules.single_rule (rules.operand_rule l.reads_leaf)) (leaf_is_supported k.flags.module l.e p l.is s) (t.leaf_ends l.e l.is) in
       let e = leaf_element l.e l.simple ∙ ap Some (sym l.is) in
       pattern_end (AsBare p d) (cover_expr inner cover function (st c k w f h)) l.e p k d w f h e
-      (gets_also (AsWhole l.e) (AsBare p d) _ _ (kept k l.e c d (plain_reads k l.e c d r) w f h) (λ v q. (
+      (gets_also (AsWhole l.e) (AsBare p d) _ _ (kept k l.e c d (plain_reads k l.e c d r) w f h (inr t.calm)) (λ v q. (
         ap as_target q.0 ∙ leaf_target l.e l.simple ∙ ap Some (sym l.is),
         ap as_element q.0 ∙ e,
         q.2 (leaf_no_literal l.e l.simple),
@@ -551,18 +565,21 @@ module _ (In : Goal → Type 0) (inner : Class → Reader Tree) (cover : Reader 
   -- ---- patterns with a default
 
   default_by : (b : Bool) (p y : Tree) (m : Place) (k : Code) (c d : Place) → is_pattern_target p ≡ b → PatternRule In assigning k p c m → kind_at m ≡ kind.Assign
-      → In (expr_goal assignment k y (after m) d) → supported_in k.flags.module p ≡ true → supported_in k.flags.module y ≡ true
+      → In (expr_goal assignment k y (after m) d) → supported_in k.flags.module p ≡ true → supported_in k.flags.module y ≡ true → is_error (kind_at d) ≡ false
       → ReadsAs (AsElement (tree.assign_pat (spanned c d) p y)) (cover_expr inner cover function) k (tree.assign_pat (spanned c d) p y) c d
   unfolding same_kind
-  default_by true p y m k c d g r e q s t w f h =
-      as_whole (cover_expr inner cover function) (tree.assign (spanned c d) assign.Assign p y) (tree.assign_pat (spanned c d) p y) k c d
-      (ap (λ z. Some (tree.assign_pat (spanned c d) z y)) (left_target p g)) refl (destructured p y m k c d r g e q s t) w f h
-  default_by false p y m k c d g r e q s t w f h =
+  default_by true p y m k c d g r e q s t o w f h =
+      let x = tree.assign (spanned c d) assign.Assign p y in
+      as_whole (cover_expr inner cover function) x (tree.assign_pat (spanned c d) p y) k c d
+      (ap (λ z. Some (tree.assign_pat (spanned c d) z y)) (left_target p g)) refl
+      (settled_as (AsWhole x) (cover_expr inner cover function) k x c d o (destructured p y m k c d r g e q s t)) w f h
+  default_by false p y m k c d g r e q s t o w f h =
       let l = leaf_of k p c m r g (rw e refl) in
       let x = tree.assign (spanned c d) assign.Assign l.e y in
       as_whole (cover_expr inner cover function) x (tree.assign_pat (spanned c d) p y) k c d
       (ap (λ z. Some (tree.assign_pat (spanned c d) z y)) (left_leaf l.e l.simple ∙ sym l.is)) refl
-      (kept k x c d (plain_reads k x c d (assigned_reads assign.Assign l.e y m k x c d l.reads_leaf l.simple (rw e refl) q (leaf_is_supported k.flags.module l.e p l.is s) t refl))) w f h
+      (settled_as (AsWhole x) (cover_expr inner cover function) k x c d o
+      (kept k x c d (plain_reads k x c d (assigned_reads assign.Assign l.e y m k x c d l.reads_leaf l.simple (rw e refl) q (leaf_is_supported k.flags.module l.e p l.is s) t refl)))) w f h
 
   -- an element of a pattern, where `in` is an operator
   element_reads : (k : Code) (p : Tree) (c d : Place) → PatternElementRule In assigning (with_in k) p c d → supported_in k.flags.module p ≡ true → ends_part (kind_at d) ≡ true
@@ -571,7 +588,7 @@ module _ (In : Goal → Type 0) (inner : Class → Reader Tree) (cover : Reader 
       gets_also (AsBare p d) (AsElement p) _ _ (bare_reads (with_in k) p c d r s (part_closes (with_in k) p c d t) w f h) (λ v a. (a.1, a.2))
   element_reads k p c d (patterns.initialized_rule q y m r i v e) s t w f h =
       let g = and_yes (supported_in k.flags.module q) _ (supported_as _ p (tree.assign_pat (spanned c d) q y) e s) in
-      rw e (default_by (is_pattern_target q) q y m (with_in k) c d refl r i v g.0 g.1 w f h)
+      rw e (default_by (is_pattern_target q) q y m (with_in k) c d refl r i v g.0 g.1 (part_calm d t) w f h)
 
   target_reads : (k : Code) (p : Tree) (c d : Place) → PatternRule In assigning k p c d → supported_in k.flags.module p ≡ true → ends_part (kind_at d) ≡ true
       → ReadsAs (AsTarget p d) (cover_expr inner cover function) k p c d
@@ -581,59 +598,60 @@ module _ (In : Goal → Type 0) (inner : Class → Reader Tree) (cover : Reader 
 
   -- the parts of a sequence, from a comma on
   pub many_parts : (xs found : List Tree) (k : Code) (c d : Place) (w : Scope) (f : List Fault) (h : Notes) → ReadsSeparated (AssignmentRule In k) xs (after c) d → all_supported_in k.flags.module (trees xs) ≡ true
-      → loop (sequence_turn inner cover function) found (st c k w f h) ≡ Ok (found ++ xs, st d k w (f ++ walks (env_of k w.labels) false (trees xs)) (h ⊕ all_notes_of (trees xs)))
+      → (walks (env_of k w.labels) false (trees xs) ≡ []) ⊎ (is_error (kind_at d) ≡ false) → loop (sequence_turn inner cover function) found (st c k w f h) ≡ Ok (found ++ xs, st d k w (f ++ walks (env_of k w.labels) false (trees xs)) (h ⊕ all_notes_of (trees xs)))
   unfolding sequence_turn
-  many_parts [] found k c d w f h r s = absurd r
-  many_parts (x ∷ []) found k c d w f h (r, e) s =
+  many_parts [] found k c d w f h r s q = absurd r
+  many_parts (x ∷ []) found k c d w f h (r, e) s q =
       let t = (and_yes (supported_in k.flags.module x) _ s).0 in
       rw (append-nil (walk (env_of k w.labels) x), append-nil (notes x), or_nil (has_meta x))
       (loop_done (sequence_turn inner cover function) found (found ++ x ∷ []) (st c k w f h) (st d k w (f ++ walk (env_of k w.labels) x) (h ⊕ notes_of x))
-      (rw (assignment_reads k x (after c) d r t w f h, e) refl))
-  many_parts (x ∷ y ∷ ys) found k c d w f h (m, r, e, more) s =
+      (rw (assignment_reads k x (after c) d r t w f h (calm_first d (walk (env_of k w.labels) x) [] (walks (env_of k w.labels) false (trees (x ∷ []))) refl q), e) refl))
+  many_parts (x ∷ y ∷ ys) found k c d w f h (m, r, e, more) s q =
       let t = and_yes (supported_in k.flags.module x) _ s in
       let f' = f ++ walk (env_of k w.labels) x in
       let h' = h ⊕ notes_of x in
-      let one = assignment_reads k x (after c) m r t.0 w f h in
+      let one = assignment_reads k x (after c) m r t.0 w f h (inr (ap is_error e)) in
       let falls = assignment_falls inner cover given.falls given.cover_falls function functions.falls (st (after c) k w f h) in
       let fewer = shorter_by (length (after c).left) (assignment_expr inner cover function (st (after c) k w f h)) x (st m k w f' h') one falls in
       loop_more (sequence_turn inner cover function) found (found ++ x ∷ []) (st c k w f h) (st m k w f' h') (rw (one, seen m kind.Comma e) refl) (let b = moves c in omega arith)
-      ∙ many_parts (y ∷ ys) (found ++ x ∷ []) k m d w f' h' more t.1 ∙ simp (append_assoc, or_assoc) refl
+      ∙ many_parts (y ∷ ys) (found ++ x ∷ []) k m d w f' h' more t.1 (calm_last d (walk (env_of k w.labels) x) (walks (env_of k w.labels) false (trees (y ∷ ys))) (walks (env_of k w.labels) false (trees (x ∷ y ∷ ys))) refl q) ∙ simp (append_assoc, or_assoc) refl
 
   sequence_reads : (e : Tree) (es : List Tree) (m : Place) (k : Code) (x : Tree) (c d : Place) → AssignmentRule In k e c m → kind_at m ≡ kind.Comma
       → ReadsSeparated (AssignmentRule In k) es (after m) d → supported_in k.flags.module e ≡ true → all_supported_in k.flags.module (trees es) ≡ true → x ≡ tree.seq (spanned c d) (listed (e ∷ es))
-      → Reads (expression_expr inner cover function) k x c d
+      → ReadsCalm (expression_expr inner cover function) k x c d
   unfolding expression_expr sequence_from spanned
-  sequence_reads e es m k x c d r g more s t j w f h =
+  sequence_reads e es m k x c d r g more s t j w f h q =
       rw (
-        assignment_reads k e c m r s w f h,
+        assignment_reads k e c m r s w f h (inr (ap is_error g)),
         seen m kind.Comma g,
-        many_parts es (e ∷ []) k m d w (f ++ walk (env_of k w.labels) e) (h ⊕ notes_of e) more t,
+        many_parts es (e ∷ []) k m d w (f ++ walk (env_of k w.labels) e) (h ⊕ notes_of e) more t
+            (calm_last d (walk (env_of k w.labels) e) (walks (env_of k w.labels) false (trees es)) _ (ap (walk (env_of k w.labels)) j) q),
         j,
       ) (simp (append_assoc, or_assoc) refl)
 
-  single_reads : (k : Code) (x : Tree) (c d : Place) → AssignmentRule In k x c d → supported_in k.flags.module x ≡ true → sees kind.Comma d ≡ false → Reads (expression_expr inner cover function) k x c d
+  single_reads : (k : Code) (x : Tree) (c d : Place) → AssignmentRule In k x c d → supported_in k.flags.module x ≡ true → sees kind.Comma d ≡ false → ReadsCalm (expression_expr inner cover function) k x c d
   unfolding expression_expr
-  single_reads k x c d r s e w f h = rw (assignment_reads k x c d r s w f h, e) refl
+  single_reads k x c d r s e w f h q = rw (assignment_reads k x c d r s w f h q, e) refl
 
-  expression_reads : (k : Code) (x : Tree) (c d : Place) → ExpressionRule In k x c d → supported_in k.flags.module x ≡ true → Reads (expression_expr inner cover function) k x c d
-  expression_reads k x c d (rules.assignment_rule r e) s w f h = single_reads k x c d r s e w f h
-  expression_reads k x c d (rules.sequence_rule y z zs (m, r, g, more) e) s w f h =
+  expression_reads : (k : Code) (x : Tree) (c d : Place) → ExpressionRule In k x c d → supported_in k.flags.module x ≡ true → ReadsCalm (expression_expr inner cover function) k x c d
+  expression_reads k x c d (rules.assignment_rule r e) s w f h q = single_reads k x c d r s e w f h q
+  expression_reads k x c d (rules.sequence_rule y z zs (m, r, g, more) e) s w f h q =
       let p = and_yes (supported_in k.flags.module y) _ (supported_as _ x (tree.seq (spanned c d) (listed (y ∷ z ∷ zs))) e s) in
-      sequence_reads y (z ∷ zs) m k x c d r g more p.0 p.1 e w f h
+      sequence_reads y (z ∷ zs) m k x c d r g more p.0 p.1 e w f h q
 
   -- ---- an expression of a class
 
-  left_expr_reads : (k : Code) (x : Tree) (c d : Place) → LeftSideRule In k x c d → supported_in k.flags.module x ≡ true → continues_left_side d ≡ false → Reads (left_expr inner cover function) k x c d
+  left_expr_reads : (k : Code) (x : Tree) (c d : Place) → LeftSideRule In k x c d → supported_in k.flags.module x ≡ true → continues_left_side d ≡ false → ReadsCalm (left_expr inner cover function) k x c d
   unfolding left_expr closed_left
-  left_expr_reads k x c d r s e w f h = let t = stopped d e in rw (side_reads k x c d r s t.dot t.bracket t.paren w f h, e) refl
+  left_expr_reads k x c d r s e w f h q = let t = stopped d e in rw (side_reads k x c d r s t.dot t.bracket t.paren w f h q, e) refl
 
-  operator_reads : (n : ℕ) (k : Code) (x : Tree) (c d : Place) → BinaryRule In k n x c d → supported_in k.flags.module x ≡ true → continues_operand k n x d ≡ false → Reads (binary_expr inner cover function n) k x c d
+  operator_reads : (n : ℕ) (k : Code) (x : Tree) (c d : Place) → BinaryRule In k n x c d → supported_in k.flags.module x ≡ true → continues_operand k n x d ≡ false → ReadsCalm (binary_expr inner cover function n) k x c d
   unfolding continues_operand
-  operator_reads n k x c d r s e w f h = let (unary_ends, operators) = or_no (continues_unary x d) _ e in binary_reads n k x c d r s unary_ends operators w f h
+  operator_reads n k x c d r s e w f h q = let (unary_ends, operators) = or_no (continues_unary x d) _ e in binary_reads n k x c d r s unary_ends operators w f h q
 
   callee_reads : (k : Code) (x : Tree) (c d : Place) → sides.CalleeRule In k x c d → (sees kind.Dot d || sees kind.LBracket d) ≡ false → supported_in k.flags.module x ≡ true
-      → Reads (left inner cover function false) k x c d
-  callee_reads k x c d r e s w f h = left_reads In inner cover given function functions false k x c d r.0 s r.1 e refl w f h
+      → ReadsCalm (left inner cover function false) k x c d
+  callee_reads k x c d r e s w f h q = left_reads In inner cover given function functions false k x c d r.0 s r.1 e refl w f h q
 
 -- ---- within so many levels
 
@@ -652,23 +670,23 @@ bare_calls (suc n) k x c d r = r.0
 
 module _ (n : ℕ) (inner : Class → Reader Tree) (cover : Reader Cover) (given : IsRead (language.Reads n) inner cover) (function : FunctionForm → Reader Tree) (functions : IsFunctionRead (language.Reads n) function) where
   class_reads : (class : Class) (k : Code) (x : Tree) (c d : Place) → language.Reads (suc n) (expr_goal class k x c d) → supported_in k.flags.module x ≡ true
-      → Reads (expr_level inner cover function class) k x c d
+      → ReadsCalm (expr_level inner cover function class) k x c d
   unfolding expr_level
-  class_reads expression k x c d r s w f h = expression_reads (language.Reads n) inner cover given function functions k x c d r s w f h
-  class_reads assignment k x c d r s w f h = assignment_reads (language.Reads n) inner cover given function functions k x c d r s w f h
-  class_reads (operator m) k x c d r s w f h = operator_reads (language.Reads n) inner cover given function functions m k x c d r.0 s r.1 w f h
-  class_reads unary k x c d r s w f h = unary_reads (language.Reads n) inner cover given function functions k x c d r.0 s r.1 w f h
-  class_reads left_side k x c d r s w f h = left_expr_reads (language.Reads n) inner cover given function functions k x c d r.0 s r.1 w f h
-  class_reads callee k x c d r s w f h =
-      callee_reads (language.Reads n) inner cover given function functions k x c d (bare_calls (suc n) k x c d r) (bare_ends (suc n) k x c d r).0 s w f h
+  class_reads expression k x c d r s w f h q = expression_reads (language.Reads n) inner cover given function functions k x c d r s w f h q
+  class_reads assignment k x c d r s w f h q = assignment_reads (language.Reads n) inner cover given function functions k x c d r s w f h q
+  class_reads (operator m) k x c d r s w f h q = operator_reads (language.Reads n) inner cover given function functions m k x c d r.0 s r.1 w f h q
+  class_reads unary k x c d r s w f h q = unary_reads (language.Reads n) inner cover given function functions k x c d r.0 s r.1 w f h q
+  class_reads left_side k x c d r s w f h q = left_expr_reads (language.Reads n) inner cover given function functions k x c d r.0 s r.1 w f h q
+  class_reads callee k x c d r s w f h q =
+      callee_reads (language.Reads n) inner cover given function functions k x c d (bare_calls (suc n) k x c d r) (bare_ends (suc n) k x c d r).0 s w f h q
 
   level_calls : (k : Code) (x : Tree) (c d : Place) → language.Reads (suc n) (callee_goal k x c d) → (sees kind.Dot d || sees kind.LBracket d) ≡ false → supported_in k.flags.module x ≡ true
-      → Reads (expr_level inner cover function callee) k x c d
+      → ReadsCalm (expr_level inner cover function callee) k x c d
   unfolding expr_level
-  level_calls k x c d r e s w f h = callee_reads (language.Reads n) inner cover given function functions k x c d r e s w f h
+  level_calls k x c d r e s w f h q = callee_reads (language.Reads n) inner cover given function functions k x c d r e s w f h q
 
-  level_exprs : (k : Code) (x : Tree) (c d : Place) → language.Reads (suc n) (expr_goal assignment k x c d) → supported_in k.flags.module x ≡ true → ReadsAs (AsExpr x) (cover_expr inner cover function) k x c d
-  level_exprs k x c d r s w f h = gets_also (AsWhole x) (AsExpr x) _ _ (whole_reads (language.Reads n) inner cover given function functions k x c d r s w f h) (λ v a. (a.0, a.1))
+  level_exprs : (k : Code) (x : Tree) (c d : Place) → language.Reads (suc n) (expr_goal assignment k x c d) → supported_in k.flags.module x ≡ true → ReadsAsCalm (AsExpr x) (cover_expr inner cover function) k x c d
+  level_exprs k x c d r s w f h q = gets_also (AsWhole x) (AsExpr x) _ _ (whole_reads (language.Reads n) inner cover given function functions k x c d r s w f h q) (λ v a. (a.0, a.1))
 
   -- what is read in one level more, given what its parts are
   pub read_above : IsTied (expr_level inner cover function) (cover_expr inner cover function) → ReadsParts (cover_expr inner cover function)
@@ -713,7 +731,7 @@ read_nowhere inner cover falls cover_falls tied parts = record {
 }
 
 -- an expression of a class is
-pub class_is_read : (n : ℕ) (inner : Class → Reader Tree) (cover : Reader Cover) → IsRead (language.Reads n) inner cover → (class : Class) (k : Code) (x : Tree) (c d : Place) → ReadsClass n class k x c d → Reads (inner class) k x c d
+pub class_is_read : (n : ℕ) (inner : Class → Reader Tree) (cover : Reader Cover) → IsRead (language.Reads n) inner cover → (class : Class) (k : Code) (x : Tree) (c d : Place) → ReadsClass n class k x c d → ReadsCalm (inner class) k x c d
 class_is_read n inner cover given callee k x c d r = given.calls k x c d r.0 r.1 r.2
 class_is_read n inner cover given expression k x c d r = given.reads expression k x c d r.0 r.1
 class_is_read n inner cover given assignment k x c d r = given.reads assignment k x c d r.0 r.1

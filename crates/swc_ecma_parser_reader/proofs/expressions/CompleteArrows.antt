@@ -1,16 +1,17 @@
 -- Arrow functions of the language that do not begin with `async` are read, with the faults of the walk and the notes held back, and no others.
-use Rattle.std.proofs.Common.{◌≡◌, ◌<◌, inl, inr, Bool, true, false, List, [], ◌∷◌, ◌++◌, length, Ok, refl, sym, ◌∙◌, ap, arith, append_assoc, append-nil, subst}
+use Rattle.std.proofs.Common.{◌≡◌, ◌<◌, ◌⊎◌, inl, inr, Bool, true, false, List, [], ◌∷◌, ◌++◌, length, Ok, refl, sym, ◌∙◌, ap, arith, append_assoc, append-nil, subst}
 use Rattle.swc_ecma_parser_common.specs.declared.span.Span.{Span}
 use Rattle.swc_ecma_parser_error.specs.Kind.{Fault}
 use Rattle.swc_ecma_parser_token.specs.declared.kind.TokenKind.TheVariants as kind
 use Rattle.swc_ecma_parser_input.specs.Place.{Place, after}
 use Rattle.swc_ecma_parser_model.specs.Tree as tree
 use Rattle.swc_ecma_parser_model.specs.Tree.{Tree, listed, trees}
-use Rattle.swc_ecma_parser_model.specs.Forms.{is_rest, is_binding_name}
+use Rattle.swc_ecma_parser_model.specs.Forms.{is_rest, is_binding_name, has_plain_params}
 use Rattle.swc_ecma_parser_model.specs.Targets.{as_element, binds}
 use Rattle.swc_ecma_parser_grammar.specs.Looks.{kind_at, breaks_at, sees, same_kind, span_at, spanned}
 use Rattle.swc_ecma_parser_grammar.specs.Names.{Code, name_at}
 use Rattle.swc_ecma_parser_grammar.specs.Notes.{notes}
+use Rattle.swc_ecma_parser_grammar.specs.Own.{misplaced_directive}
 use Rattle.swc_ecma_parser_grammar.specs.Reads.{with_in}
 use Rattle.swc_ecma_parser_grammar.specs.Supported.{supported_in, all_supported_in}
 use Rattle.swc_ecma_parser_grammar.specs.Walk.{env_of, in_body, walk, walks}
@@ -29,7 +30,9 @@ use Rattle.swc_ecma_parser_reader.specs.Methods.{FunctionForm}
 use Rattle.swc_ecma_parser_reader.specs.Arrows.{Parts, Group, ended, with_rest, group_of, parameter, parameters_of, begins_named_arrow, arrow_body, arrow_from, named_arrow, rest_part, part_turn, group_parts, group, grouped}
 use Rattle.swc_ecma_parser_reader.specs.Expressions.{Cover, covered, plain_expr}
 use Rattle.swc_ecma_parser_reader.proofs.Notes.{or_nil, or_assoc}
-use Rattle.swc_ecma_parser_reader.proofs.Answered.{st, Reads, Gets, ReadsAs}
+use Rattle.swc_ecma_parser_reader.proofs.Answered.{st, Calm, ReadsCalm, Gets, ReadsAs}
+use Rattle.swc_ecma_parser_reader.proofs.Calm.{calm_first, calm_last, told_reads}
+use Rattle.swc_ecma_parser_reader.proofs.Errors.{is_error}
 use Rattle.swc_ecma_parser_reader.proofs.Takes.{moves}
 use Rattle.swc_ecma_parser_reader.proofs.Steps.{loop_more, loop_done}
 use Rattle.swc_ecma_parser_reader.proofs.expressions.Falls.{covered_falls}
@@ -37,9 +40,23 @@ use Rattle.swc_ecma_parser_reader.proofs.expressions.Loops.{shorter_by}
 use Rattle.swc_ecma_parser_reader.proofs.expressions.CompleteKinds.{supported_as, seen, begin_seen, ends_part}
 use Rattle.swc_ecma_parser_reader.proofs.expressions.Covers.{plain_named, plain_grouped}
 use Rattle.swc_ecma_parser_reader.proofs.expressions.NamedArrows.{name_no_yield}
-use Rattle.swc_ecma_parser_reader.proofs.expressions.CompleteParts.{expect_reads, AsElement, IsRead, IsFunctionRead, ReadsEnclosed, Behind, behind_last}
+use Rattle.swc_ecma_parser_reader.proofs.expressions.CompleteParts.{expect_reads, AsElement, IsRead, IsFunctionRead, Behind, behind_last}
 use Rattle.swc_ecma_parser_reader.proofs.expressions.CompleteCovers.{rest_ends, covered_reads}
 use Rattle.swc_ecma_parser_grammar.proofs.Ended.{ends_name}
+
+-- ---- the faults of a body
+
+-- with that of its directive behind them, if it comes too late
+abbrev pub body_faults : Code → Scope → List Tree → Tree → List Fault
+body_faults k w ps y = walk (in_body (env_of k w.labels)) y ++ misplaced_directive (has_plain_params (listed ps)) y
+
+-- they are the last of the arrow function's
+pub arrow_ends : (k : Code) (w : Scope) (ps : List Tree) (y x : Tree) (s : Span) (a : Bool) (d : Place) → x ≡ tree.arrow s (listed ps) y a → Calm k w.labels x d
+    → (body_faults k w ps y ≡ []) ⊎ (is_error (kind_at d) ≡ false)
+arrow_ends k w ps y x s a d e q =
+    let env = env_of k w.labels in
+    calm_last d (walk env (listed ps)) (body_faults k w ps y) (walk env x)
+    (ap (walk env) e ∙ append_assoc (walk env (listed ps)) (walk (in_body env) y) (misplaced_directive (has_plain_params (listed ps)) y)) q
 
 -- ---- as parameters
 
@@ -61,29 +78,38 @@ last_parameter v p found comma a b = (v ∷ [], refl, λ s. rw (parameter_reads 
 module _ (In : Goal → Type 0) (inner : Class → Reader Tree) (cover : Reader Cover) (given : IsRead In inner cover) (function : FunctionForm → Reader Tree) (functions : IsFunctionRead In function) where
   -- ---- from `=>` on
 
-  body_reads : (a : Bool) (k : Code) (x : Tree) (c d : Place) → ArrowBodyRule In k a x c d → supported_in k.flags.module x ≡ true → (k.flags.module ≡ true → notes x ≡ [])
-      → ReadsEnclosed (arrow_body inner function a) k x c d
+  body_reads : (a : Bool) (k : Code) (x : Tree) (c d : Place) (w : Scope) (f : List Fault) (h : Notes) → ArrowBodyRule In k a x c d → supported_in k.flags.module x ≡ true → (k.flags.module ≡ true → notes x ≡ [])
+      → (walk (in_body (env_of k w.labels)) x ≡ []) ⊎ (is_error (kind_at d) ≡ false) → arrow_body inner function a (st c k w f h)
+      ≡ Ok (x, st d k w (f ++ walk (in_body (env_of k w.labels)) x) (record { held_back = h.held_back ++ notes x; found_module_item = h.found_module_item }))
   unfolding arrow_body
-  body_reads a k x c d (block_body r) s q w f h = rw (seen c kind.LBrace r.opens) (functions.blocks a k x c d r s q w f h)
-  body_reads a k x c d (expression_body b r) s q w f h = rw (b, given.reads assignment (in_arrow k a) x c d r s (record w { labels = [] }) f h) refl
+  body_reads a k x c d w f h (block_body r) s q o = rw (seen c kind.LBrace r.opens) (functions.blocks a k x c d r s q w f h)
+  body_reads a k x c d w f h (expression_body b r) s q o = rw (b, given.reads assignment (in_arrow k a) x c d r s (record w { labels = [] }) f h o) refl
 
   pub from_reads : (a : Bool) (start : Span) (ps : List Tree) (y : Tree) (k : Code) (j d : Place) (w : Scope) (f : List Fault) (h : Notes) → breaks_at j ≡ false → ArrowBodyRule In k a y (after j) d
-      → SupportedArrow k.flags.module (listed ps) y → arrow_from inner function a start ps (st j k w f h)
-      ≡ Ok (tree.arrow (record { lo = start.lo; hi = d.last.hi }) (listed ps) y a, st d k w (f ++ walk (in_body (env_of k w.labels)) y) (record { held_back = h.held_back ++ notes y; found_module_item = h.found_module_item }))
+      → SupportedArrow k.flags.module (listed ps) y → (body_faults k w ps y ≡ []) ⊎ (is_error (kind_at d) ≡ false) → arrow_from inner function a start ps (st j k w f h)
+      ≡ Ok (tree.arrow (record { lo = start.lo; hi = d.last.hi }) (listed ps) y a, st d k w (f ++ body_faults k w ps y) (record { held_back = h.held_back ++ notes y; found_module_item = h.found_module_item }))
   unfolding arrow_from
-  from_reads a start ps y k j d w f h b r s = rw (b, body_reads a k y (after j) d r s.supports_body s.has_no_notes w f h, s.directs) refl
+  from_reads a start ps y k j d w f h b r s q =
+      let body = walk (in_body (env_of k w.labels)) y in
+      let l = misplaced_directive (has_plain_params (listed ps)) y in
+      rw (
+        b,
+        body_reads a k y (after j) d w f h r s.supports_body s.has_no_notes (calm_first d body l (body ++ l) refl q),
+        told_reads l d k w (f ++ body) _ (calm_last d body l (body ++ l) refl q),
+        append_assoc f body l,
+      ) refl
 
   -- ---- a name before `=>`
 
   named_reads : (p y : Tree) (j : Place) (k : Code) (x : Tree) (c d : Place) → In (pattern_goal binding k p c j) → is_binding_name p ≡ true → kind_at j ≡ kind.Arrow → breaks_at j ≡ false
       → ArrowBodyRule In k false y (after j) d → SupportedArrow k.flags.module (listed (p ∷ [])) y → x ≡ tree.arrow (spanned c d) (listed (p ∷ [])) y false
-      → Reads (plain_expr inner cover function) k x c d
+      → ReadsCalm (plain_expr inner cover function) k x c d
   unfolding named_arrow begins_named_arrow spanned
-  named_reads p y j k x c d r m t b u s e w f h =
+  named_reads p y j k x c d r m t b u s e w f h o =
       let q = (and_yes (supported_in k.flags.module p) _ s.supports_params).0 in
       let (n, i) = given.names k p c j r m q in
       plain_named inner cover function (st c k w f h) (name_no_yield k.flags c n) (and_both (name_at k.flags c) _ n (rw (← i) (seen j kind.Arrow t)))
-      ∙ rw (functions.patterns k p c j r q w f h, from_reads false (span_at c) (p ∷ []) y k j d w (f ++ walk (env_of k w.labels) p) (h ⊕ notes_of p) b u s, e, s.directs)
+      ∙ rw (functions.patterns k p c j r q w f h, from_reads false (span_at c) (p ∷ []) y k j d w (f ++ walk (env_of k w.labels) p) (h ⊕ notes_of p) b u s (arrow_ends k w (p ∷ []) y x (spanned c d) false d e o), e)
       (simp (append_assoc, append-nil, or_nil) refl)
 
   -- ---- parameters in parentheses
@@ -209,19 +235,19 @@ module _ (In : Goal → Type 0) (inner : Class → Reader Tree) (cover : Reader 
       let g = and_yes (supported_in k.flags.module p) _ s in (m, given.parameter k p c m r g.0 (ap ends_name i), a, i, parts_down k (q ∷ qs) (after m) d more g.1 t)
 
   grouped_reads : (ps : List Tree) (y : Tree) (j : Place) (k : Code) (x : Tree) (c d : Place) → ParametersRule In (with_in k) ps c j → kind_at j ≡ kind.Arrow → breaks_at j ≡ false
-      → ArrowBodyRule In k false y (after j) d → SupportedArrow k.flags.module (listed ps) y → x ≡ tree.arrow (spanned c d) (listed ps) y false → Reads (plain_expr inner cover function) k x c d
+      → ArrowBodyRule In k false y (after j) d → SupportedArrow k.flags.module (listed ps) y → x ≡ tree.arrow (spanned c d) (listed ps) y false → ReadsCalm (plain_expr inner cover function) k x c d
   unfolding grouped spanned
-  grouped_reads ps y j k x c d r t b u s e w f h =
+  grouped_reads ps y j k x c d r t b u s e w f h o =
       let g = group_reads ps r.close k c j (parts_down (with_in k) ps (after c) r.close r.reads_patterns s.supports_params r.closes) s.supports_params r.closes r.next w f h in
       let f' = f ++ walks (env_of k w.labels) false (trees ps) in
       let h' = h ⊕ all_notes_of (trees ps) in
       plain_grouped inner cover function (st c k w f h) r.opens
-      ∙ rw (g.is, seen j kind.Arrow t, g.holds (st j k w f' h'), from_reads false (span_at c) ps y k j d w f' h' b u s, e, s.directs) (simp (append_assoc, append-nil) refl)
+      ∙ rw (g.is, seen j kind.Arrow t, g.holds (st j k w f' h'), from_reads false (span_at c) ps y k j d w f' h' b u s (arrow_ends k w ps y x (spanned c d) false d e o), e) (simp (append_assoc, append-nil) refl)
 
   -- ---- either
 
   pub arrow_by : (ps : List Tree) (y : Tree) (j : Place) (k : Code) (x : Tree) (c d : Place) → ArrowHeadRule In k ps c j → kind_at j ≡ kind.Arrow → breaks_at j ≡ false → ArrowBodyRule In k false y (after j) d
-      → SupportedArrow k.flags.module (listed ps) y → x ≡ tree.arrow (spanned c d) (listed ps) y false → Reads (plain_expr inner cover function) k x c d
-  arrow_by ps y j k x c d (name_head p r m i) t b u s e w f h =
-      named_reads p y j k x c d r m t b u (subst (λ z. SupportedArrow k.flags.module (listed z) y) i s) (e ∙ ap (λ z. tree.arrow (spanned c d) (listed z) y false) i) w f h
-  arrow_by ps y j k x c d (parameters_head r) t b u s e w f h = grouped_reads ps y j k x c d r t b u s e w f h
+      → SupportedArrow k.flags.module (listed ps) y → x ≡ tree.arrow (spanned c d) (listed ps) y false → ReadsCalm (plain_expr inner cover function) k x c d
+  arrow_by ps y j k x c d (name_head p r m i) t b u s e w f h o =
+      named_reads p y j k x c d r m t b u (subst (λ z. SupportedArrow k.flags.module (listed z) y) i s) (e ∙ ap (λ z. tree.arrow (spanned c d) (listed z) y false) i) w f h o
+  arrow_by ps y j k x c d (parameters_head r) t b u s e w f h o = grouped_reads ps y j k x c d r t b u s e w f h o

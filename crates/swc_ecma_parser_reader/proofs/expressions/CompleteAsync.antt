@@ -32,7 +32,7 @@ use Rattle.swc_ecma_parser_reader.specs.Methods.{FunctionForm}
 use Rattle.swc_ecma_parser_reader.specs.AsyncArrows.{Argument, followed, argument_pattern, argument_parameter, argument_parameters, spread_argument, plain_argument, argument, either_turn, either_arguments, async_named_arrow, async_grouped}
 use Rattle.swc_ecma_parser_reader.specs.Expressions.{Cover, plain_expr}
 use Rattle.swc_ecma_parser_reader.proofs.Notes.{or_nil, or_assoc}
-use Rattle.swc_ecma_parser_reader.proofs.Answered.{st, Reads, Gets, ReadsAs}
+use Rattle.swc_ecma_parser_reader.proofs.Answered.{st, ReadsCalm, Gets, ReadsAs}
 use Rattle.swc_ecma_parser_reader.proofs.Takes.{moves}
 use Rattle.swc_ecma_parser_reader.proofs.Steps.{loop_more, loop_done}
 use Rattle.swc_ecma_parser_reader.proofs.expressions.Falls.{argument_falls}
@@ -41,7 +41,7 @@ use Rattle.swc_ecma_parser_reader.proofs.expressions.CompleteKinds.{supported_as
 use Rattle.swc_ecma_parser_reader.proofs.expressions.AsyncHeads.{async_arrow_begins, async_call_begins, plain_async_named, plain_async_grouped, async_name}
 use Rattle.swc_ecma_parser_reader.proofs.expressions.CompleteParts.{expect_reads, AsElement, AsTarget, IsRead, IsFunctionRead}
 use Rattle.swc_ecma_parser_reader.proofs.expressions.CompleteCovers.{covered_reads}
-use Rattle.swc_ecma_parser_reader.proofs.expressions.CompleteArrows.{from_reads, arrow_by}
+use Rattle.swc_ecma_parser_reader.proofs.expressions.CompleteArrows.{arrow_ends, from_reads, arrow_by}
 use Rattle.swc_ecma_parser_grammar.proofs.Ended.{ends_name}
 
 -- ---- as parameters
@@ -84,13 +84,19 @@ module _ (In : Goal → Type 0) (inner : Class → Reader Tree) (cover : Reader 
 
   async_named_reads : (p y : Tree) (j : Place) (k : Code) (x : Tree) (c d : Place) → word_at (codes "async") c ≡ true → breaks_at (after c) ≡ false → In (pattern_goal binding k p (after c) j)
       → is_binding_name p ≡ true → kind_at j ≡ kind.Arrow → breaks_at j ≡ false → ArrowBodyRule In k true y (after j) d → SupportedArrow k.flags.module (listed (p ∷ [])) y
-      → x ≡ tree.arrow (spanned c d) (listed (p ∷ [])) y true → Reads (plain_expr inner cover function) k x c d
+      → x ≡ tree.arrow (spanned c d) (listed (p ∷ [])) y true → ReadsCalm (plain_expr inner cover function) k x c d
   unfolding async_named_arrow spanned
-  async_named_reads p y j k x c d v l r m t b u s e w f h =
+  async_named_reads p y j k x c d v l r m t b u s e w f h o =
       let q = (and_yes (supported_in k.flags.module p) _ s.supports_params).0 in
       let n = (given.names k p (after c) j r m q).0 in
       plain_async_named inner cover function (st c k w f h) (async_arrow_begins k.flags c v l n)
-      ∙ rw (functions.patterns k p (after c) j r q w f h, seen j kind.Arrow t, from_reads In inner cover given function functions true (span_at c) (p ∷ []) y k j d w (f ++ walk (env_of k w.labels) p) (h ⊕ notes_of p) b u s, e, s.directs)
+      ∙ rw (
+        functions.patterns k p (after c) j r q w f h,
+        seen j kind.Arrow t,
+        from_reads In inner cover given function functions true (span_at c) (p ∷ []) y k j d w (f ++ walk (env_of k w.labels) p) (h ⊕ notes_of p) b u s
+            (arrow_ends k w (p ∷ []) y x (spanned c d) true d e o),
+        e,
+      )
       (simp (append_assoc, append-nil, or_nil) refl)
 
   -- ---- parameters in parentheses
@@ -229,33 +235,40 @@ module _ (In : Goal → Type 0) (inner : Class → Reader Tree) (cover : Reader 
 
   async_grouped_reads : (ps : List Tree) (y : Tree) (j : Place) (k : Code) (x : Tree) (c d : Place) → word_at (codes "async") c ≡ true → breaks_at (after c) ≡ false → ParametersRule In (with_in k) ps (after c) j
       → kind_at j ≡ kind.Arrow → breaks_at j ≡ false → ArrowBodyRule In k true y (after j) d → SupportedArrow k.flags.module (listed ps) y → x ≡ tree.arrow (spanned c d) (listed ps) y true
-      → Reads (plain_expr inner cover function) k x c d
+      → ReadsCalm (plain_expr inner cover function) k x c d
   unfolding async_grouped spanned
-  async_grouped_reads ps y j k x c d v l r t b u s e w f h =
+  async_grouped_reads ps y j k x c d v l r t b u s e w f h o =
       let n = async_name (st c k w f h) v in
       let g = either_reads ps r.close k (after c) j (items_down k ps (after (after c)) r.close r.reads_patterns s.supports_params r.closes) s.supports_params r.closes r.next w f h in
       let f' = f ++ walks (env_of k w.labels) false (trees ps) in
       let h' = h ⊕ all_notes_of (trees ps) in
       plain_async_grouped inner cover function (st c k w f h) (async_call_begins c v l r.opens)
-      ∙ rw (n.reads, g.is, seen j kind.Arrow t, g.holds (st j k w f' h'), from_reads In inner cover given function functions true (span_at c) ps y k j d w f' h' b u s, e, s.directs) (simp (append_assoc, append-nil) refl)
+      ∙ rw (
+        n.reads,
+        g.is,
+        seen j kind.Arrow t,
+        g.holds (st j k w f' h'),
+        from_reads In inner cover given function functions true (span_at c) ps y k j d w f' h' b u s (arrow_ends k w ps y x (spanned c d) true d e o),
+        e,
+      ) (simp (append_assoc, append-nil) refl)
 
   -- ---- an arrow function
 
   async_by : (ps : List Tree) (y : Tree) (j : Place) (k : Code) (x : Tree) (c d : Place) → word_at (codes "async") c ≡ true → breaks_at (after c) ≡ false → ArrowHeadRule In k ps (after c) j → kind_at j ≡ kind.Arrow
-      → breaks_at j ≡ false → ArrowBodyRule In k true y (after j) d → SupportedArrow k.flags.module (listed ps) y → x ≡ tree.arrow (spanned c d) (listed ps) y true → Reads (plain_expr inner cover function) k x c d
-  async_by ps y j k x c d v l (name_head p r m i) t b u s e w f h =
-      async_named_reads p y j k x c d v l r m t b u (subst (λ z. SupportedArrow k.flags.module (listed z) y) i s) (e ∙ ap (λ z. tree.arrow (spanned c d) (listed z) y true) i) w f h
-  async_by ps y j k x c d v l (parameters_head r) t b u s e w f h = async_grouped_reads ps y j k x c d v l r t b u s e w f h
+      → breaks_at j ≡ false → ArrowBodyRule In k true y (after j) d → SupportedArrow k.flags.module (listed ps) y → x ≡ tree.arrow (spanned c d) (listed ps) y true → ReadsCalm (plain_expr inner cover function) k x c d
+  async_by ps y j k x c d v l (name_head p r m i) t b u s e w f h o =
+      async_named_reads p y j k x c d v l r m t b u (subst (λ z. SupportedArrow k.flags.module (listed z) y) i s) (e ∙ ap (λ z. tree.arrow (spanned c d) (listed z) y true) i) w f h o
+  async_by ps y j k x c d v l (parameters_head r) t b u s e w f h o = async_grouped_reads ps y j k x c d v l r t b u s e w f h o
 
   pub arrow_reads : (a : Bool) (ps : List Tree) (y : Tree) (i j : Place) (k : Code) (x : Tree) (c d : Place) → AsyncWord a c i → ArrowHeadRule In k ps i j → kind_at j ≡ kind.Arrow → breaks_at j ≡ false
-      → ArrowBodyRule In k a y (after j) d → x ≡ tree.arrow (spanned c d) (listed ps) y a → supported_in k.flags.module x ≡ true → Reads (plain_expr inner cover function) k x c d
-  arrow_reads a ps y i j k x c d v r t b u e s w f h =
+      → ArrowBodyRule In k a y (after j) d → x ≡ tree.arrow (spanned c d) (listed ps) y a → supported_in k.flags.module x ≡ true → ReadsCalm (plain_expr inner cover function) k x c d
+  arrow_reads a ps y i j k x c d v r t b u e s w f h o =
       let p = arrow_parts k.flags.module (spanned c d) (listed ps) y a (supported_as _ x (tree.arrow (spanned c d) (listed ps) y a) e s) in
-      by_word v p w f h
+      by_word v p w f h o
     where
-      by_word : AsyncWord a c i → SupportedArrow k.flags.module (listed ps) y → Reads (plain_expr inner cover function) k x c d
-      by_word (async_word n g l m) p w f h =
-          async_by ps y j k x c d g (ap breaks_at (sym l) ∙ m) (subst (λ z. ArrowHeadRule In k ps z j) l r) t b (subst (λ z. ArrowBodyRule In k z y (after j) d) n u) p (e ∙ ap (tree.arrow (spanned c d) (listed ps) y) n) w f h
-      by_word (not_async n g) p w f h =
+      by_word : AsyncWord a c i → SupportedArrow k.flags.module (listed ps) y → ReadsCalm (plain_expr inner cover function) k x c d
+      by_word (async_word n g l m) p w f h o =
+          async_by ps y j k x c d g (ap breaks_at (sym l) ∙ m) (subst (λ z. ArrowHeadRule In k ps z j) l r) t b (subst (λ z. ArrowBodyRule In k z y (after j) d) n u) p (e ∙ ap (tree.arrow (spanned c d) (listed ps) y) n) w f h o
+      by_word (not_async n g) p w f h o =
           arrow_by In inner cover given function functions ps y j k x c d (subst (λ z. ArrowHeadRule In k ps z j) g r) t b (subst (λ z. ArrowBodyRule In k z y (after j) d) n u) p
-          (e ∙ ap (tree.arrow (spanned c d) (listed ps) y) n) w f h
+          (e ∙ ap (tree.arrow (spanned c d) (listed ps) y) n) w f h o

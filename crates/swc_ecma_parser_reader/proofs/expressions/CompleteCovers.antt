@@ -39,10 +39,12 @@ use Rattle.swc_ecma_parser_reader.specs.Methods.{MethodForm, getter_form, setter
 use Rattle.swc_ecma_parser_reader.specs.Expressions.{Cover, Covers, first_mark, no_covers, with_cover, with_comma, done, part_as, whole_of, covered, spread_item, plain_item, item, array_turn, elements, array, key_value, initialized, initialized_name, bare_key, behind_key, method, behind_words, keyed_property, spread_property, property, object_turn, properties, object}
 use Rattle.swc_ecma_parser_reader.proofs.Notes.{or_nil, or_assoc}
 use Rattle.swc_ecma_parser_reader.proofs.Answered.{st, Gets, ReadsAs}
+use Rattle.swc_ecma_parser_reader.proofs.Calm.{settled_as}
+use Rattle.swc_ecma_parser_reader.proofs.Errors.{is_error}
 use Rattle.swc_ecma_parser_reader.proofs.Takes.{moves, takes}
 use Rattle.swc_ecma_parser_reader.proofs.Steps.{loop_more, loop_done}
 use Rattle.swc_ecma_parser_reader.proofs.expressions.Falls.{item_falls, property_falls}
-use Rattle.swc_ecma_parser_reader.proofs.expressions.CompleteKinds.{supported_as, seen, key_begins, begin_seen, ends_part, ended_at, ends_property, property_ended}
+use Rattle.swc_ecma_parser_reader.proofs.expressions.CompleteKinds.{supported_as, seen, key_begins, begin_seen, ends_part, part_calm, ended_at, ends_property, property_ended}
 use Rattle.swc_ecma_parser_reader.proofs.expressions.CompleteMethods.{bare_words, getter_words, setter_words, plain_words, head_begins}
 use Rattle.swc_ecma_parser_grammar.proofs.Naming.{name_is_name}
 use Rattle.swc_ecma_parser_reader.proofs.expressions.Loops.{shorter_by}
@@ -170,33 +172,38 @@ module _ (In : Goal → Type 0) (inner : Class → Reader Tree) (cover : Reader 
   unfolding covered
   covered_reads P k x c d r w f h = let g = r w f h in record { value = g.value; holds = g.holds; is = rw g.is refl }
 
+  -- an expression, behind which no error token stands
+  expr_covered : (k : Code) (x : Tree) (c d : Place) → In (expr_goal assignment (with_in k) x c d) → supported_in k.flags.module x ≡ true → is_error (kind_at d) ≡ false
+      → ReadsAs (AsExpr x) (covered inner cover) k x c d
+  expr_covered k x c d r s q w f h = covered_reads (AsExpr x) k x c d (settled_as (AsExpr x) cover (with_in k) x c d q (given.exprs (with_in k) x c d r s)) w f h
+
   -- ---- elements of an array
 
-  plain_reads : (e : Tree) (k : Code) (c d : Place) → In (expr_goal assignment (with_in k) e c d) → supported_in k.flags.module e ≡ true
+  plain_reads : (e : Tree) (k : Code) (c d : Place) → In (expr_goal assignment (with_in k) e c d) → supported_in k.flags.module e ≡ true → is_error (kind_at d) ≡ false
       → ReadsAs (AsExpr (tree.element None e)) (item inner cover) k (tree.element None e) c d
   unfolding item plain_item
-  plain_reads e k c d r s w f h =
-      let v = covered_reads (AsExpr e) k e c d (given.exprs (with_in k) e c d r s) w f h in
+  plain_reads e k c d r s q w f h =
+      let v = expr_covered k e c d r s q w f h in
       record {
         value = part_as (tree.element None) v.value;
         holds = (ap (tree.element None) v.holds.0, v.holds.1);
         is = rw ((begin_seen c (given.begins (with_in k) e c d r s)).0, v.is) refl;
       }
 
-  spread_reads : (e : Tree) (k : Code) (c d : Place) → kind_at c ≡ kind.DotDotDot → In (expr_goal assignment (with_in k) e (after c) d) → supported_in k.flags.module e ≡ true
+  spread_reads : (e : Tree) (k : Code) (c d : Place) → kind_at c ≡ kind.DotDotDot → In (expr_goal assignment (with_in k) e (after c) d) → supported_in k.flags.module e ≡ true → is_error (kind_at d) ≡ false
       → ReadsAs (AsExpr (tree.element (Some (span_at c)) e)) (item inner cover) k (tree.element (Some (span_at c)) e) c d
   unfolding item spread_item
-  spread_reads e k c d o r s w f h =
-      let v = covered_reads (AsExpr e) k e (after c) d (given.exprs (with_in k) e (after c) d r s) w f h in
+  spread_reads e k c d o r s q w f h =
+      let v = expr_covered k e (after c) d r s q w f h in
       record {
         value = part_as (tree.element (Some (span_at c))) v.value;
         holds = (ap (tree.element (Some (span_at c))) v.holds.0, v.holds.1);
         is = rw (seen c kind.DotDotDot o, v.is) refl;
       }
 
-  element_item : (k : Code) (x : Tree) (c d : Place) → ElementRule In k x c d → supported_in k.flags.module x ≡ true → ReadsAs (AsExpr x) (item inner cover) k x c d
-  element_item k x c d (parts.plain_element e r g) s w f h = rw g (plain_reads e k c d r (supported_as _ x (tree.element None e) g s) w f h)
-  element_item k x c d (parts.spread_element e o r g) s w f h = rw g (spread_reads e k c d o r (supported_as _ x (tree.element (Some (span_at c)) e) g s) w f h)
+  element_item : (k : Code) (x : Tree) (c d : Place) → ElementRule In k x c d → supported_in k.flags.module x ≡ true → is_error (kind_at d) ≡ false → ReadsAs (AsExpr x) (item inner cover) k x c d
+  element_item k x c d (parts.plain_element e r g) s q w f h = rw g (plain_reads e k c d r (supported_as _ x (tree.element None e) g s) q w f h)
+  element_item k x c d (parts.spread_element e o r g) s q w f h = rw g (spread_reads e k c d o r (supported_as _ x (tree.element (Some (span_at c)) e) g s) q w f h)
 
   -- the same as parts of a pattern
   part_item : (k : Code) (p : Tree) (c d : Place) → In (element_goal assigning (with_in k) p c d) → supported_in k.flags.module p ≡ true → ends_part (kind_at d) ≡ true
@@ -252,7 +259,7 @@ module _ (In : Goal → Type 0) (inner : Class → Reader Tree) (cover : Reader 
       → Gets (AsExprs (x ∷ []) found) (loop (array_turn inner cover) found (st c k w f h))
       (st (after d) k w (f ++ walks (env_of k w.labels) false (trees (x ∷ []))) (h ⊕ all_notes_of (trees (x ∷ []))))
   one_element k x found c m d w f h r b s e n =
-      let v = element_item k x c m r s w f h in
+      let v = element_item k x c m r s (part_calm m (behind_ends kind.RBracket m d refl b)) w f h in
       let first = element_begins In inner cover given k x c m r s in
       let more = commaed b (sees kind.DotDotDot c) (with_cover found v.value) in
       let f' = f ++ walk (env_of k w.labels) x in
@@ -278,7 +285,7 @@ module _ (In : Goal → Type 0) (inner : Class → Reader Tree) (cover : Reader 
   many_elements k xs found c d w f h (more_elements x y ys m r a i more j) s e n =
       let q : all_supported_in k.flags.module (trees (x ∷ y ∷ ys)) ≡ true = sym (ap (λ z. all_supported_in k.flags.module (trees z)) j) ∙ s in
       let t = and_yes (supported_in k.flags.module x) _ q in
-      let v = element_item k x c m r t.0 w f h in
+      let v = element_item k x c m r t.0 (ap is_error i) w f h in
       let first = element_begins In inner cover given k x c m r t.0 in
       let next = with_comma (sees kind.DotDotDot c) (with_cover found v.value) in
       let f' = f ++ walk (env_of k w.labels) x in
@@ -460,10 +467,10 @@ module _ (In : Goal → Type 0) (inner : Class → Reader Tree) (cover : Reader 
         ) refl
 
     valued_property : (y z : Tree) (m : Place) (k : Code) (c d : Place) → KeyRule In k y c m → is_supported_key_in k.flags.module y ≡ true → kind_at m ≡ kind.Colon
-        → In (expr_goal assignment (with_in k) z (after m) d) → supported_in k.flags.module z ≡ true
+        → In (expr_goal assignment (with_in k) z (after m) d) → supported_in k.flags.module z ≡ true → is_error (kind_at d) ≡ false
         → ReadsAs (AsExpr (tree.key_value_prop (spanned c d) y z)) (property inner cover function) k (tree.key_value_prop (spanned c d) y z) c d
-    valued_property y z m k c d r s i g t w f h =
-        let v = covered_reads (AsExpr z) k z (after m) d (given.exprs (with_in k) z (after m) d g t) w (f ++ walk (env_of k w.labels) y) (h ⊕ notes_of y) in
+    valued_property y z m k c d r s i g t q w f h =
+        let v = expr_covered k z (after m) d g t q w (f ++ walk (env_of k w.labels) y) (h ⊕ notes_of y) in
         record {
           value = part_as (tree.key_value_prop (spanned c d) y) v.value;
           holds = (ap (tree.key_value_prop (spanned c d) y) v.holds.0, v.holds.1);
@@ -491,10 +498,10 @@ module _ (In : Goal → Type 0) (inner : Class → Reader Tree) (cover : Reader 
         ) refl
 
     spread_property_reads : (e : Tree) (k : Code) (c d : Place) → kind_at c ≡ kind.DotDotDot → In (expr_goal assignment (with_in k) e (after c) d) → supported_in k.flags.module e ≡ true
-        → ReadsAs (AsExpr (tree.spread_prop (span_at c) e)) (property inner cover function) k (tree.spread_prop (span_at c) e) c d
+        → is_error (kind_at d) ≡ false → ReadsAs (AsExpr (tree.spread_prop (span_at c) e)) (property inner cover function) k (tree.spread_prop (span_at c) e) c d
     unfolding property spread_property
-    spread_property_reads e k c d o r s w f h =
-        let v = covered_reads (AsExpr e) k e (after c) d (given.exprs (with_in k) e (after c) d r s) w f h in
+    spread_property_reads e k c d o r s q w f h =
+        let v = expr_covered k e (after c) d r s q w f h in
         record {
           value = part_as (tree.spread_prop (span_at c)) v.value;
           holds = (ap (tree.spread_prop (span_at c)) v.holds.0, v.holds.1);
@@ -523,28 +530,28 @@ module _ (In : Goal → Type 0) (inner : Class → Reader Tree) (cover : Reader 
         (functions.getters k y body x c r.behind_key d r.reads_parts g s)
 
     setter_property : (y p body : Tree) (k : Code) (x : Tree) (c d : Place) → MethodRule In (KeyRule In k) k forms.Setter false false y (p ∷ []) body c d → x ≡ tree.setter_prop (spanned c d) y p body
-        → supported_in k.flags.module x ≡ true → ReadsAs (AsExpr x) (property inner cover function) k x c d
-    setter_property y p body k x c d r g s =
+        → supported_in k.flags.module x ≡ true → is_error (kind_at d) ≡ false → ReadsAs (AsExpr x) (property inner cover function) k x c d
+    setter_property y p body k x c d r g s q =
         let (a, n) = setter_there c r.behind_head r.reads_head in
         let t = and_yes (is_supported_key_in k.flags.module y) _ (supported_as _ x (tree.setter_prop (spanned c d) y p body) g s) in
         method_property setter_form y x r.behind_head r.behind_key k c d (head_begins In k y c r.behind_head r.behind_key r.reads_head r.reads_key).1
         (λ w f h. rw n (setter_words In k y r.behind_key w f h c a (rw (← n) r.reads_key))) r.reads_key t.0 r.reads_parts.reads_parameters.opens
-        (functions.setters k y p body x c r.behind_key d r.reads_parts (not_yes (is_rest p) r.arity) g s)
+        (functions.setters k y p body x c r.behind_key d r.reads_parts (not_yes (is_rest p) r.arity) g s q)
 
     plain_method_property : (a v : Bool) (y : Tree) (ps : List Tree) (body : Tree) (k : Code) (x : Tree) (c d : Place) → MethodRule In (KeyRule In k) k forms.Method a v y ps body c d
         → x ≡ tree.method_prop (spanned c d) y (tree.function (spanned c d) (listed []) (parameters ps) body a v) → supported_in k.flags.module x ≡ true
-        → ReadsAs (AsExpr x) (property inner cover function) k x c d
-    plain_method_property a v y ps body k x c d r g s =
+        → is_error (kind_at d) ≡ false → ReadsAs (AsExpr x) (property inner cover function) k x c d
+    plain_method_property a v y ps body k x c d r g s u =
         let (j, q, o) = method_there a v c r.behind_head r.reads_head in
         let l = r.reads_parts.reads_parameters.opens in
         let fn = tree.function (spanned c d) (listed []) (parameters ps) body a v in
         let t = and_yes (is_supported_key_in k.flags.module y) _ (supported_as _ x (tree.method_prop (spanned c d) y fn) g s) in
         method_property (method_form a v) y x r.behind_head r.behind_key k c d (head_begins In k y c r.behind_head r.behind_key r.reads_head r.reads_key).1
         (λ w f h. plain_words In k y r.behind_key w f h c j r.behind_head q o r.reads_key (ap ends_key l)) r.reads_key t.0 l
-        (functions.methods k a v y ps body x c r.behind_key d r.reads_parts g s)
+        (functions.methods k a v y ps body x c r.behind_key d r.reads_parts g s u)
 
     property_reads : (k : Code) (x : Tree) (c d : Place) → PropertyRule In k x c d → supported_in k.flags.module x ≡ true → ends_property (kind_at d) ≡ true → ReadsAs (AsExpr x) (property inner cover function) k x c d
-    property_reads k x c d (objects.spread_rule e o r g) s q w f h = rw g (spread_property_reads e k c d o r (supported_as _ x (tree.spread_prop (span_at c) e) g s) w f h)
+    property_reads k x c d (objects.spread_rule e o r g) s q w f h = rw g (spread_property_reads e k c d o r (supported_as _ x (tree.spread_prop (span_at c) e) g s) (part_calm d (property_ended d q).0) w f h)
     property_reads k x c d (objects.shorthand_rule text sp r g) s q w f h =
         let n : is_name k.flags text ≡ true = ap (is_name k.flags) r.is_text ∙ name_is_name k text sp c d r in
         rw g (record {
@@ -554,10 +561,10 @@ module _ (In : Goal → Type 0) (inner : Class → Reader Tree) (cover : Reader 
         })
     property_reads k x c d (objects.key_value_rule y z m r i v g) s q w f h =
         let t = and_yes (is_supported_key_in k.flags.module y) _ (supported_as _ x (tree.key_value_prop (spanned c d) y z) g s) in
-        rw g (valued_property y z m k c d r t.0 i v t.1 w f h)
+        rw g (valued_property y z m k c d r t.0 i v t.1 (part_calm d (property_ended d q).0) w f h)
     property_reads k x c d (objects.getter_rule y b r g) s q w f h = getter_property y b k x c d r g s w f h
-    property_reads k x c d (objects.setter_rule y p b r g) s q w f h = setter_property y p b k x c d r g s w f h
-    property_reads k x c d (objects.method_rule i j y ps b r g) s q w f h = plain_method_property i j y ps b k x c d r g s w f h
+    property_reads k x c d (objects.setter_rule y p b r g) s q w f h = setter_property y p b k x c d r g s (part_calm d (property_ended d q).0) w f h
+    property_reads k x c d (objects.method_rule i j y ps b r g) s q w f h = plain_method_property i j y ps b k x c d r g s (part_calm d (property_ended d q).0) w f h
 
     property_begins : (k : Code) (x : Tree) (c d : Place) → PropertyRule In k x c d → supported_in k.flags.module x ≡ true → sees kind.RBrace c ≡ false
     unfolding same_kind
@@ -659,10 +666,10 @@ module _ (In : Goal → Type 0) (inner : Class → Reader Tree) (cover : Reader 
 
     -- a name, `=` and a value
     initialized_part : (text : Text) (sp : Span) (z : Tree) (m : Place) (k : Code) (c d : Place) → ReadsWord text sp c m → is_name k.flags text ≡ true → kind_at m ≡ kind.Assign
-        → In (expr_goal assignment (with_in k) z (after m) d) → supported_in k.flags.module z ≡ true
+        → In (expr_goal assignment (with_in k) z (after m) d) → supported_in k.flags.module z ≡ true → is_error (kind_at d) ≡ false
         → ReadsAs (AsPart as_properties (tree.assign_pat_prop (spanned c d) (tree.ident_pat sp text) z)) (property inner cover function) k (tree.assign_pat_prop (spanned c d) (tree.ident_pat sp text) z) c d
     unfolding property keyed_property behind_words behind_key initialized_name initialized as_name spanned same_kind
-    initialized_part text sp z m k c d r n i g t w f h = record {
+    initialized_part text sp z m k c d r n i g t q w f h = record {
       value = record { x = tree.assign_prop (spanned c d) (tree.ident sp text) z; mark = Some (spanned c d); comma = false };
       holds = (λ zs qs e. rw e refl, refl);
       is = rw (
@@ -674,7 +681,7 @@ module _ (In : Goal → Type 0) (inner : Class → Reader Tree) (cover : Reader 
         or_nil h.found_module_item,
         i,
         n,
-        inside_reads In inner cover given assignment k z (after m) d g t w f h,
+        inside_reads In inner cover given assignment k z (after m) d g t w f h (inr q),
       ) refl;
     }
 
@@ -699,7 +706,7 @@ module _ (In : Goal → Type 0) (inner : Class → Reader Tree) (cover : Reader 
         })
     part_property k p c d (patterns.default_rule text sp z m r i v g) a s q w f h =
         let t = and_yes (supported_in k.flags.module (tree.ident_pat sp text)) _ (supported_as _ p (tree.assign_pat_prop (spanned c d) (tree.ident_pat sp text) z) g s) in
-        rw g (initialized_part text sp z m k c d (word_of (with_in k) text sp c m r) (name_there k text sp c m r t.0) i v t.1 w f h)
+        rw g (initialized_part text sp z m k c d (word_of (with_in k) text sp c m r) (name_there k text sp c m r t.0) i v t.1 (part_calm d (property_ended d q).0) w f h)
     part_property k p c d (patterns.rest_rule y o r n e) a s q w f h = absurd (let b : is_rest p ≡ true = ap is_rest e in cc)
 
     one_property : (k : Code) (p : Tree) (found : Covers) (c m d : Place) (w : Scope) (f : List Fault) (h : Notes) → PatternPropertyRule In assigning (with_in k) p c m → is_rest p ≡ false

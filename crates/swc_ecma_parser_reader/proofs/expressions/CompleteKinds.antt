@@ -53,6 +53,7 @@ use Rattle.swc_ecma_parser_grammar.proofs.Arrows.{arrow_parts}
 use Rattle.swc_ecma_parser_grammar.proofs.Naming.{name_is_name, name_is_free}
 use Rattle.swc_ecma_parser_grammar.proofs.Unnoted as unnoted
 use Rattle.swc_ecma_parser_reader.specs.Methods.{ends_key}
+use Rattle.swc_ecma_parser_reader.proofs.Errors.{is_error}
 use Rattle.swc_ecma_parser_reader.specs.Expressions.{literal_of, literal_in, token_is_word, first_is_word, is_word_at, postfix_at}
 
 -- ---- supported forms
@@ -582,6 +583,28 @@ assign_stops c op e = quiet_stops c (assign_quiet (kind_at c) op e)
 pub question_stops : (c : Place) → kind_at c ≡ kind.QuestionMark → continues_left_side c ≡ false
 question_stops c e = quiet_stops c (question_quiet (kind_at c) e)
 
+-- an error token is no operator
+update_error : (k : TokenKind) (op : UpdateOp) → update_operator k ≡ Some op → is_error k ≡ false
+update_error kind.Error op e = cc
+update_error _ op e = refl
+
+operator_error : (k : TokenKind) (op : BinaryOp) → binary_operator k ≡ Some op → is_error k ≡ false
+operator_error kind.Error op e = cc
+operator_error _ op e = refl
+
+assign_error : (k : TokenKind) (op : AssignOp) → assign_operator k ≡ Some op → is_error k ≡ false
+assign_error kind.Error op e = cc
+assign_error _ op e = refl
+
+pub update_calm : (c : Place) (op : UpdateOp) → update_operator (kind_at c) ≡ Some op → is_error (kind_at c) ≡ false
+update_calm c op e = update_error (kind_at c) op e
+
+pub operator_calm : (c : Place) (op : BinaryOp) → binary_operator (kind_at c) ≡ Some op → is_error (kind_at c) ≡ false
+operator_calm c op e = operator_error (kind_at c) op e
+
+pub assign_calm : (c : Place) (op : AssignOp) → assign_operator (kind_at c) ≡ Some op → is_error (kind_at c) ≡ false
+assign_calm c op e = assign_error (kind_at c) op e
+
 -- what stops a left side stops each operand
 pub stops_unary : (x : Tree) (c : Place) → continues_left_side c ≡ false → continues_unary x c ≡ false
 unfolding continues_unary
@@ -702,6 +725,14 @@ ended _ e = cc
 
 pub ended_at : (c : Place) → ends_part (kind_at c) ≡ true → Ended (kind_at c)
 ended_at c e = ended (kind_at c) e
+
+-- where a part ends no error token stands
+pub part_calm : (c : Place) → ends_part (kind_at c) ≡ true → is_error (kind_at c) ≡ false
+part_calm c e = by_kind (kind_at c) e
+  where
+    by_kind : (j : TokenKind) → ends_part j ≡ true → is_error j ≡ false
+    by_kind kind.Error h = cc
+    by_kind _ h = refl
 
 -- a part of an object ends before its comma or its brace
 abbrev pub ends_property : TokenKind → Bool

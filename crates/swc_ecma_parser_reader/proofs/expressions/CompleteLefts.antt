@@ -1,7 +1,7 @@
 -- Primary and left-hand-side expressions of the language are read, with the faults of the walk and the notes held back, and no
 -- others.
 use Rattle.swc_ecma_parser_reader.proofs.Words.{async_named, async_stands}
-use Rattle.std.proofs.Common.{◌≡◌, Bool, true, false, List, [], ◌++◌, length, Some, Ok, refl, sym, ◌∙◌, ap, append_assoc, append-nil}
+use Rattle.std.proofs.Common.{◌≡◌, inr, Bool, true, false, List, [], ◌++◌, length, Some, Ok, refl, sym, ◌∙◌, ap, append_assoc, append-nil}
 use Rattle.std.specs.Prelude.{◌&&◌, ◌||◌, codes}
 use Rattle.swc_ecma_parser_common.specs.declared.span.Span.{Span}
 use Rattle.swc_ecma_parser_error.specs.Kind as faults
@@ -33,11 +33,13 @@ use Rattle.swc_ecma_parser_reader.specs.State.{and_then, ◌>>=◌, Scope, State
 use Rattle.swc_ecma_parser_reader.specs.Methods.{FunctionForm, expression_form, class_form}
 use Rattle.swc_ecma_parser_reader.specs.Expressions.{Cover, close, literal_of, literal, ident_expr, this, bare_new, access, arguments, array, property, object, paren, marked_primary, primary, accessed, called, left_turn, left_from, super_call, super_access, behind_super, super_head, constructed, new_head, import_call, meta_fault, import_meta, import_head, left_head, left, named_expr}
 use Rattle.swc_ecma_parser_reader.proofs.Notes.{or_nil, or_true, or_assoc}
-use Rattle.swc_ecma_parser_reader.proofs.Answered.{st, Reads, ReadsAs}
+use Rattle.swc_ecma_parser_reader.proofs.Answered.{st, Reads, Calm, ReadsCalm, ReadsAs}
+use Rattle.swc_ecma_parser_reader.proofs.Calm.{calm_first}
+use Rattle.swc_ecma_parser_reader.proofs.Errors.{is_error}
 use Rattle.swc_ecma_parser_reader.proofs.Steps.{loop_more, loop_done}
 use Rattle.swc_ecma_parser_reader.proofs.expressions.Falls.{access_falls, arguments_fall}
 use Rattle.swc_ecma_parser_reader.proofs.expressions.Loops.{shorter_by}
-use Rattle.swc_ecma_parser_reader.proofs.expressions.CompleteParts.{expect_reads, reference_reads, literal_reads, AsExpr, IsRead, IsFunctionRead, inside_reads, access_reads, access_seen, super_property_reads, arguments_read}
+use Rattle.swc_ecma_parser_reader.proofs.expressions.CompleteParts.{expect_reads, reference_reads, literal_reads, AsExpr, IsRead, IsFunctionRead, inside_reads, access_reads, access_calm, access_seen, super_property_reads, arguments_read}
 use Rattle.swc_ecma_parser_reader.proofs.expressions.CompleteCovers.{array_reads, object_reads}
 use Rattle.swc_ecma_parser_reader.proofs.expressions.CompleteKinds.{supported_as, seen, named, null_unnamed, true_unnamed, false_unnamed, paren_here, array_here, object_here, this_here, function_here, class_here, primary_first, primary_seen, named_word}
 use Rattle.swc_ecma_parser_grammar.proofs.Naming.{name_is_name}
@@ -77,15 +79,15 @@ module _ (In : Goal → Type 0) (inner : Class → Reader Tree) (cover : Reader 
   first_paren k x c d e reads w f h = rw ((paren_here k.flags c e).0, (paren_here k.flags c e).1, seen c kind.LParen e) (reads w f h)
 
   -- its word leads to a function, and so does `async` before it
-  plain_function : (k : Code) (x : Tree) (c d : Place) → kind_at c ≡ kind.Function → Reads (function expression_form) k x c d → Reads (primary inner cover function) k x c d
+  plain_function : (k : Code) (x : Tree) (c d : Place) → kind_at c ≡ kind.Function → ReadsCalm (function expression_form) k x c d → ReadsCalm (primary inner cover function) k x c d
   unfolding primary literal marked_primary same_kind
-  plain_function k x c d e reads w f h = rw ((function_here k.flags c e).0, (function_here k.flags c e).1, e) (reads w f h)
+  plain_function k x c d e reads w f h q = rw ((function_here k.flags c e).0, (function_here k.flags c e).1, e) (reads w f h q)
 
-  async_function : (k : Code) (x : Tree) (c d : Place) → is_async_function c ≡ true → Reads (function expression_form) k x c d → Reads (primary inner cover function) k x c d
+  async_function : (k : Code) (x : Tree) (c d : Place) → is_async_function c ≡ true → ReadsCalm (function expression_form) k x c d → ReadsCalm (primary inner cover function) k x c d
   unfolding primary named_expr
-  async_function k x c d e reads w f h = rw (async_named k.flags c e, e) (reads w f h)
+  async_function k x c d e reads w f h q = rw (async_named k.flags c e, e) (reads w f h q)
 
-  first_function : {b : Bool} (k : Code) (x : Tree) (c d m : Place) → AsyncWord b c m → kind_at m ≡ kind.Function → Reads (function expression_form) k x c d → Reads (primary inner cover function) k x c d
+  first_function : {b : Bool} (k : Code) (x : Tree) (c d m : Place) → AsyncWord b c m → kind_at m ≡ kind.Function → ReadsCalm (function expression_form) k x c d → ReadsCalm (primary inner cover function) k x c d
   first_function k x c d m (not_async i j) e reads = plain_function k x c d (ap kind_at (sym j) ∙ e) reads
   first_function k x c d m (async_word i j l n) e reads = async_function k x c d (async_stands c m j l n e) reads
 
@@ -98,7 +100,7 @@ module _ (In : Goal → Type 0) (inner : Class → Reader Tree) (cover : Reader 
       → x ≡ tree.paren (spanned c d) e → Reads (paren inner cover) k x c d
   unfolding paren spanned
   paren_reads e m k x c d r s g i j w f h =
-      rw (inside_reads In inner cover given expression k e (after c) m r s w f h, expect_reads kind.RParen m k w (f ++ walk (env_of k w.labels) e) (h ⊕ notes_of e) g, j, i) refl
+      rw (inside_reads In inner cover given expression k e (after c) m r s w f h (inr (ap is_error g)), expect_reads kind.RParen m k w (f ++ walk (env_of k w.labels) e) (h ⊕ notes_of e) g, j, i) refl
 
   name_primary : (text : Text) (sp : Span) (k : Code) (x : Tree) (c d : Place) (r : ReadsName k text sp c d) → is_name k.flags (word_text r.word) ≡ true → is_async_function c ≡ false
       → x ≡ tree.ident sp text → Reads (primary inner cover function) k x c d
@@ -115,24 +117,24 @@ module _ (In : Goal → Type 0) (inner : Class → Reader Tree) (cover : Reader 
         or_nil h.found_module_item,
       ) refl
 
-  primary_reads : (k : Code) (x : Tree) (c d : Place) → PrimaryRule In k x c d → supported_in k.flags.module x ≡ true → Reads (primary inner cover function) k x c d
-  primary_reads k x c d (sides.name_rule text sp r a g) s w f h = name_primary text sp k x c d r (name_is_name k text sp c d r) a g w f h
-  primary_reads k x c d (sides.string_rule value raw sp r g) s w f h = literal_primary (token.Str value raw) sp x (tree.str sp value raw) c d k r refl refl g (λ env. refl) refl refl w f h
-  primary_reads k x c d (sides.true_rule sp r g) s w f h =
+  primary_reads : (k : Code) (x : Tree) (c d : Place) → PrimaryRule In k x c d → supported_in k.flags.module x ≡ true → ReadsCalm (primary inner cover function) k x c d
+  primary_reads k x c d (sides.name_rule text sp r a g) s w f h q = name_primary text sp k x c d r (name_is_name k text sp c d r) a g w f h
+  primary_reads k x c d (sides.string_rule value raw sp r g) s w f h q = literal_primary (token.Str value raw) sp x (tree.str sp value raw) c d k r refl refl g (λ env. refl) refl refl w f h
+  primary_reads k x c d (sides.true_rule sp r g) s w f h q =
       literal_primary (token.Word word.True) sp x (tree.bool sp true) c d k r (true_unnamed k.flags) refl g (λ env. refl) refl refl w f h
-  primary_reads k x c d (sides.false_rule sp r g) s w f h =
+  primary_reads k x c d (sides.false_rule sp r g) s w f h q =
       literal_primary (token.Word word.False) sp x (tree.bool sp false) c d k r (false_unnamed k.flags) refl g (λ env. refl) refl refl w f h
-  primary_reads k x c d (sides.null_rule sp r g) s w f h = literal_primary (token.Word word.Null) sp x (tree.null sp) c d k r (null_unnamed k.flags) refl g (λ env. refl) refl refl w f h
-  primary_reads k x c d (sides.number_rule raw sp r g) s w f h = literal_primary (token.Num raw) sp x (tree.num sp raw) c d k r refl refl g (λ env. refl) refl refl w f h
-  primary_reads k x c d (sides.big_int_rule raw sp r g) s w f h = literal_primary (token.BigInt raw) sp x (tree.big_int sp raw) c d k r refl refl g (λ env. refl) refl refl w f h
-  primary_reads k x c d (sides.this_rule e i g) s w f h = this_reads k x c d e i g w f h
-  primary_reads k x c d (sides.array_rule xs m i r j n e) s w f h =
+  primary_reads k x c d (sides.null_rule sp r g) s w f h q = literal_primary (token.Word word.Null) sp x (tree.null sp) c d k r (null_unnamed k.flags) refl g (λ env. refl) refl refl w f h
+  primary_reads k x c d (sides.number_rule raw sp r g) s w f h q = literal_primary (token.Num raw) sp x (tree.num sp raw) c d k r refl refl g (λ env. refl) refl refl w f h
+  primary_reads k x c d (sides.big_int_rule raw sp r g) s w f h q = literal_primary (token.BigInt raw) sp x (tree.big_int sp raw) c d k r refl refl g (λ env. refl) refl refl w f h
+  primary_reads k x c d (sides.this_rule e i g) s w f h q = this_reads k x c d e i g w f h
+  primary_reads k x c d (sides.array_rule xs m i r j n e) s w f h q =
       first_array k x c d i (array_reads In inner cover given xs m k x c d r (supported_as _ x (tree.array (spanned c d) (listed xs)) e s) j n e) w f h
-  primary_reads k x c d (sides.object_rule xs m i r j n e) s w f h =
+  primary_reads k x c d (sides.object_rule xs m i r j n e) s w f h q =
       first_object k x c d i (object_reads In inner cover given function functions xs m k x c d r (supported_as _ x (tree.object (spanned c d) (listed xs)) e s) j n e) w f h
-  primary_reads k x c d (sides.function_rule name y r e) s w f h = first_function k x c d r.word r.reads_async r.is_function (functions.reads k x c d name y r e s) w f h
-  primary_reads k x c d (sides.class_rule name y r e) s w f h = first_class k x c d r.is_class (functions.classes k x c d name y r e s) w f h
-  primary_reads k x c d (sides.paren_rule e m o r g i j) s w f h =
+  primary_reads k x c d (sides.function_rule name y r e) s w f h q = first_function k x c d r.word r.reads_async r.is_function (functions.reads k x c d name y r e s) w f h q
+  primary_reads k x c d (sides.class_rule name y r e) s w f h q = first_class k x c d r.is_class (functions.classes k x c d name y r e s) w f h
+  primary_reads k x c d (sides.paren_rule e m o r g i j) s w f h q =
       first_paren k x c d o (paren_reads e m k x c d r (supported_as _ x (tree.paren (spanned c d) e) j s) g i j) w f h
 
   -- ---- what a left side begins with
@@ -161,7 +163,7 @@ module _ (In : Goal → Type 0) (inner : Class → Reader Tree) (cover : Reader 
   new_reads calls what args m k x c d g q t r s e w f h =
       rw (
         g,
-        given.calls k what (after c) m q (rw r.opens refl) t w f h,
+        given.calls k what (after c) m q (rw r.opens refl) t w f h (inr (ap is_error r.opens)),
         seen m kind.LParen r.opens,
         arguments_read In inner cover given true k args m d w (f ++ walk (env_of k w.labels) what) (h ⊕ notes_of what) r s,
         e,
@@ -169,12 +171,12 @@ module _ (In : Goal → Type 0) (inner : Class → Reader Tree) (cover : Reader 
       ) (simp (append_assoc, or_assoc) refl)
 
   bare_new_reads : (calls : Bool) (what : Tree) (k : Code) (x : Tree) (c d : Place) → kind_at c ≡ kind.New → In (expr_goal callee k what (after c) d) → supported_in k.flags.module what ≡ true
-      → x ≡ tree.new (spanned c d) what tree.absent → Reads (left_head inner cover function calls) k x c d
+      → x ≡ tree.new (spanned c d) what tree.absent → ReadsCalm (left_head inner cover function calls) k x c d
   unfolding left_head new_head bare_new spanned same_kind
-  bare_new_reads calls what k x c d g q t e w f h =
+  bare_new_reads calls what k x c d g q t e w f h o =
       rw (
         g,
-        given.reads callee k what (after c) d q t w f h,
+        given.reads callee k what (after c) d q t w f h (calm_first d (walk (env_of k w.labels) what) [] _ (ap (walk (env_of k w.labels)) e) o),
         given.bare k what (after c) d q,
         e,
         append-nil (walk (env_of k w.labels) what),
@@ -193,11 +195,11 @@ module _ (In : Goal → Type 0) (inner : Class → Reader Tree) (cover : Reader 
   unfolding left_head import_head import_meta meta_fault spanned same_kind
   import_meta_reads k x c d i j v n m e w f h = rw (i, j, v, m, e, n, append-nil f, append-nil h.held_back, or_true h.found_module_item) refl
 
-  primary_head : (calls : Bool) (k : Code) (x : Tree) (c d : Place) → PrimaryRule In k x c d → supported_in k.flags.module x ≡ true → Reads (left_head inner cover function calls) k x c d
+  primary_head : (calls : Bool) (k : Code) (x : Tree) (c d : Place) → PrimaryRule In k x c d → supported_in k.flags.module x ≡ true → ReadsCalm (left_head inner cover function calls) k x c d
   unfolding left_head
-  primary_head calls k x c d r s w f h =
+  primary_head calls k x c d r s w f h o =
       let q = primary_seen c (primary_first In k x c d r s) in
-      rw (q.0, q.1, and_no calls _ q.2) (primary_reads k x c d r s w f h)
+      rw (q.0, q.1, and_no calls _ q.2) (primary_reads k x c d r s w f h o)
 
   -- ---- what goes on with it
 
@@ -229,36 +231,36 @@ module _ (In : Goal → Type 0) (inner : Class → Reader Tree) (cover : Reader 
 
   -- What was read so far is reached by the loop.
   left_reached : (k : Code) (calls : Bool) (x : Tree) (c d : Place) → LeftSideRule In k x c d → supported_in k.flags.module x ≡ true → (calls || is_callee x) ≡ true → (w : Scope) (f : List Fault) (h : Notes)
-      → left inner cover function calls (st c k w f h) ≡ left_from inner cover calls (span_at c) x (st d k w (f ++ walk (env_of k w.labels) x) (h ⊕ notes_of x))
+      → Calm k w.labels x d → left inner cover function calls (st c k w f h) ≡ left_from inner cover calls (span_at c) x (st d k w (f ++ walk (env_of k w.labels) x) (h ⊕ notes_of x))
   unfolding left spanned
-  left_reached k calls x c d (sides.primary_rule r) s g w f h = rw (primary_head calls k x c d r s w f h) refl
-  left_reached k calls x c d (sides.import_meta_rule i j v n m e) s g w f h =
+  left_reached k calls x c d (sides.primary_rule r) s g w f h q = rw (primary_head calls k x c d r s w f h q) refl
+  left_reached k calls x c d (sides.import_meta_rule i j v n m e) s g w f h q =
       let b : calls ≡ true = calls_read calls x (tree.meta_prop (spanned c d) meta.ImportMeta) e refl g in
       rw (b, import_meta_reads k x c d i j v n m e w f h) refl
-  left_reached k calls x c d (sides.member_rule y p m r a e) s g w f h =
+  left_reached k calls x c d (sides.member_rule y p m r a e) s g w f h q =
       let t = and_yes (supported_in k.flags.module y) _ (supported_as _ x (tree.member (spanned c d) y p) e s) in
-      left_reached k calls y c m r t.0 (sym (ap (λ z. calls || is_callee z) e) ∙ g) w f h
+      left_reached k calls y c m r t.0 (sym (ap (λ z. calls || is_callee z) e) ∙ g) w f h (inr (access_calm In inner cover given k p m d a))
       ∙ access_more calls (span_at c) y p k m d a t.1 w (f ++ walk (env_of k w.labels) y) (h ⊕ notes_of y) ∙ rw (e, append_assoc f _ _, append_assoc h.held_back _ _, or_assoc h.found_module_item _ _) refl
-  left_reached k calls x c d (sides.super_property_rule p i a j e) s g w f h =
+  left_reached k calls x c d (sides.super_property_rule p i a j e) s g w f h q =
       rw (super_access_reads calls p k x c d i a j (supported_as _ x (tree.super_prop (spanned c d) (span_at c) p) e s) e w f h) refl
-  left_reached k calls x c d (sides.call_rule y z m r a e) s g w f h =
+  left_reached k calls x c d (sides.call_rule y z m r a e) s g w f h q =
       let t = and_yes (supported_in k.flags.module y) _ (supported_as _ x (tree.call (spanned c d) y z) e s) in
       let b : calls ≡ true = calls_read calls x (tree.call (spanned c d) y z) e refl g in
       rw b
-      (left_reached k true y c m r t.0 refl w f h
+      (left_reached k true y c m r t.0 refl w f h (inr (ap is_error a.opens))
       ∙ call_more (span_at c) y z k m d a t.1 w (f ++ walk (env_of k w.labels) y) (h ⊕ notes_of y) ∙ rw (e, append_assoc f _ _, append_assoc h.held_back _ _, or_assoc h.found_module_item _ _) refl)
-  left_reached k calls x c d (sides.super_call_rule z i a e) s g w f h =
+  left_reached k calls x c d (sides.super_call_rule z i a e) s g w f h q =
       let b : calls ≡ true = calls_read calls x (tree.call (spanned c d) (tree.super_callee (span_at c)) z) e refl g in
       rw (b, super_call_reads z k x c d i a (supported_as _ x (tree.call (spanned c d) (tree.super_callee (span_at c)) z) e s) e w f h) refl
-  left_reached k calls x c d (sides.import_call_rule z i a e) s g w f h =
+  left_reached k calls x c d (sides.import_call_rule z i a e) s g w f h q =
       let b : calls ≡ true = calls_read calls x (tree.call (spanned c d) (tree.import_callee (span_at c)) z) e refl g in
       rw (b, import_call_reads z k x c d i a (supported_as _ x (tree.call (spanned c d) (tree.import_callee (span_at c)) z) e s) e w f h) refl
-  left_reached k calls x c d (sides.new_rule y z m i r a e) s g w f h =
+  left_reached k calls x c d (sides.new_rule y z m i r a e) s g w f h q =
       let t = and_yes (supported_in k.flags.module y) _ (supported_as _ x (tree.new (spanned c d) y z) e s) in
       rw (new_reads calls y z m k x c d i r t.0 a t.1 e w f h) refl
-  left_reached k calls x c d (sides.bare_new_rule y i r e) s g w f h =
+  left_reached k calls x c d (sides.bare_new_rule y i r e) s g w f h q =
       let t = and_yes (supported_in k.flags.module y) _ (supported_as _ x (tree.new (spanned c d) y tree.absent) e s) in
-      rw (bare_new_reads calls y k x c d i r t.0 e w f h) refl
+      rw (bare_new_reads calls y k x c d i r t.0 e w f h q) refl
 
   -- the loop ends where neither an access nor arguments that are read stand
   left_stops : (calls : Bool) (start : Span) (x : Tree) (s : State) → (sees kind.Dot s.at || sees kind.LBracket s.at) ≡ false → (calls && sees kind.LParen s.at) ≡ false
@@ -267,6 +269,6 @@ module _ (In : Goal → Type 0) (inner : Class → Reader Tree) (cover : Reader 
   left_stops calls start x s e g = loop_done (left_turn inner cover calls start) x x s s (rw (e, g) refl)
 
   pub left_reads : (calls : Bool) (k : Code) (x : Tree) (c d : Place) → LeftSideRule In k x c d → supported_in k.flags.module x ≡ true → (calls || is_callee x) ≡ true
-      → (sees kind.Dot d || sees kind.LBracket d) ≡ false → (calls && sees kind.LParen d) ≡ false → Reads (left inner cover function calls) k x c d
-  left_reads calls k x c d r s g e i w f h =
-      left_reached k calls x c d r s g w f h ∙ left_stops calls (span_at c) x (st d k w (f ++ walk (env_of k w.labels) x) (h ⊕ notes_of x)) e i
+      → (sees kind.Dot d || sees kind.LBracket d) ≡ false → (calls && sees kind.LParen d) ≡ false → ReadsCalm (left inner cover function calls) k x c d
+  left_reads calls k x c d r s g e i w f h q =
+      left_reached k calls x c d r s g w f h q ∙ left_stops calls (span_at c) x (st d k w (f ++ walk (env_of k w.labels) x) (h ⊕ notes_of x)) e i

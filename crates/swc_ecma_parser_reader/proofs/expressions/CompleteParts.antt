@@ -39,7 +39,9 @@ use Rattle.swc_ecma_parser_reader.specs.State.{and_then, Scope, State, Reader, e
 use Rattle.swc_ecma_parser_reader.specs.Methods.{MethodForm, getter_form, setter_form, method_form, FunctionForm, expression_form, class_form, property_form, parameter_form, block_form}
 use Rattle.swc_ecma_parser_reader.specs.Expressions.{Cover, literal_of, literal_in, literal, any_word, touching_word, private_name, word_property, token_is_word, literal_key, shorthand_name, shorthand, dotted, super_property, inside, brackets, access, spread_element, plain_element, element, arguments_turn, arguments, computed_key, key, key_or}
 use Rattle.swc_ecma_parser_reader.proofs.Notes.{or_nil, or_assoc}
-use Rattle.swc_ecma_parser_reader.proofs.Answered.{st, Reads, ReadsAs}
+use Rattle.swc_ecma_parser_reader.proofs.Answered.{st, Reads, ReadsCalm, ReadsAs, ReadsAsCalm}
+use Rattle.swc_ecma_parser_reader.proofs.Calm.{calm_same}
+use Rattle.swc_ecma_parser_reader.proofs.Errors.{is_error}
 use Rattle.swc_ecma_parser_reader.proofs.Takes.{Falls, moves}
 use Rattle.swc_ecma_parser_reader.proofs.Steps.{loop_more, loop_done}
 use Rattle.swc_ecma_parser_reader.proofs.expressions.Falls.{element_falls, FunctionsFall}
@@ -145,14 +147,14 @@ AsTarget p d v = (as_target v.x ≡ Some p) × (v.comma ≡ false) × ((span_of 
 
 -- what these goals ask for is read, and takes a token
 pub record IsRead (In : Goal → Type 0) (inner : Class → Reader Tree) (cover : Reader Cover) : Type 0 where
-  pub reads : (class : Class) (k : Code) (x : Tree) (c d : Place) → In (expr_goal class k x c d) → supported_in k.flags.module x ≡ true → Reads (inner class) k x c d
-  pub calls : (k : Code) (x : Tree) (c d : Place) → In (callee_goal k x c d) → (sees kind.Dot d || sees kind.LBracket d) ≡ false → supported_in k.flags.module x ≡ true → Reads (inner callee) k x c d
+  pub reads : (class : Class) (k : Code) (x : Tree) (c d : Place) → In (expr_goal class k x c d) → supported_in k.flags.module x ≡ true → ReadsCalm (inner class) k x c d
+  pub calls : (k : Code) (x : Tree) (c d : Place) → In (callee_goal k x c d) → (sees kind.Dot d || sees kind.LBracket d) ≡ false → supported_in k.flags.module x ≡ true → ReadsCalm (inner callee) k x c d
   -- behind what `new` calls without arguments none stand
   pub bare : (k : Code) (x : Tree) (c d : Place) → In (expr_goal callee k x c d) → sees kind.LParen d ≡ false
   pub begins : (k : Code) (x : Tree) (c d : Place) → In (expr_goal assignment k x c d) → supported_in k.flags.module x ≡ true → begin_kind (kind_at c) ≡ true
   pub falls : (class : Class) (s : State) → Falls 1 (length s.at.left) (inner class s)
   -- an expression is read as what may still become a pattern too
-  pub exprs : (k : Code) (x : Tree) (c d : Place) → In (expr_goal assignment k x c d) → supported_in k.flags.module x ≡ true → ReadsAs (AsExpr x) cover k x c d
+  pub exprs : (k : Code) (x : Tree) (c d : Place) → In (expr_goal assignment k x c d) → supported_in k.flags.module x ≡ true → ReadsAsCalm (AsExpr x) cover k x c d
   -- and so is an element of a pattern, and what stands without a default behind dots
   pub elements : (k : Code) (p : Tree) (c d : Place) → In (element_goal assigning (with_in k) p c d) → supported_in k.flags.module p ≡ true → ends_part (kind_at d) ≡ true
       → ReadsAs (AsElement p) cover (with_in k) p c d
@@ -183,16 +185,16 @@ MethodIsRead function form k key x c m d = (w : Scope) (f : List Fault) (h : Not
 -- functions as parts of expressions are read, and take tokens
 pub record IsFunctionRead (In : Goal → Type 0) (function : FunctionForm → Reader Tree) : Type 0 where
   pub reads : (k : Code) (x : Tree) (c d : Place) (name y : Tree) → FunctionRule In true k (listed []) name y c d → x ≡ tree.fn_expr (spanned c d) name y → supported_in k.flags.module x ≡ true
-      → Reads (function expression_form) k x c d
+      → ReadsCalm (function expression_form) k x c d
   pub classes : (k : Code) (x : Tree) (c d : Place) (name y : Tree) → ClassRule In k c (listed []) name y c d → x ≡ tree.class_expr (spanned c d) name y → supported_in k.flags.module x ≡ true
       → Reads (function class_form) k x c d
   pub getters : (k : Code) (key body x : Tree) (c m d : Place) → FunctionParts In k false false [] body m d → x ≡ tree.getter_prop (spanned c d) key body → supported_in k.flags.module x ≡ true
       → MethodIsRead function getter_form k key x c m d
   pub setters : (k : Code) (key p body x : Tree) (c m d : Place) → FunctionParts In k false false (p ∷ []) body m d → is_rest p ≡ false → x ≡ tree.setter_prop (spanned c d) key p body
-      → supported_in k.flags.module x ≡ true → MethodIsRead function setter_form k key x c m d
+      → supported_in k.flags.module x ≡ true → is_error (kind_at d) ≡ false → MethodIsRead function setter_form k key x c m d
   pub methods : (k : Code) (w g : Bool) (key : Tree) (ps : List Tree) (body x : Tree) (c m d : Place) → FunctionParts In k w g ps body m d
       → x ≡ tree.method_prop (spanned c d) key (tree.function (spanned c d) (listed []) (parameters ps) body w g) → supported_in k.flags.module x ≡ true
-      → MethodIsRead function (method_form w g) k key x c m d
+      → is_error (kind_at d) ≡ false → MethodIsRead function (method_form w g) k key x c m d
   -- a binding pattern, and the block of an arrow function
   pub patterns : (k : Code) (p : Tree) (c d : Place) → In (pattern_goal binding k p c d) → supported_in k.flags.module p ≡ true → Reads (function parameter_form) k p c d
   pub blocks : (w : Bool) (k : Code) (x : Tree) (c d : Place) → BlockRule In (with_in (in_arrow k w)) false x c d → supported_in k.flags.module x ≡ true → (k.flags.module ≡ true → notes x ≡ [])
@@ -216,9 +218,9 @@ argument_last commas x m d (no_comma e) h = inl (ap kind_at (sym e) ∙ h, e)
 argument_last commas x m d (last_comma a e i) h = inr (e, i, rw (and_yes commas _ a).0 refl)
 
 module _ (In : Goal → Type 0) (inner : Class → Reader Tree) (cover : Reader Cover) (given : IsRead In inner cover) where
-  pub inside_reads : (class : Class) (k : Code) (x : Tree) (c d : Place) → In (expr_goal class (with_in k) x c d) → supported_in k.flags.module x ≡ true → Reads (inside inner cover class) k x c d
+  pub inside_reads : (class : Class) (k : Code) (x : Tree) (c d : Place) → In (expr_goal class (with_in k) x c d) → supported_in k.flags.module x ≡ true → ReadsCalm (inside inner cover class) k x c d
   unfolding inside
-  inside_reads class k x c d r s w f h = rw (given.reads class (with_in k) x c d r s w f h) refl
+  inside_reads class k x c d r s w f h q = rw (given.reads class (with_in k) x c d r s w f h q) refl
 
   -- ---- accesses
 
@@ -226,7 +228,7 @@ module _ (In : Goal → Type 0) (inner : Class → Reader Tree) (cover : Reader 
       → d ≡ after m → x ≡ tree.computed (spanned c d) e → Reads (brackets inner cover) k x c d
   unfolding brackets spanned
   brackets_read e m k x c d r s g i j w f h =
-      rw (inside_reads expression k e (after c) m r s w f h, expect_reads kind.RBracket m k w (f ++ walk (env_of k w.labels) e) (h ⊕ notes_of e) g, j, i) refl
+      rw (inside_reads expression k e (after c) m r s w f h (inr (ap is_error g)), expect_reads kind.RBracket m k w (f ++ walk (env_of k w.labels) e) (h ⊕ notes_of e) g, j, i) refl
 
   pub access_reads : (k : Code) (x : Tree) (c d : Place) → AccessRule In k x c d → is_supported_property_in k.flags.module x ≡ true → Reads (access inner cover) k x c d
   unfolding access dotted word_property same_kind
@@ -235,6 +237,12 @@ module _ (In : Goal → Type 0) (inner : Class → Reader Tree) (cover : Reader 
   access_reads k x c d (parts.private_access g r) s w f h = rw (g, seen (after c) kind.Hash r.hash) (private_reads k x (after c) d r w f h)
   access_reads k x c d (parts.bracket_access e m g r i n j) s w f h =
       rw g (brackets_read e m k x c d r (sym (ap (is_supported_property_in k.flags.module) j) ∙ s) i n j w f h)
+
+  -- it begins with no error token
+  pub access_calm : (k : Code) (x : Tree) (c d : Place) → AccessRule In k x c d → is_error (kind_at c) ≡ false
+  access_calm k x c d (parts.word_access text sp g r e) = ap is_error g
+  access_calm k x c d (parts.private_access g r) = ap is_error g
+  access_calm k x c d (parts.bracket_access e m g r i n j) = ap is_error g
 
   -- an access is one of two tokens
   pub access_seen : (k : Code) (x : Tree) (c d : Place) → AccessRule In k x c d → ((sees kind.Dot c || sees kind.LBracket c) ≡ true) × (sees kind.LParen c ≡ false)
@@ -254,13 +262,17 @@ module _ (In : Goal → Type 0) (inner : Class → Reader Tree) (cover : Reader 
 
   -- ---- arguments
 
-  element_reads : (k : Code) (x : Tree) (c d : Place) → ElementRule In k x c d → supported_in k.flags.module x ≡ true → Reads (element inner cover) k x c d
+  element_reads : (k : Code) (x : Tree) (c d : Place) → ElementRule In k x c d → supported_in k.flags.module x ≡ true → ReadsCalm (element inner cover) k x c d
   unfolding element spread_element plain_element
-  element_reads k x c d (parts.plain_element e r g) s w f h =
+  element_reads k x c d (parts.plain_element e r g) s w f h q =
       let t : supported_in k.flags.module e ≡ true = supported_as _ x (tree.element None e) g s in
-      rw ((begin_seen c (given.begins (with_in k) e c d r t)).0, inside_reads assignment k e c d r t w f h, g) refl
-  element_reads k x c d (parts.spread_element e o r g) s w f h =
-      rw (seen c kind.DotDotDot o, inside_reads assignment k e (after c) d r (supported_as _ x (tree.element (Some (span_at c)) e) g s) w f h, g) refl
+      rw ((begin_seen c (given.begins (with_in k) e c d r t)).0, inside_reads assignment k e c d r t w f h (calm_same d _ _ (ap (walk (env_of k w.labels)) g) q), g) refl
+  element_reads k x c d (parts.spread_element e o r g) s w f h q =
+      rw (
+        seen c kind.DotDotDot o,
+        inside_reads assignment k e (after c) d r (supported_as _ x (tree.element (Some (span_at c)) e) g s) w f h (calm_same d _ _ (ap (walk (env_of k w.labels)) g) q),
+        g,
+      ) refl
 
   pub element_begins : (k : Code) (x : Tree) (c d : Place) → ElementRule In k x c d → supported_in k.flags.module x ≡ true
       → (sees kind.RParen c ≡ false) × (sees kind.RBracket c ≡ false) × (sees kind.Comma c ≡ false)
@@ -270,9 +282,9 @@ module _ (In : Goal → Type 0) (inner : Class → Reader Tree) (cover : Reader 
       (b.1, b.2, b.3)
   element_begins k x c d (parts.spread_element e o r g) s = rw o (refl, refl, refl)
 
-  element_shorter : (k : Code) (x : Tree) (c d : Place) → ElementRule In k x c d → supported_in k.flags.module x ≡ true → (w : Scope) → length d.left < length c.left
-  element_shorter k x c d r s w =
-      shorter_by (length c.left) (element inner cover (st c k w [] no_notes)) x _ (element_reads k x c d r s w [] no_notes) (element_falls inner cover given.falls given.cover_falls (st c k w [] no_notes))
+  element_shorter : (k : Code) (x : Tree) (c d : Place) → ElementRule In k x c d → supported_in k.flags.module x ≡ true → is_error (kind_at d) ≡ false → (w : Scope) → length d.left < length c.left
+  element_shorter k x c d r s q w =
+      shorter_by (length c.left) (element inner cover (st c k w [] no_notes)) x _ (element_reads k x c d r s w [] no_notes (inr q)) (element_falls inner cover given.falls given.cover_falls (st c k w [] no_notes))
 
   -- an argument, and what stands behind it
   argument_more : (commas : Bool) (found : List Tree) (k : Code) (x : Tree) (c m d : Place) → ElementRule In k x c m → supported_in k.flags.module x ≡ true → BehindArgument commas m d
@@ -282,11 +294,11 @@ module _ (In : Goal → Type 0) (inner : Class → Reader Tree) (cover : Reader 
   unfolding arguments_turn same_kind
   argument_more commas found k x c m d r s (inl (e, i)) w f h =
       loop_more (arguments_turn inner cover commas) found (found ++ x ∷ []) (st c k w f h) (st d k w (f ++ walk (env_of k w.labels) x) (h ⊕ notes_of x))
-      (rw ((element_begins k x c m r s).0, element_reads k x c m r s w f h, e, i) refl) (rw i (element_shorter k x c m r s w))
+      (rw ((element_begins k x c m r s).0, element_reads k x c m r s w f h (inr (ap is_error e)), e, i) refl) (rw i (element_shorter k x c m r s (ap is_error e) w))
   argument_more commas found k x c m d r s (inr (e, i, g)) w f h =
       loop_more (arguments_turn inner cover commas) found (found ++ x ∷ []) (st c k w f h) (st d k w (f ++ walk (env_of k w.labels) x) (h ⊕ notes_of x))
-      (rw ((element_begins k x c m r s).0, element_reads k x c m r s w f h, e, expect_reads kind.Comma m k w (f ++ walk (env_of k w.labels) x) (h ⊕ notes_of x) e, ← i, g) refl)
-      (rw i (let a = element_shorter k x c m r s w in let b = moves m in omega arith))
+      (rw ((element_begins k x c m r s).0, element_reads k x c m r s w f h (inr (ap is_error e)), e, expect_reads kind.Comma m k w (f ++ walk (env_of k w.labels) x) (h ⊕ notes_of x) e, ← i, g) refl)
+      (rw i (let a = element_shorter k x c m r s (ap is_error e) w in let b = moves m in omega arith))
 
   -- no list of arguments that has one begins with its end
   argument_begins : (commas : Bool) (x : Tree) (xs : List Tree) (k : Code) (c d : Place) → ReadsListed commas (ElementRule In k) (x ∷ xs) c d → supported_in k.flags.module x ≡ true → sees kind.RParen c ≡ false
@@ -324,7 +336,7 @@ module _ (In : Goal → Type 0) (inner : Class → Reader Tree) (cover : Reader 
   computed_key_reads k x c d r s w f h =
       let t : supported_in k.flags.module r.key ≡ true = sym (ap (is_supported_key_in k.flags.module) r.is) ∙ s in
       rw (
-        inside_reads assignment k r.key (after c) r.close r.reads_key t w f h,
+        inside_reads assignment k r.key (after c) r.close r.reads_key t w f h (inr (ap is_error r.closes)),
         expect_reads kind.RBracket r.close k w (f ++ walk (env_of k w.labels) r.key) (h ⊕ notes_of r.key) r.closes,
         r.is,
         r.next,

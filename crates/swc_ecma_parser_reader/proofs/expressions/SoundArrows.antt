@@ -1,15 +1,13 @@
 -- The reader of arrow functions is sound: from `=>` on, and from a name on, behind `async` too.
-use Rattle.std.proofs.Common.{◌≡◌, ℕ, Bool, true, false, List, [], ◌∷◌, ◌++◌, refl, sym, ◌∙◌, ap, subst, append-nil, codes}
+use Rattle.std.proofs.Common.{◌≡◌, ℕ, Bool, true, false, List, [], ◌∷◌, refl, sym, ◌∙◌, ap, subst, append-nil, codes}
 use Rattle.swc_ecma_parser_common.specs.declared.span.Span.{Span}
 use Rattle.swc_ecma_parser_error.specs.Kind as faults
 use Rattle.swc_ecma_parser_token.specs.declared.kind.TokenKind.TheVariants as kind
 use Rattle.swc_ecma_parser_input.specs.Place.{Place, after}
 use Rattle.swc_ecma_parser_model.specs.Tree as tree
 use Rattle.swc_ecma_parser_model.specs.Tree.{Tree, listed, trees}
-use Rattle.swc_ecma_parser_model.specs.Forms.{has_plain_params}
 use Rattle.swc_ecma_parser_grammar.specs.Looks.{kind_at, breaks_at, sees, span_at, spanned}
 use Rattle.swc_ecma_parser_grammar.specs.Names.{Code, name_at}
-use Rattle.swc_ecma_parser_grammar.specs.Own.{misplaced_directive}
 use Rattle.swc_ecma_parser_grammar.specs.Follows.{AsyncWord, not_async, async_word}
 use Rattle.swc_ecma_parser_grammar.specs.Supported.{supported_in, all_supported_in}
 use Rattle.swc_ecma_parser_grammar.specs.ReadsSupported.{ReadsClass}
@@ -19,7 +17,7 @@ use Rattle.swc_ecma_parser_grammar.specs.language.Expressions.{ArrowHeadRule, na
 use Rattle.swc_ecma_parser_grammar.specs.language.Reads.{Reads}
 use Rattle.swc_ecma_parser_grammar.specs.language.Noted.{any_has_meta}
 use Rattle.swc_ecma_parser_grammar.specs.Walk as walks
-use Rattle.swc_ecma_parser_grammar.specs.Walk.{Env, walk, env_of}
+use Rattle.swc_ecma_parser_grammar.specs.Walk.{walk, env_of}
 use Rattle.swc_ecma_parser_grammar.proofs.Tests.{and_yes, and_both}
 use Rattle.swc_ecma_parser_grammar.proofs.Arrows.{arrow_supported, body_unnoted}
 use Rattle.swc_ecma_parser_reader.specs.Notes.{no_notes, ◌⊕◌, notes_of, all_notes_of}
@@ -30,7 +28,7 @@ use Rattle.swc_ecma_parser_reader.specs.Arrows.{begins_named_arrow, arrow_body, 
 use Rattle.swc_ecma_parser_reader.specs.AsyncArrows.{begins_async_arrow, async_named_arrow}
 use Rattle.swc_ecma_parser_reader.proofs.Notes.{or_nil, notes_nil}
 use Rattle.swc_ecma_parser_reader.proofs.Meets.{Meets, meets_then, meets_if, wanted_meets, refuse_meets, saw}
-use Rattle.swc_ecma_parser_reader.proofs.Between.{Sound, SoundTree, same, nil-split, sound_as, sound_after, sound_clean, sound_under, sound_enclosed}
+use Rattle.swc_ecma_parser_reader.proofs.Between.{Sound, SoundTree, same, sound_as, sound_after, sound_under, sound_enclosed}
 use Rattle.swc_ecma_parser_reader.proofs.SoundParts.{meets_both, misdirected_sound}
 use Rattle.swc_ecma_parser_grammar.proofs.StatementBegins.{word_place}
 use Rattle.swc_ecma_parser_reader.proofs.expressions.AsyncHeads.{async_arrow_parts}
@@ -48,10 +46,6 @@ SoundArrowHead n w s ps t = Sound same (λ k l. walks.walks (env_of k l) false (
 -- a supported assignment expression one level further out
 abbrev pub Assignment : ℕ → Code → Tree → Place → Place → Type 0
 Assignment n k x c d = AssignmentRule (Reads n) k x c d × (supported_in k.flags.module x ≡ true)
-
--- what its walk tells of a directive that comes too late
-undirected : (env : Env) (span : Span) (ps : List Tree) (body : Tree) (w : Bool) → walk env (tree.arrow span (listed ps) body w) ≡ [] → misplaced_directive (has_plain_params (listed ps)) body ≡ []
-undirected env span ps body w h = (nil-split (walk env (listed ps) ++ walk (walks.in_body env) body) (misplaced_directive (has_plain_params (listed ps)) body) h).1
 
 -- nothing in its body makes a program a module
 arrow_notes : (span : Span) (ps : List Tree) (body : Tree) (w : Bool)
@@ -85,12 +79,11 @@ module _ (n : ℕ) (inner : Class → Reader Tree) (sound : (class : Class) (s :
       (λ k c d. (ArrowHeadRead n w ps k s.at m.at × BodyRead n w x k (after m.at) u.at) × (t.at ≡ u.at)) s t =
       sound_as s t refl refl (arrow_notes span ps x w) (λ z. z)
       (paired (paired p (moved_back e refl q)) r) in
-      sound_as s t refl refl refl (λ ((((i, v, a, c), b), o), (k, h)). (
+      sound_as s t refl refl refl (λ (((i, v, a, c), b), o). (
         arrow_rule w ps x i m.at v a e l (subst (ArrowBodyRule (Reads n) s.code w x (after m.at)) (sym o) b.0)
             (ap (λ d. tree.arrow (record { lo = (span_at s.at).lo; hi = d.last.hi }) (listed ps) x w) (sym o)),
-        arrow_supported s.code.flags.module span (listed ps) x w
-            (record { supports_params = c; supports_body = b.1; directs = undirected (env_of s.code k) span ps x w h; has_no_notes = b.2 }),
-      )) (sound_clean s t whole))))
+        arrow_supported s.code.flags.module span (listed ps) x w (record { supports_params = c; supports_body = b.1; has_no_notes = b.2 }),
+      )) whole)))
 
   -- ---- from a name on
 

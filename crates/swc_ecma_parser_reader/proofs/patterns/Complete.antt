@@ -32,12 +32,14 @@ use Rattle.swc_ecma_parser_reader.specs.Expressions.{Cover}
 use Rattle.swc_ecma_parser_reader.specs.Patterns as reader
 use Rattle.swc_ecma_parser_reader.specs.Patterns.{rest, array_turn, elements, parameters_turn, parameter_list, array, rest_name, rest_property, key_value, initialized_name, bare_name, named, behind_key, property, object_turn, properties, object, pattern_level, initialized, element_level}
 use Rattle.swc_ecma_parser_reader.proofs.Notes.{or_nil, or_assoc}
-use Rattle.swc_ecma_parser_reader.proofs.Answered.{st, Reads}
+use Rattle.swc_ecma_parser_reader.proofs.Answered.{st, Reads, ReadsCalm}
+use Rattle.swc_ecma_parser_reader.proofs.Calm.{calm_last}
+use Rattle.swc_ecma_parser_reader.proofs.Errors.{is_error}
 use Rattle.swc_ecma_parser_reader.proofs.Takes.{Falls, moves, takes}
 use Rattle.swc_ecma_parser_reader.proofs.Steps.{loop_more, loop_done}
 use Rattle.swc_ecma_parser_reader.proofs.expressions.Covers.{begins_literal, literal_kind}
 use Rattle.swc_ecma_parser_reader.proofs.expressions.CompleteKinds as kinds
-use Rattle.swc_ecma_parser_reader.proofs.expressions.CompleteKinds.{supported_as, seen, array_here, object_here, begin_kind, begin_seen, element_begins, ends_part, ended_at}
+use Rattle.swc_ecma_parser_reader.proofs.expressions.CompleteKinds.{supported_as, seen, array_here, object_here, begin_kind, begin_seen, element_begins, ends_part, part_calm, ended_at}
 use Rattle.swc_ecma_parser_grammar.proofs.Naming.{name_is_name}
 use Rattle.swc_ecma_parser_reader.proofs.expressions.Loops.{shorter_by}
 use Rattle.swc_ecma_parser_reader.proofs.expressions.CompleteParts.{expect_reads, name_reads, IsRead, Behind, behind_last, inside_reads, key_reads}
@@ -75,7 +77,7 @@ plain_first In k x c d (patterns.object_rule xs m i r j q e) n h = absurd (let b
 -- what these goals ask for is read, and takes a token
 pub record IsPatternRead (In : Goal → Type 0) (pattern element : Reader Tree) : Type 0 where
   pub reads_pattern : (k : Code) (x : Tree) (c d : Place) → In (pattern_goal binding k x c d) → supported_in k.flags.module x ≡ true → Reads pattern k x c d
-  pub reads_element : (k : Code) (x : Tree) (c d : Place) → In (element_goal binding k x c d) → supported_in k.flags.module x ≡ true → Reads element k x c d
+  pub reads_element : (k : Code) (x : Tree) (c d : Place) → In (element_goal binding k x c d) → supported_in k.flags.module x ≡ true → ReadsCalm element k x c d
   pub plain : (k : Code) (x : Tree) (c d : Place) → In (pattern_goal binding k x c d) → is_pattern_target x ≡ false → supported_in k.flags.module x ≡ true → begins_literal c ≡ false
   pub begins : (k : Code) (x : Tree) (c d : Place) → In (element_goal binding k x c d) → supported_in k.flags.module x ≡ true → begin_kind (kind_at c) ≡ true
   pub pattern_falls : (s : State) → Falls 1 (length s.at.left) (pattern s)
@@ -90,10 +92,11 @@ module _ (In : Goal → Type 0) (inner : Class → Reader Tree) (cover : Reader 
   unfolding rest spanned
   rest_reads y k x c d r s e w f h = rw (within.reads_pattern (with_in k) y (after c) d r s w f h, e) refl
 
-  element_shorter : (k : Code) (x : Tree) (c d : Place) (w : Scope) → In (element_goal binding (with_in k) x c d) → supported_in k.flags.module x ≡ true → length d.left < length c.left
-  element_shorter k x c d w r s =
+  element_shorter : (k : Code) (x : Tree) (c d : Place) (w : Scope) → In (element_goal binding (with_in k) x c d) → supported_in k.flags.module x ≡ true → is_error (kind_at d) ≡ false
+      → length d.left < length c.left
+  element_shorter k x c d w r s q =
       let t = st d (with_in k) w (walk (env_of k w.labels) x) (notes_of x) in
-      shorter_by (length c.left) (element (st c (with_in k) w [] no_notes)) x t (within.reads_element (with_in k) x c d r s w [] no_notes) (within.element_falls (st c (with_in k) w [] no_notes))
+      shorter_by (length c.left) (element (st c (with_in k) w [] no_notes)) x t (within.reads_element (with_in k) x c d r s w [] no_notes (inr q)) (within.element_falls (st c (with_in k) w [] no_notes))
 
   -- an element, and what stands behind it
   element_more : (found : List Tree) (k : Code) (x : Tree) (c m d : Place) (w : Scope) (f : List Fault) (h : Notes) → In (element_goal binding (with_in k) x c m) → supported_in k.flags.module x ≡ true
@@ -104,7 +107,7 @@ module _ (In : Goal → Type 0) (inner : Class → Reader Tree) (cover : Reader 
   element_more found k x c m d w f h r s (inl (e, i)) =
       let (dots, parenthesis, bracket, comma) = begin_seen c (within.begins (with_in k) x c m r s) in
       loop_more (array_turn inner cover pattern element) found (found ++ x ∷ []) (st c k w f h) (st d k w (f ++ walk (env_of k w.labels) x) (h ⊕ notes_of x))
-      (rw (bracket, comma, dots, within.reads_element (with_in k) x c m r s w f h, e, i) refl) (rw i (element_shorter k x c m w r s))
+      (rw (bracket, comma, dots, within.reads_element (with_in k) x c m r s w f h (inr (ap is_error e)), e, i) refl) (rw i (element_shorter k x c m w r s (ap is_error e)))
   element_more found k x c m d w f h r s (inr (e, i)) =
       let (dots, parenthesis, bracket, comma) = begin_seen c (within.begins (with_in k) x c m r s) in
       loop_more (array_turn inner cover pattern element) found (found ++ x ∷ []) (st c k w f h) (st d k w (f ++ walk (env_of k w.labels) x) (h ⊕ notes_of x))
@@ -112,12 +115,12 @@ module _ (In : Goal → Type 0) (inner : Class → Reader Tree) (cover : Reader 
         bracket,
         comma,
         dots,
-        within.reads_element (with_in k) x c m r s w f h,
+        within.reads_element (with_in k) x c m r s w f h (inr (ap is_error e)),
         e,
         expect_reads kind.Comma m k w (f ++ walk (env_of k w.labels) x) (h ⊕ notes_of x) e,
         i,
       ) refl)
-      (rw i (let a = element_shorter k x c m w r s in let b = moves m in omega arith))
+      (rw i (let a = element_shorter k x c m w r s (ap is_error e) in let b = moves m in omega arith))
 
   -- a hole, and the comma behind it
   hole_more : (found : List Tree) (k : Code) (c : Place) (w : Scope) (f : List Fault) (h : Notes) → kind_at c ≡ kind.Comma
@@ -191,19 +194,19 @@ module _ (In : Goal → Type 0) (inner : Class → Reader Tree) (cover : Reader 
   parameter_more found k x c m d w f h r s (inl (e, i)) =
       let (dots, parenthesis, bracket, comma) = begin_seen c (within.begins (with_in k) x c m r s) in
       loop_more (parameters_turn inner cover pattern element) found (found ++ x ∷ []) (st c k w f h) (st d k w (f ++ walk (env_of k w.labels) x) (h ⊕ notes_of x))
-      (rw (parenthesis, dots, within.reads_element (with_in k) x c m r s w f h, e, i) refl) (rw i (element_shorter k x c m w r s))
+      (rw (parenthesis, dots, within.reads_element (with_in k) x c m r s w f h (inr (ap is_error e)), e, i) refl) (rw i (element_shorter k x c m w r s (ap is_error e)))
   parameter_more found k x c m d w f h r s (inr (e, i)) =
       let (dots, parenthesis, bracket, comma) = begin_seen c (within.begins (with_in k) x c m r s) in
       loop_more (parameters_turn inner cover pattern element) found (found ++ x ∷ []) (st c k w f h) (st d k w (f ++ walk (env_of k w.labels) x) (h ⊕ notes_of x))
       (rw (
         parenthesis,
         dots,
-        within.reads_element (with_in k) x c m r s w f h,
+        within.reads_element (with_in k) x c m r s w f h (inr (ap is_error e)),
         e,
         expect_reads kind.Comma m k w (f ++ walk (env_of k w.labels) x) (h ⊕ notes_of x) e,
         i,
       ) refl)
-      (rw i (let a = element_shorter k x c m w r s in let b = moves m in omega arith))
+      (rw i (let a = element_shorter k x c m w r s (ap is_error e) in let b = moves m in omega arith))
 
   parameters_end : (found : List Tree) (k : Code) (c : Place) (w : Scope) (f : List Fault) (h : Notes) → kind_at c ≡ kind.RParen
       → loop (parameters_turn inner cover pattern element) found (st c k w f h) ≡ Ok (found, st (after c) k w f h)
@@ -250,13 +253,13 @@ module _ (In : Goal → Type 0) (inner : Class → Reader Tree) (cover : Reader 
 
   -- a key and its pattern
   valued_reads : (y z : Tree) (m : Place) (k : Code) (x : Tree) (c d : Place) → KeyRule In (with_in k) y c m → is_supported_key_in k.flags.module y ≡ true → kind_at m ≡ kind.Colon
-      → In (element_goal binding (with_in k) z (after m) d) → supported_in k.flags.module z ≡ true → x ≡ tree.key_value_pat_prop (spanned c d) y z → Reads (property inner cover pattern element) k x c d
+      → In (element_goal binding (with_in k) z (after m) d) → supported_in k.flags.module z ≡ true → is_error (kind_at d) ≡ false → x ≡ tree.key_value_pat_prop (spanned c d) y z → Reads (property inner cover pattern element) k x c d
   unfolding property behind_key key_value spanned
-  valued_reads y z m k x c d r s i g t e w f h =
+  valued_reads y z m k x c d r s i g t q e w f h =
       rw (
         key_reads In inner cover given k y c m (key_outside In inner cover given k y c m r) s w f h,
         seen m kind.Colon i,
-        within.reads_element (with_in k) z (after m) d g t w (f ++ walk (env_of k w.labels) y) (h ⊕ notes_of y),
+        within.reads_element (with_in k) z (after m) d g t w (f ++ walk (env_of k w.labels) y) (h ⊕ notes_of y) (inr q),
         append_assoc f (walk (env_of k w.labels) y) (walk (env_of k w.labels) z),
         append_assoc h.held_back (notes y) (notes z),
         or_assoc h.found_module_item (has_meta y) (has_meta z),
@@ -281,10 +284,10 @@ module _ (In : Goal → Type 0) (inner : Class → Reader Tree) (cover : Reader 
       ) refl
 
   initialized_reads : (text : Text) (sp : Span) (z : Tree) (m : Place) (k : Code) (x : Tree) (c d : Place) → ReadsName (with_in k) text sp c m → supported_in k.flags.module (tree.ident_pat sp text) ≡ true
-      → kind_at m ≡ kind.Assign → In (expr_goal assignment (with_in k) z (after m) d) → supported_in k.flags.module z ≡ true → x ≡ tree.assign_pat_prop (spanned c d) (tree.ident_pat sp text) z
-      → Reads (property inner cover pattern element) k x c d
+      → kind_at m ≡ kind.Assign → In (expr_goal assignment (with_in k) z (after m) d) → supported_in k.flags.module z ≡ true → is_error (kind_at d) ≡ false
+      → x ≡ tree.assign_pat_prop (spanned c d) (tree.ident_pat sp text) z → Reads (property inner cover pattern element) k x c d
   unfolding property behind_key named initialized_name as_name spanned same_kind
-  initialized_reads text sp z m k x c d r s i g t e w f h =
+  initialized_reads text sp z m k x c d r s i g t q e w f h =
       rw (
         key_reads In inner cover given k (tree.ident sp text) c m (parts.word_key text sp (word_of In inner cover given (with_in k) text sp c m r) refl) refl w f h,
         i,
@@ -293,7 +296,7 @@ module _ (In : Goal → Type 0) (inner : Class → Reader Tree) (cover : Reader 
         append-nil f,
         append-nil h.held_back,
         or_nil h.found_module_item,
-        inside_reads In inner cover given assignment k z (after m) d g t w f h,
+        inside_reads In inner cover given assignment k z (after m) d g t w f h (inr q),
         e,
       ) refl
 
@@ -301,13 +304,13 @@ module _ (In : Goal → Type 0) (inner : Class → Reader Tree) (cover : Reader 
       → Reads (property inner cover pattern element) k x c d
   property_reads k x c d (patterns.key_value_rule y z m r i v g) a s q w f h =
       let t = and_yes (is_supported_key_in k.flags.module y) _ (supported_as _ x (tree.key_value_pat_prop (spanned c d) y z) g s) in
-      valued_reads y z m k x c d r t.0 i v t.1 g w f h
+      valued_reads y z m k x c d r t.0 i v t.1 (part_calm d q) g w f h
   property_reads k x c d (patterns.shorthand_rule text sp r n g) a s q w f h =
       let t = and_yes (supported_in k.flags.module (tree.ident_pat sp text)) _ (supported_as _ x (tree.assign_pat_prop (spanned c d) (tree.ident_pat sp text) tree.absent) g s) in
       shorthand_reads text sp k x c d r t.0 q g w f h
   property_reads k x c d (patterns.default_rule text sp z m r i v g) a s q w f h =
       let t = and_yes (supported_in k.flags.module (tree.ident_pat sp text)) _ (supported_as _ x (tree.assign_pat_prop (spanned c d) (tree.ident_pat sp text) z) g s) in
-      initialized_reads text sp z m k x c d r t.0 i v t.1 g w f h
+      initialized_reads text sp z m k x c d r t.0 i v t.1 (part_calm d q) g w f h
   property_reads k x c d (patterns.rest_rule y o r n e) a s q w f h = absurd (let b : is_rest x ≡ true = ap is_rest e in cc)
 
   -- a property, and what stands behind it
@@ -418,15 +421,15 @@ module _ (In : Goal → Type 0) (inner : Class → Reader Tree) (cover : Reader 
   pattern_reads_by k x c d (patterns.object_rule xs m i r j n e) s w f h =
       rw i (object_reads xs m k x c d r (supported_as _ x (tree.object_pat (spanned c d) (listed xs)) e s) j n e w f h)
 
-  element_reads_by : (k : Code) (x : Tree) (c d : Place) → PatternElementRule In binding k x c d → supported_in k.flags.module x ≡ true → Reads (element_level inner cover pattern element) k x c d
+  element_reads_by : (k : Code) (x : Tree) (c d : Place) → PatternElementRule In binding k x c d → supported_in k.flags.module x ≡ true → ReadsCalm (element_level inner cover pattern element) k x c d
   unfolding element_level initialized spanned same_kind
-  element_reads_by k x c d (patterns.bare_rule r e) s w f h = rw (pattern_reads_by k x c d r s w f h, e) refl
-  element_reads_by k x c d (patterns.initialized_rule y z m r i v e) s w f h =
+  element_reads_by k x c d (patterns.bare_rule r e) s w f h q = rw (pattern_reads_by k x c d r s w f h, e) refl
+  element_reads_by k x c d (patterns.initialized_rule y z m r i v e) s w f h q =
       let t = and_yes (supported_in k.flags.module y) _ (supported_as _ x (tree.assign_pat (spanned c d) y z) e s) in
       rw (
         pattern_reads_by k y c m r t.0 w f h,
         i,
-        inside_reads In inner cover given assignment k z (after m) d v t.1 w (f ++ walk (env_of k w.labels) y) (h ⊕ notes_of y),
+        inside_reads In inner cover given assignment k z (after m) d v t.1 w (f ++ walk (env_of k w.labels) y) (h ⊕ notes_of y) (calm_last d (walk (env_of k w.labels) y) (walk (env_of k w.labels) z) _ (ap (walk (env_of k w.labels)) e) q),
         append_assoc f (walk (env_of k w.labels) y) (walk (env_of k w.labels) z),
         append_assoc h.held_back (notes y) (notes z),
         or_assoc h.found_module_item (has_meta y) (has_meta z),
@@ -445,7 +448,7 @@ module _ (n : ℕ) (inner : Class → Reader Tree) (cover : Reader Cover) (given
   pub pattern_above : IsPatternRead (language.Reads (suc n)) (pattern_level inner cover pattern element) (element_level inner cover pattern element)
   pattern_above = record {
     reads_pattern = λ k x c d r s w f h. pattern_reads_by (language.Reads n) inner cover given pattern element within k x c d r s w f h;
-    reads_element = λ k x c d r s w f h. element_reads_by (language.Reads n) inner cover given pattern element within k x c d r s w f h;
+    reads_element = λ k x c d r s w f h q. element_reads_by (language.Reads n) inner cover given pattern element within k x c d r s w f h q;
     plain = level_plain (suc n);
     begins = element_begins binding (suc n);
     pattern_falls = pattern_level_falls inner given.falls cover given.cover_falls pattern within.pattern_falls element within.element_falls;
