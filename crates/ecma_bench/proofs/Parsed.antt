@@ -18,12 +18,12 @@ use Rattle.swc_ecma_parser_ast.specs.declared.script.Script.{Script}
 use Rattle.swc_ecma_parser_ast.specs.View.{view_script}
 use Rattle.swc_ecma_parser_grammar.specs.Entries.{script_code}
 use Rattle.swc_ecma_parser_grammar.specs.language.Programs as programs
-use Rattle.swc_ecma_parser_grammar.specs.Supported.{supported}
+use Rattle.swc_ecma_parser_grammar.specs.language.Programs.{ReadsEntry}
 use Rattle.swc_ecma_parser_grammar.specs.Walk.{walk, env_of}
 use Rattle.swc_ecma_parser_reader.specs.State.{State, Outcome}
-use Rattle.swc_ecma_parser_reader.specs.Entry.{unmarked, ReadsSupported, SoundScript, CompleteScript, script_walk}
+use Rattle.swc_ecma_parser_reader.specs.Entry.{unmarked, SoundScript, script_walk}
 use Rattle.swc_ecma_parser_state.specs.Opened.{opened}
-use Rattle.swc_ecma_parser_spelled.proofs.Entries.{spelled_whole}
+use Rattle.swc_ecma_parser_spelled.specs.Completes.{CompletesScript}
 use Rattle.ecma_report.specs.Spelled.{start_of, Spells}
 use Rattle.ecma_bench.specs.declared.fault.Fault.{Fault}
 use Rattle.ecma_bench.specs.declared.fault.Fault.TheVariants as fault
@@ -67,8 +67,8 @@ module _ (limit : ℕ) (s t : State) (faults : List Error) where
 
   -- a tree that is read with no fault stands
   pub complete_script : (answer : Result (Script Held) Error) (r : Result (Script Held) Fault) → IfOk answer (λ y. faults ≡ [] → r ≡ Ok y) → IfErr answer (λ e. IsErrAnd r (TellsRefusal e))
-      → faults_of faults ≡ t.faults → CompleteScript view_script limit (unmarked s) answer t
-      → (x : Tree) (d : Place) → ReadsSupported limit s.code x s.at d → script_walk s x ≡ [] → s.faults ≡ [] → MatchResult r (λ y. x ≡ view_script y) TellsWant
+      → faults_of faults ≡ t.faults → CompletesScript view_script limit (unmarked s) answer t
+      → (x : Tree) (d : Place) → ReadsEntry limit programs.script s.code x s.at d → script_walk s x ≡ [] → s.faults ≡ [] → MatchResult r (λ y. x ≡ view_script y) TellsWant
   complete_script (Ok y) r c w g h x d p k n =
       let e = h x d p (inl k) in
       let u : t.faults ≡ [] = sym (ap (λ o. (state_of s o).faults) e) ∙ ap (λ z. s.faults ++ z) k ∙ append-nil s.faults ∙ n in
@@ -99,7 +99,7 @@ module _ (text : List ℕ) (s : State) where
 
   -- what the text spells is the answer
   pub spelled_answered : (lacking : Bool) → (lacking ≡ false → s ≡ start_of text) → (r : Result (Script Held) Fault) → (lacking ≡ true → IsErrOf r fault.OutOfMemory)
-      → ((x : Tree) (d : Place) → ReadsSupported 1000 s.code x s.at d → script_walk s x ≡ [] → s.faults ≡ [] → MatchResult r (λ y. x ≡ view_script y) TellsWant)
+      → ((x : Tree) (d : Place) → ReadsEntry 1000 programs.script s.code x s.at d → script_walk s x ≡ [] → s.faults ≡ [] → MatchResult r (λ y. x ≡ view_script y) TellsWant)
       → (x : Tree) → Spells text x → MatchResult r (λ y. x ≡ view_script y) TellsWant
   unfolding Spells
   spelled_answered true b r l h x p = subst (λ o. MatchResult o (λ y. x ≡ view_script y) TellsWant) (sym (l refl)) tt
@@ -107,8 +107,7 @@ module _ (text : List ℕ) (s : State) where
       let e = b refl in
       let q : programs.Spells 1000 programs.script s.code [] x s.at d = subst (λ o. programs.Spells 1000 programs.script o.code [] x o.at d) (sym e) p in
       let labels : s.scope.labels ≡ [] = ap (λ o. o.scope.labels) e in
-      let known : supported x ≡ true = spelled_whole 1000 programs.script s.code [] x s.at d 0 (λ i. cc) q in
-      h x d (q.0, known) (ap (λ z. walk (env_of (script_code s.code) z) x) labels ∙ q.1) (ap (λ o. o.faults) e)
+      h x d q.0 (ap (λ z. walk (env_of (script_code s.code) z) x) labels ∙ q.1) (ap (λ o. o.faults) e)
 
 -- neither of two tests holds
 neither : (a b : Bool) → (a || b) ≡ false → (a ≡ false) × (b ≡ false)

@@ -2,10 +2,12 @@
 
 ghost use Rattle.std.specs.Prelude.{◌≡◌, ◌≤◌, ◌^◌, ◌||◌, true, [], length, IsOk, IfOk, IfErr, IsErrOf, IsErrAnd, IfSome, MatchResult, slice_get};
 ghost use Rattle.swc_ecma_parser_ast.specs.View.{view_script};
+ghost use Rattle.swc_ecma_parser_grammar.specs.language.Programs as programs;
+ghost use Rattle.swc_ecma_parser_grammar.specs.language.Programs.{ReadsEntry};
 ghost use Rattle.swc_ecma_parser_input.specs.Place as place;
 ghost use Rattle.swc_ecma_parser_input.specs.Place.{Place};
 ghost use Rattle.swc_ecma_parser_model.specs.Tree.{Tree};
-ghost use Rattle.swc_ecma_parser_reader.specs.Entry.{unmarked, script_walk, ReadsSupported, SoundScript};
+ghost use Rattle.swc_ecma_parser_reader.specs.Entry.{unmarked, script_walk, SoundScript};
 ghost use Rattle.swc_ecma_parser_reader.specs.State.{State};
 ghost use Rattle.ecma_report.specs.Spelled.{Spells};
 ghost use Rattle.ecma_bench.specs.Faults.{TellsRefusal, TellsRecord, TellsWant};
@@ -92,7 +94,7 @@ fn script_of<I: Tokens>(parser: &mut Parser<I>) -> Result<Script, Fault>
         → IsErrOf result Fault.OutOfMemory }
     ensures sound { IfOk result (λ script. (t : State) × (t.faults ≡ [])
         × SoundScript parser.old.limit (unmarked parser.old.state) (view_script script) t) }
-    ensures complete { (x : Tree) (d : Place) → ReadsSupported parser.old.limit parser.old.state.code x parser.old.state.at d
+    ensures complete { (x : Tree) (d : Place) → ReadsEntry parser.old.limit programs.script parser.old.state.code x parser.old.state.at d
         → script_walk parser.old.state x ≡ [] → parser.old.state.faults ≡ [] → MatchResult result (λ script. x ≡ view_script script) TellsWant }
 {
     if parser.lacks_memory() {

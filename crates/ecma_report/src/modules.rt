@@ -6,10 +6,11 @@ ghost use Rattle.swc_ecma_parser_ast.specs.declared.program.Module.{Module};
 ghost use Rattle.swc_ecma_parser_error.specs.declared.error.Error.{Error};
 ghost use Rattle.swc_ecma_parser_model.specs.Held.{Held};
 ghost use Rattle.swc_ecma_parser_model.specs.Tree.{trees};
-ghost use Rattle.swc_ecma_parser_module_reader.specs.Entry.{IsEntered, SoundModule, CompleteModule};
+ghost use Rattle.swc_ecma_parser_module_reader.specs.Entry.{IsEntered, SoundModule};
 ghost use Rattle.swc_ecma_parser_reader.specs.State.{State};
 ghost use Rattle.swc_ecma_parser_reader.specs.Entry.{unmarked};
 ghost use Rattle.ecma_report.specs.Lines.{form_name, item_line, item_lines, answer_lines, seen};
+ghost use Rattle.swc_ecma_parser_spelled.specs.Completes.{CompletesModule};
 
 use crate::answer::discard;
 use crate::lines::{Whole, kind_name, write_node};
@@ -77,12 +78,12 @@ impl Whole for Module {
 
 /// Has a parser read a module, and takes the faults that it recorded. The lines are those of an answer and of the faults of the
 /// state `t` behind it, in which the parser is left but for them. From a state on in which module code begins, a tree among them
-/// is sound, and each supported module within the limit that spells the parser's list is that answer.
+/// is sound, and each module within the limit that the language has for the parser's list is that answer.
 pub fn show_module<I: Tokens>(alloc: Global, parser: &mut Parser<I>) -> Result<Shown, AllocError>
     ensures { IfOk result (λ shown. (answer : Result (Module Held) Error) × (t : State) × (parser.new.state ≡ record t { faults = [] })
         × (string_bytes shown.lines ≡ answer_lines (seen view_module answer) t.faults)
         × ((u : State) × IsEntered (unmarked parser.old.state) u × IfOk answer (λ x. SoundModule parser.old.limit u (view_module x) t))
-        × ((u : State) × IsEntered (unmarked parser.old.state) u × CompleteModule view_module parser.old.limit u answer t)) }
+        × ((u : State) × IsEntered (unmarked parser.old.state) u × CompletesModule view_module parser.old.limit u answer t)) }
 {
     let answer = parser.parse_module();
     let faults = parser.take_errors();

@@ -6,8 +6,9 @@ ghost use Rattle.swc_ecma_parser_ast.specs.declared.stmt.Stmt.{Stmt};
 ghost use Rattle.swc_ecma_parser_error.specs.declared.error.Error.{Error};
 ghost use Rattle.swc_ecma_parser_model.specs.Held.{Held};
 ghost use Rattle.swc_ecma_parser_reader.specs.State.{State};
-ghost use Rattle.swc_ecma_parser_reader.specs.Entry.{unmarked, SoundStatement, CompleteStatement};
+ghost use Rattle.swc_ecma_parser_reader.specs.Entry.{unmarked, SoundStatement};
 ghost use Rattle.ecma_report.specs.Lines.{statement_lines, seen};
+ghost use Rattle.swc_ecma_parser_spelled.specs.Completes.{CompletesStatement};
 
 use crate::lines::lines_of_statement;
 use std::alloc::{AllocError, Global};
@@ -19,7 +20,7 @@ use swc_ecma_parser::input::Tokens;
 /// Reads one statement, which may be a declaration or not.
 fn statement<I: Tokens>(parser: &mut Parser<I>, may_declare: bool, top_level: bool) -> PResult<Stmt>
     ensures sound { IfOk result (λ x. SoundStatement parser.old.limit may_declare top_level (unmarked parser.old.state) (view_stmt x) parser.new.state) }
-    ensures complete { CompleteStatement view_stmt parser.old.limit may_declare top_level (unmarked parser.old.state) result parser.new.state }
+    ensures complete { CompletesStatement view_stmt parser.old.limit may_declare top_level (unmarked parser.old.state) result parser.new.state }
 {
     if may_declare {
         return parser.parse_stmt_list_item(top_level);
@@ -36,7 +37,7 @@ fn discard(answer: PResult<Stmt>) {
 
 /// Has a parser read one statement, which may be a declaration or not, and takes the faults that it recorded. The lines are those
 /// of an answer and of the faults of the state `t` behind it, in which the parser is left but for them. A tree among them is
-/// sound, and each supported tree within the limit that tokens from there on spell is that answer.
+/// sound, and each tree within the limit that the language has for tokens from there on is that answer.
 pub fn show_statement<I: Tokens>(
     alloc: Global,
     parser: &mut Parser<I>,
@@ -46,7 +47,7 @@ pub fn show_statement<I: Tokens>(
     ensures { IfOk result (λ shown. (answer : Result (Stmt Held) Error) × (t : State) × (parser.new.state ≡ record t { faults = [] })
         × (string_bytes shown ≡ statement_lines (seen view_stmt answer) t.faults)
         × IfOk answer (λ x. SoundStatement parser.old.limit may_declare top_level (unmarked parser.old.state) (view_stmt x) t)
-        × CompleteStatement view_stmt parser.old.limit may_declare top_level (unmarked parser.old.state) answer t) }
+        × CompletesStatement view_stmt parser.old.limit may_declare top_level (unmarked parser.old.state) answer t) }
 {
     let answer = statement(parser, may_declare, top_level);
     let faults = parser.take_errors();

@@ -7,8 +7,9 @@ ghost use Rattle.swc_ecma_parser_error.specs.Kind.{faults_of};
 ghost use Rattle.swc_ecma_parser_error.specs.declared.error.Error.{Error};
 ghost use Rattle.swc_ecma_parser_model.specs.Held.{Held};
 ghost use Rattle.swc_ecma_parser_reader.specs.State.{State};
-ghost use Rattle.swc_ecma_parser_reader.specs.Entry.{unmarked, SoundScript, CompleteScript};
+ghost use Rattle.swc_ecma_parser_reader.specs.Entry.{unmarked, SoundScript};
 ghost use Rattle.ecma_report.specs.Lines.{answer_lines, seen};
+ghost use Rattle.swc_ecma_parser_spelled.specs.Completes.{CompletesScript};
 
 use crate::answer::discard;
 use crate::lines::{Whole, lines};
@@ -51,13 +52,13 @@ pub(crate) fn texts<T: Whole + Debug>(
 }
 
 /// Has a parser read a script, and takes the faults that it recorded. The lines are those of an answer and of the faults of the
-/// state `t` behind it, in which the parser is left but for them. A tree among them is sound, and each supported tree within
-/// the limit that spells the parser's list is that answer.
+/// state `t` behind it, in which the parser is left but for them. A tree among them is sound, and each tree within the
+/// limit that the language has for the parser's list is that answer.
 pub fn show<I: Tokens>(alloc: Global, parser: &mut Parser<I>) -> Result<Shown, AllocError>
     ensures { IfOk result (λ shown. (answer : Result (Script Held) Error) × (t : State) × (parser.new.state ≡ record t { faults = [] })
         × (string_bytes shown.lines ≡ answer_lines (seen view_script answer) t.faults)
         × IfOk answer (λ x. SoundScript parser.old.limit (unmarked parser.old.state) (view_script x) t)
-        × CompleteScript view_script parser.old.limit (unmarked parser.old.state) answer t) }
+        × CompletesScript view_script parser.old.limit (unmarked parser.old.state) answer t) }
 {
     let answer = parser.parse_script();
     let faults = parser.take_errors();

@@ -7,13 +7,14 @@ ghost use Rattle.swc_ecma_parser_error.specs.Kind.{fault_of, faults_of, kind_of,
 ghost use Rattle.swc_ecma_parser_error.specs.declared.error.Error.{Error};
 ghost use Rattle.swc_ecma_parser_forward.specs.Forward.{in_order, AnswersForward};
 ghost use Rattle.swc_ecma_parser_input.specs.Place as place;
-ghost use Rattle.swc_ecma_parser_module_reader.specs.Entry.{IsEntered, SoundModule, CompleteModule};
-ghost use Rattle.swc_ecma_parser_module_reader.specs.ItemEntry.{SoundItemAlone, CompleteItem};
-ghost use Rattle.swc_ecma_parser_module_reader.specs.ProgramEntry.{SoundProgram, CompleteProgram};
+ghost use Rattle.swc_ecma_parser_module_reader.specs.Entry.{IsEntered, SoundModule};
+ghost use Rattle.swc_ecma_parser_module_reader.specs.ItemEntry.{SoundItemAlone};
+ghost use Rattle.swc_ecma_parser_module_reader.specs.ProgramEntry.{SoundProgram};
 ghost use Rattle.swc_ecma_parser_reader.specs.Notes.{held_of};
 ghost use Rattle.swc_ecma_parser_reader.specs.State as reader;
-ghost use Rattle.swc_ecma_parser_reader.specs.Entry.{unmarked, SoundScript, CompleteScript, SoundStatement, CompleteStatement, IsRestored, Stays};
+ghost use Rattle.swc_ecma_parser_reader.specs.Entry.{unmarked, SoundScript, SoundStatement, IsRestored, Stays};
 ghost use Rattle.swc_ecma_parser_reader.specs.Limits.{has_too_deep_token, has_out_of_memory_token};
+ghost use Rattle.swc_ecma_parser_spelled.specs.Completes.{CompletesScript, CompletesModule, CompletesProgram, CompletesItem, CompletesStatement};
 ghost use Rattle.swc_ecma_parser_spelled.specs.Decides.{DecidesScript, DecidesStatement};
 ghost use Rattle.swc_ecma_parser_spelled.specs.ModuleDecides.{DecidesModule, DecidesItem, DecidesProgram};
 ghost use Rattle.swc_ecma_parser_spelled.specs.Spelled.{Ordered};
@@ -97,8 +98,8 @@ impl<I: Tokens> Parser<I> {
         // nothing was dropped.
         ensures sound { IfOk result (λ x. SoundScript self.old.limit (unmarked self.old.state) (view_script x) self.new.state) }
 
-        // Each supported tree within the limit that spells the list is the answer, and only it, with its walk recorded.
-        ensures complete { CompleteScript view_script self.old.limit (unmarked self.old.state) result self.new.state }
+        // Each tree within the limit that the language has for the list is the answer, and only it, with its walk recorded.
+        ensures complete { CompletesScript view_script self.old.limit (unmarked self.old.state) result self.new.state }
 
         // Unless memory ran out: a tree is the answer, read up to a place with nothing recorded, exactly where the tokens up to there
         // spell it within the limit.
@@ -142,9 +143,10 @@ impl<I: Tokens> Parser<I> {
         ensures sound { (u : reader.State) × IsEntered (unmarked self.old.state) u
             × IfOk result (λ x. SoundModule self.old.limit u (view_module x) self.new.state) }
 
-        // Each supported module within the limit that spells the list is the answer, and only it, with its walk recorded.
+        // Each module within the limit that the language has for the list is the answer, and only it, with its walk recorded; where
+        // an export has decorators, of tokens in order.
         ensures complete { (u : reader.State) × IsEntered (unmarked self.old.state) u
-            × CompleteModule view_module self.old.limit u result self.new.state }
+            × CompletesModule view_module self.old.limit u result self.new.state }
 
         // On tokens in order, from `u` on and unless memory ran out: a tree is the answer with nothing recorded, exactly where the
         // whole list spells it within the limit.
@@ -191,9 +193,9 @@ impl<I: Tokens> Parser<I> {
         // dropped.
         ensures sound { IfOk result (λ x. SoundProgram self.old.limit (unmarked self.old.state) (view_program x) self.new.state) }
 
-        // Each supported program within the limit that spells the list is the answer, and only it, with its walk recorded, and
-        // with what had been held back before, if it is a module.
-        ensures complete { CompleteProgram view_program self.old.limit (unmarked self.old.state) result self.new.state }
+        // Each program within the limit that the language has for the list is the answer, and only it, with its walk recorded, and
+        // with what had been held back before, if it is a module; where an export has decorators, of tokens in order.
+        ensures complete { CompletesProgram view_program self.old.limit (unmarked self.old.state) result self.new.state }
 
         // The same on tokens in order, unless memory ran out: a tree is the answer, read up to a place with nothing recorded but what
         // had been held back, exactly where the tokens up to there spell it within the limit.
@@ -238,9 +240,9 @@ impl<I: Tokens> Parser<I> {
         // nothing was dropped, its tabled faults are its walk.
         ensures sound { IfOk result (λ x. SoundItemAlone self.old.limit (unmarked self.old.state) (view_module_item x) self.new.state) }
 
-        // Each supported item within the limit that tokens from here on spell is the answer, and only it, with its walk recorded, and
-        // with what had been held back, if it is an import or an export.
-        ensures complete { CompleteItem view_module_item self.old.limit (unmarked self.old.state) result self.new.state }
+        // Each item within the limit that the language has for tokens from here on is the answer, and only it, with its walk
+        // recorded, and with what had been held back, if it is an import or an export; with decorators, of tokens in order.
+        ensures complete { CompletesItem view_module_item self.old.limit (unmarked self.old.state) result self.new.state }
 
         // The same on tokens in order, unless memory ran out: a tree is the answer, read up to a place with nothing recorded but what
         // had been held back, exactly where the tokens up to there spell it within the limit.
@@ -281,8 +283,8 @@ impl<I: Tokens> Parser<I> {
         // supported, and its walk is empty; where no error token was read and nothing was dropped, its tabled faults are its walk.
         ensures sound { IfOk result (λ x. SoundStatement self.old.limit false top_level (unmarked self.old.state) (view_stmt x) self.new.state) }
 
-        // Each supported tree within the limit that tokens from here on spell is the answer, and only it, with its walk recorded.
-        ensures complete { CompleteStatement view_stmt self.old.limit false top_level (unmarked self.old.state) result self.new.state }
+        // Each tree within the limit that the language has for tokens from here on is the answer, and only it, with its walk recorded.
+        ensures complete { CompletesStatement view_stmt self.old.limit false top_level (unmarked self.old.state) result self.new.state }
 
         // Unless memory ran out: a tree is the answer, read up to a place with nothing recorded, exactly where the tokens up to there
         // spell it within the limit.
@@ -326,8 +328,8 @@ impl<I: Tokens> Parser<I> {
         // supported, and its walk is empty; where no error token was read and nothing was dropped, its tabled faults are its walk.
         ensures sound { IfOk result (λ x. SoundStatement self.old.limit true top_level (unmarked self.old.state) (view_stmt x) self.new.state) }
 
-        // Each supported tree within the limit that tokens from here on spell is the answer, and only it, with its walk recorded.
-        ensures complete { CompleteStatement view_stmt self.old.limit true top_level (unmarked self.old.state) result self.new.state }
+        // Each tree within the limit that the language has for tokens from here on is the answer, and only it, with its walk recorded.
+        ensures complete { CompletesStatement view_stmt self.old.limit true top_level (unmarked self.old.state) result self.new.state }
 
         // Unless memory ran out: a tree is the answer, read up to a place with nothing recorded, exactly where the tokens up to there
         // spell it within the limit.

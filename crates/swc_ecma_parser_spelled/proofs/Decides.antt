@@ -1,15 +1,15 @@
--- An entry for scripts or statements that is sound and complete decides, where what is spelled is supported.
+-- An entry for scripts or statements that is sound and answers whatever is read decides.
 use Rattle.std.proofs.Common.{◌≡◌, ℕ, suc, ◌+◌, Bool, true, false, List, [], ◌∷◌, ◌++◌, length, length-append, Result, Ok, Err, IfOk, inl, append-nil, refl, sym, ◌∙◌, ap, subst, arith}
 use Rattle.swc_ecma_parser_error.specs.declared.error.Error.{Error}
 use Rattle.swc_ecma_parser_error.specs.Kind.{Fault, fault_of}
 use Rattle.swc_ecma_parser_input.specs.Place.{Place}
 use Rattle.swc_ecma_parser_model.specs.Tree.{Tree}
-use Rattle.swc_ecma_parser_grammar.specs.Supported.{supported}
 use Rattle.swc_ecma_parser_grammar.specs.language.Programs as programs
 use Rattle.swc_ecma_parser_grammar.specs.language.Programs.{script_awaits, Spells}
-use Rattle.swc_ecma_parser_reader.specs.Entry.{SoundScript, CompleteScript, script_walk, script_left, SoundStatement, CompleteStatement, statement_entry, statement_walk, statement_left}
+use Rattle.swc_ecma_parser_reader.specs.Entry.{SoundScript, script_walk, script_left, SoundStatement, statement_entry, statement_walk, statement_left}
 use Rattle.swc_ecma_parser_reader.specs.State.{State, GivesAs, Outcome}
 use Rattle.swc_ecma_parser_reader.proofs.expressions.Covers.{same_answer}
+use Rattle.swc_ecma_parser_spelled.specs.Completes.{CompletesScript, CompletesStatement}
 use Rattle.swc_ecma_parser_spelled.specs.Decides.{IsAnswer, Decides, DecidesScript, DecidesStatement}
 
 -- ---- lists of faults
@@ -56,14 +56,13 @@ module _ (X : Type 0) (view : X → Tree) (limit : ℕ) (s : State) where
   script_spells (Ok y) t h = λ e. h.spells (none_behind s.faults h.added (sym h.faults ∙ e))
   script_spells (Err e) t h = tt
 
-  pub script_decides : (r : Result X Error) (t : State) → ((x : Tree) (d : Place) → Spells limit programs.script s.code s.scope.labels x s.at d → supported x ≡ true)
-      → IfOk r (λ y. SoundScript limit s (view y) t) → CompleteScript view limit s r t → DecidesScript view limit s r t
-  script_decides r t law sound complete =
+  pub script_decides : (r : Result X Error) (t : State) → IfOk r (λ y. SoundScript limit s (view y) t) → CompletesScript view limit s r t → DecidesScript view limit s r t
+  script_decides r t sound completes =
       decides X view s r t (λ x d. Spells limit programs.script s.code s.scope.labels x s.at d) (script_spells r t sound) (λ x d h. record {
         left = script_left s x d (script_awaits limit s.code x s.at d h.0);
         at = refl;
         faults = no_faults s.faults (script_walk s x) h.1;
-        gives = complete x d (h.0, law x d h) (inl h.1);
+        gives = completes x d h.0 (inl h.1);
       })
 
   statement_spells : (include_decl top_level : Bool) (r : Result X Error) (t : State) → IfOk r (λ y. SoundStatement limit include_decl top_level s (view y) t)
@@ -75,16 +74,14 @@ module _ (X : Type 0) (view : X → Tree) (limit : ℕ) (s : State) where
   statement_faults true top_level x d h = h.1
   statement_faults false top_level x d h = h.1
 
-  pub statement_decides : (include_decl top_level : Bool) (r : Result X Error) (t : State)
-      → ((x : Tree) (d : Place) → Spells limit (statement_entry include_decl top_level) s.code s.scope.labels x s.at d → supported x ≡ true)
-      → IfOk r (λ y. SoundStatement limit include_decl top_level s (view y) t) → CompleteStatement view limit include_decl top_level s r t
-      → DecidesStatement view limit include_decl top_level s r t
-  statement_decides include_decl top_level r t law sound complete =
+  pub statement_decides : (include_decl top_level : Bool) (r : Result X Error) (t : State) → IfOk r (λ y. SoundStatement limit include_decl top_level s (view y) t)
+      → CompletesStatement view limit include_decl top_level s r t → DecidesStatement view limit include_decl top_level s r t
+  statement_decides include_decl top_level r t sound completes =
       decides X view s r t (λ x d. Spells limit (statement_entry include_decl top_level) s.code s.scope.labels x s.at d) (statement_spells include_decl top_level r t sound) (λ x d h.
       let w = statement_faults include_decl top_level x d h in
       record {
         left = statement_left top_level s x d;
         at = refl;
         faults = no_faults s.faults (statement_walk s x) w;
-        gives = complete x d (h.0, law x d h) (inl w);
+        gives = completes x d h.0 (inl w);
       })

@@ -1,4 +1,4 @@
--- Expressions and patterns are supported where the walk finds no fault.
+-- Expressions and patterns are supported.
 use Rattle.std.proofs.Common.{ℕ, suc, Bool, true, false, List, [], ◌∷◌, ◌++◌, refl, ap}
 use Rattle.swc_ecma_parser_common.specs.declared.span.Span.{Span}
 use Rattle.swc_ecma_parser_input.specs.Place.{Place, after}
@@ -10,8 +10,6 @@ use Rattle.swc_ecma_parser_grammar.specs.Looks.{span_at, spanned}
 use Rattle.swc_ecma_parser_grammar.specs.Names.{Code}
 use Rattle.swc_ecma_parser_grammar.specs.Parameters.{parameters}
 use Rattle.swc_ecma_parser_grammar.specs.Reads.{with_in}
-use Rattle.swc_ecma_parser_grammar.specs.Walk as walks
-use Rattle.swc_ecma_parser_grammar.specs.Walk.{walk, walk_body, in_params}
 use Rattle.swc_ecma_parser_grammar.specs.language.Goals.{Goal, Class, Purpose, binding, expression, assignment, operator, unary, left_side, callee, expr_goal, callee_goal, pattern_goal, element_goal}
 use Rattle.swc_ecma_parser_grammar.specs.language.Contexts.{in_arrow}
 use Rattle.swc_ecma_parser_grammar.specs.language.Operators.{precedence}
@@ -28,43 +26,30 @@ use Rattle.swc_ecma_parser_grammar.specs.language.Expressions.{UnaryRule, Binary
 use Rattle.swc_ecma_parser_grammar.specs.language.Decorators as decorators
 use Rattle.swc_ecma_parser_grammar.specs.language.Decorators.{ChainRule, GroupRule, DecoratedRule}
 use Rattle.swc_ecma_parser_grammar.proofs.Tests.{and_both}
-use Rattle.swc_ecma_parser_grammar.proofs.SupportedIn.{parted}
 use Rattle.swc_ecma_parser_grammar.specs.Supported.{supported}
 use Rattle.swc_ecma_parser_spelled.specs.Spelled.{Whole, WholeGoal}
-use Rattle.swc_ecma_parser_spelled.proofs.Wholes.{pair, as_form, leaf, both, three, WholeKey, WholeBody, EachWhole, each_as, list_whole, parameters_whole, listed_whole, separated_whole, elements_whole}
+use Rattle.swc_ecma_parser_spelled.proofs.Wholes.{as_form, both, three, WholeKey, EachWhole, each_as, list_whole, parameters_whole, listed_whole, separated_whole, elements_whole}
 use Rattle.swc_ecma_parser_spelled.proofs.Parts.{name_supported, WholeParts, key_whole, access_whole, element_whole, arguments_whole, block_whole, pattern_item_whole, patterns_whole, function_parts, function_whole, class_whole}
 
 module _ (In : Goal → Type 0) (small : (g : Goal) → In g → WholeGoal g) where
   -- ---- objects
 
-  getter_whole : (s : Span) (key body : Tree) → WholeKey key → WholeBody body → Whole (tree.getter_prop s key body)
-  getter_whole s key body f b env h =
-      let i = parted (walk env key) (walk_body (walks.in_body env) body) h in
-      and_both _ _ (f env i.0) (and_both (supported body) true (b (walks.in_body env) i.1) refl)
+  getter_whole : (s : Span) (key body : Tree) → WholeKey key → Whole body → Whole (tree.getter_prop s key body)
+  getter_whole s key body f b = and_both _ _ f (and_both (supported body) true b refl)
 
-  setter_whole : (s : Span) (key p body : Tree) → WholeKey key → Whole p → WholeBody body → Whole (tree.setter_prop s key p body)
-  setter_whole s key p body f w b env h =
-      let i = parted (walk env key ++ walk (in_params env) p ++ walk_body (walks.in_body env) body) _ h in
-      let j = parted (walk env key ++ walk (in_params env) p) (walk_body (walks.in_body env) body) i.0 in
-      let l = parted (walk env key) (walk (in_params env) p) j.0 in
-      and_both _ _ (f env l.0)
-      (and_both _ _ (and_both _ _ (w (in_params env) l.1) (b (walks.in_body env) j.1)) refl)
+  setter_whole : (s : Span) (key p body : Tree) → WholeKey key → Whole p → Whole body → Whole (tree.setter_prop s key p body)
+  setter_whole s key p body f w b = and_both _ _ f (and_both _ true (both p body w b) refl)
 
   method_whole : (s : Span) (key : Tree) (ps : List Tree) (body : Tree) (a g : Bool) → WholeKey key → WholeParts ps body
       → Whole (tree.method_prop s key (tree.function s (listed []) (parameters ps) body a g))
-  method_whole s key ps body a g f p env h =
-      let i = parted (walk env key ++ walk (in_params env) (parameters ps) ++ walk_body (walks.in_body env) body) _ h in
-      let j = parted (walk env key ++ walk (in_params env) (parameters ps)) (walk_body (walks.in_body env) body) i.0 in
-      let l = parted (walk env key) (walk (in_params env) (parameters ps)) j.0 in
-      and_both _ _ (f env l.0)
-      (and_both _ _ (and_both _ _ (parameters_whole ps p.each (in_params env) l.1) (p.inside (walks.in_body env) j.1)) refl)
+  method_whole s key ps body a g f p = and_both _ _ f (and_both _ true (both (parameters ps) body (parameters_whole ps p.each) p.inside) refl)
 
   property_whole : (k : Code) (x : Tree) (c d : Place) → PropertyRule In k x c d → Whole x
   property_whole k x c d (objects.spread_rule e h r i) = as_form x (tree.spread_prop (span_at c) e) i (small (expr_goal assignment (with_in k) e (after c) d) r)
-  property_whole k x c d (objects.shorthand_rule text s r i) = leaf x (ap supported i)
+  property_whole k x c d (objects.shorthand_rule text s r i) = ap supported i
   property_whole k x c d (objects.key_value_rule key value m r h s i) =
       as_form x (tree.key_value_prop (spanned c d) key value) i
-      (λ env. pair (key_whole In small k key c m r env) (small (expr_goal assignment (with_in k) value (after m) d) s env))
+      (and_both _ _ (key_whole In small k key c m r) (small (expr_goal assignment (with_in k) value (after m) d) s))
   property_whole k x c d (objects.getter_rule key body r i) =
       as_form x (tree.getter_prop (spanned c d) key body) i
       (getter_whole (spanned c d) key body (key_whole In small k key r.behind_head r.behind_key r.reads_key) (function_parts In small r.reads_parts).inside)
@@ -82,32 +67,30 @@ module _ (In : Goal → Type 0) (small : (g : Goal) → In g → WholeGoal g) wh
   no_decorators = list_whole [] tt
 
   pub primary_whole : {k : Code} {x : Tree} {c d : Place} → PrimaryRule In k x c d → Whole x
-  primary_whole {x = x} (left.name_rule text s r h e) = leaf x (ap supported e)
-  primary_whole {x = x} (left.string_rule value raw s r e) = leaf x (ap supported e)
-  primary_whole {x = x} (left.true_rule s r e) = leaf x (ap supported e)
-  primary_whole {x = x} (left.false_rule s r e) = leaf x (ap supported e)
-  primary_whole {x = x} (left.null_rule s r e) = leaf x (ap supported e)
-  primary_whole {x = x} (left.number_rule raw s r e) = leaf x (ap supported e)
-  primary_whole {x = x} (left.big_int_rule raw s r e) = leaf x (ap supported e)
-  primary_whole {x = x} {c = c} {d = d} (left.this_rule h g e) = leaf x (ap supported e)
+  primary_whole {x = x} (left.name_rule text s r h e) = ap supported e
+  primary_whole {x = x} (left.string_rule value raw s r e) = ap supported e
+  primary_whole {x = x} (left.true_rule s r e) = ap supported e
+  primary_whole {x = x} (left.false_rule s r e) = ap supported e
+  primary_whole {x = x} (left.null_rule s r e) = ap supported e
+  primary_whole {x = x} (left.number_rule raw s r e) = ap supported e
+  primary_whole {x = x} (left.big_int_rule raw s r e) = ap supported e
+  primary_whole {x = x} {c = c} {d = d} (left.this_rule h g e) = ap supported e
   primary_whole {k = k} {x = x} {c = c} {d = d} (left.array_rule xs m h r i g e) =
       as_form x (tree.array (spanned c d) (listed xs)) e (list_whole xs (elements_whole (ElementRule In k) (element_whole In small k) r))
   primary_whole {k = k} {x = x} {c = c} {d = d} (left.object_rule xs m h r i g e) =
       as_form x (tree.object (spanned c d) (listed xs)) e (list_whole xs (listed_whole (PropertyRule In k) (property_whole k) true xs (after c) m r))
   primary_whole {x = x} {c = c} {d = d} (left.function_rule name fn r e) =
-      as_form x (tree.fn_expr (spanned c d) name fn) e (λ env h.
-      let i = parted (walk env name) (walk env fn) h in
-      and_both _ _ (name_supported r.reads_name)
-      (and_both _ _ (function_whole In small no_decorators r env i.1) refl))
+      as_form x (tree.fn_expr (spanned c d) name fn) e
+      (and_both _ _ (name_supported r.reads_name) (and_both _ true (function_whole In small no_decorators r) refl))
   primary_whole {x = x} {c = c} {d = d} (left.class_rule name body r e) =
-      as_form x (tree.class_expr (spanned c d) name body) e (both name body (leaf name (name_supported r.reads_name)) (class_whole In small no_decorators r))
+      as_form x (tree.class_expr (spanned c d) name body) e (both name body (name_supported r.reads_name) (class_whole In small no_decorators r))
   primary_whole {k = k} {x = x} {c = c} {d = d} (left.paren_rule y m h r i g e) = as_form x (tree.paren (spanned c d) y) e (small (expr_goal expression (with_in k) y (after c) m) r)
 
   pub left_whole : {k : Code} {x : Tree} {c d : Place} → LeftSideRule In k x c d → Whole x
   left_whole (left.primary_rule r) = primary_whole r
-  left_whole {x = x} {c = c} {d = d} (left.import_meta_rule h i j g o e) = leaf x (ap supported e)
+  left_whole {x = x} {c = c} {d = d} (left.import_meta_rule h i j g o e) = ap supported e
   left_whole {x = x} {c = c} {d = d} (left.member_rule obj property m r s e) =
-      as_form x (tree.member (spanned c d) obj property) e (λ env. pair (left_whole r env) (access_whole In small s env))
+      as_form x (tree.member (spanned c d) obj property) e (and_both _ _ (left_whole r) (access_whole In small s))
   left_whole {x = x} {c = c} {d = d} (left.super_property_rule property h r i e) = as_form x (tree.super_prop (spanned c d) (span_at c) property) e (access_whole In small r)
   left_whole {x = x} {c = c} {d = d} (left.call_rule called args m r s e) = as_form x (tree.call (spanned c d) called args) e (both called args (left_whole r) (arguments_whole In small s))
   left_whole {x = x} {c = c} {d = d} (left.super_call_rule args h r e) = as_form x (tree.call (spanned c d) (tree.super_callee (span_at c)) args) e (arguments_whole In small r)
@@ -115,23 +98,23 @@ module _ (In : Goal → Type 0) (small : (g : Goal) → In g → WholeGoal g) wh
   left_whole {k = k} {x = x} {c = c} {d = d} (left.new_rule called args m h r s e) =
       as_form x (tree.new (spanned c d) called args) e (both called args (small (callee_goal k called (after c) m) r) (arguments_whole In small s))
   left_whole {k = k} {x = x} {c = c} {d = d} (left.bare_new_rule called h r e) =
-      as_form x (tree.new (spanned c d) called tree.absent) e (both called tree.absent (small (expr_goal callee k called (after c) d) r) (leaf tree.absent refl))
+      as_form x (tree.new (spanned c d) called tree.absent) e (both called tree.absent (small (expr_goal callee k called (after c) d) r) refl)
 
   -- ---- patterns
 
   pattern_property_whole : (p : Purpose) (k : Code) (x : Tree) (c d : Place) → PatternPropertyRule In p k x c d → Whole x
   pattern_property_whole p k x c d (patterns.key_value_rule key value m r h s i) =
       as_form x (tree.key_value_pat_prop (spanned c d) key value) i
-      (λ env. pair (key_whole In small k key c m r env) (small (element_goal p (with_in k) value (after m) d) s env))
+      (and_both _ _ (key_whole In small k key c m r) (small (element_goal p (with_in k) value (after m) d) s))
   pattern_property_whole p k x c d (patterns.shorthand_rule text s r h i) =
-      leaf x (ap supported i)
+      ap supported i
   pattern_property_whole p k x c d (patterns.default_rule text s value m r h o i) =
       as_form x (tree.assign_pat_prop (spanned c d) (tree.ident_pat s text) value) i (small (expr_goal assignment (with_in k) value (after m) d) o)
   pattern_property_whole p k x c d (patterns.rest_rule y h r j e) = as_form x (tree.rest_pat (spanned c d) y) e (small (pattern_goal p k y (after c) d) r)
 
   pub pattern_whole : {p : Purpose} {k : Code} {x : Tree} {c d : Place} → PatternRule In p k x c d → Whole x
-  pattern_whole {x = x} (patterns.binding_name_rule text s h r e) = leaf x (ap supported e)
-  pattern_whole {x = x} (patterns.target_name_rule text s h i r e) = leaf x (ap supported e)
+  pattern_whole {x = x} (patterns.binding_name_rule text s h r e) = ap supported e
+  pattern_whole {x = x} (patterns.target_name_rule text s h i r e) = ap supported e
   pattern_whole {x = x} (patterns.target_rule y h r i j e) = as_form x (tree.expr_pat y) e (left_whole r.0)
   pattern_whole {p = p} {k = k} {x = x} {c = c} {d = d} (patterns.array_rule xs m h r i g e) =
       as_form x (tree.array_pat (spanned c d) (listed xs)) e (list_whole xs (elements_whole (PatternItemRule In p (with_in k)) (pattern_item_whole In small p (with_in k)) r))
@@ -171,10 +154,7 @@ module _ (In : Goal → Type 0) (small : (g : Goal) → In g → WholeGoal g) wh
   arrow_body_whole {k = k} {is_async = is_async} {x = x} {c = c} {d = d} (expressions.expression_body h r) = small (expr_goal assignment (in_arrow k is_async) x c d) r
 
   arrow_whole : (s : Span) (ps : List Tree) (body : Tree) (is_async : Bool) → EachWhole ps → Whole body → Whole (tree.arrow s (listed ps) body is_async)
-  arrow_whole s ps body is_async p b env h =
-      let i = parted (walk env (listed ps) ++ walk (walks.in_body env) body) _ h in
-      let j = parted (walk env (listed ps)) (walk (walks.in_body env) body) i.0 in
-      and_both _ _ (and_both _ _ (list_whole ps p env j.0) (b (walks.in_body env) j.1)) refl
+  arrow_whole s ps body is_async p b = and_both _ true (both (listed ps) body (list_whole ps p) b) refl
 
   pub assignment_whole : (k : Code) (x : Tree) (c d : Place) → AssignmentRule In k x c d → Whole x
   assignment_whole k x c d (expressions.operators_rule r h) = binary_whole r
@@ -187,7 +167,7 @@ module _ (In : Goal → Type 0) (small : (g : Goal) → In g → WholeGoal g) wh
       as_form x (tree.assign (spanned c d) assign.Assign left right) e (both left right (pattern_whole r) (small (expr_goal assignment k right (after m) d) s))
   assignment_whole k x c d (expressions.arrow_rule is_async ps body i j a r h g s e) =
       as_form x (tree.arrow (spanned c d) (listed ps) body is_async) e (arrow_whole (spanned c d) ps body is_async (head_whole r) (arrow_body_whole s))
-  assignment_whole k x c d (expressions.bare_yield_rule h i g j e) = leaf x (ap supported e)
+  assignment_whole k x c d (expressions.bare_yield_rule h i g j e) = ap supported e
   assignment_whole k x c d (expressions.yield_rule y h i g j r e) = as_form x (tree.yield (spanned c d) y false) e (small (expr_goal assignment k y (after c) d) r)
   assignment_whole k x c d (expressions.delegate_rule y h i g j r e) = as_form x (tree.yield (spanned c d) y true) e (small (expr_goal assignment k y (after (after c)) d) r)
 
@@ -207,9 +187,9 @@ module _ (In : Goal → Type 0) (small : (g : Goal) → In g → WholeGoal g) wh
   -- ---- decorators
 
   chain_whole : {k : Code} {x : Tree} {c d : Place} → ChainRule In k x c d → Whole x
-  chain_whole {x = x} (decorators.name_rule text s r e) = leaf x (ap supported e)
+  chain_whole {x = x} (decorators.name_rule text s r e) = ap supported e
   chain_whole {x = x} {c = c} {d = d} (decorators.member_rule obj property m r s h e) =
-      as_form x (tree.member (spanned c d) obj property) e (λ env. pair (chain_whole r env) (access_whole In small s env))
+      as_form x (tree.member (spanned c d) obj property) e (and_both _ _ (chain_whole r) (access_whole In small s))
   chain_whole {x = x} {c = c} {d = d} (decorators.call_rule called args m r s e) =
       as_form x (tree.call (spanned c d) called args) e (both called args (chain_whole r) (arguments_whole In small s))
 

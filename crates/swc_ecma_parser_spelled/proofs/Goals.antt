@@ -1,15 +1,15 @@
--- Whatever the language reads is supported where the walk finds no fault.
+-- Whatever the language reads is supported.
 use Rattle.std.proofs.Common.{zero, suc}
 use Rattle.swc_ecma_parser_grammar.specs.language.Goals.{expr_goal, callee_goal, pattern_goal, element_goal, stmt_goal, member_goal, decorator_goal, using_goal, attributes_goal, item_goal}
 use Rattle.swc_ecma_parser_grammar.specs.language.Reads.{Reads}
 use Rattle.swc_ecma_parser_grammar.proofs.language.progress.Statements.{progress}
-use Rattle.swc_ecma_parser_spelled.specs.Spelled.{SpelledIsSupported}
+use Rattle.swc_ecma_parser_spelled.specs.Spelled.{ReadIsSupported}
 use Rattle.swc_ecma_parser_spelled.proofs.Parts.{member_whole}
 use Rattle.swc_ecma_parser_spelled.proofs.Expressions.{primary_whole, left_whole, pattern_whole, pattern_element_whole, expr_whole, decorated_whole}
 use Rattle.swc_ecma_parser_spelled.proofs.Statements.{using_name_whole, stmt_whole}
 use Rattle.swc_ecma_parser_spelled.proofs.Items.{item_whole}
 
-pub reads_whole : SpelledIsSupported
+pub reads_whole : ReadIsSupported
 reads_whole zero g h = absurd h
 reads_whole (suc n) (expr_goal class k x c d) h = expr_whole (Reads n) (reads_whole n) class k x c d h
 reads_whole (suc n) (callee_goal k x c d) h = left_whole (Reads n) (reads_whole n) h.0

@@ -7,6 +7,8 @@ pub mod Exported
 pub mod Items
 pub mod Goals
 pub mod Entries
+pub mod Completed
+pub mod Unique
 pub mod Decides
 pub mod ModuleDecides
 pub mod Decided

@@ -1,4 +1,4 @@
--- An entry for modules, items or programs that is sound and complete decides, where what is spelled is supported.
+-- An entry for modules, items or programs that is sound and answers whatever is read decides.
 use Rattle.std.proofs.Common.{◌≡◌, ℕ, suc, ◌+◌, true, List, [], ◌∷◌, ◌++◌, map, length, length-append, Result, Ok, Err, IfOk, inl, refl, sym, ◌∙◌, ap, arith}
 use Rattle.std.specs.Prelude.{if◌then◌else◌}
 use Rattle.swc_ecma_parser_error.specs.declared.error.Error.{Error}
@@ -12,10 +12,10 @@ use Rattle.swc_ecma_parser_grammar.specs.language.Programs as programs
 use Rattle.swc_ecma_parser_grammar.specs.language.Programs.{is_module_program, Spells}
 use Rattle.swc_ecma_parser_grammar.proofs.SupportedIn.{parted}
 use Rattle.swc_ecma_parser_reader.specs.State.{State}
-use Rattle.swc_ecma_parser_module_reader.specs.Entry.{SoundModule, CompleteModule, module_walk, module_left}
-use Rattle.swc_ecma_parser_module_reader.specs.ItemEntry.{SoundItemAlone, CompleteItem}
-use Rattle.swc_ecma_parser_module_reader.specs.ProgramEntry.{SoundProgram, CompleteProgram, ReadsProgram, program_walk}
-use Rattle.swc_ecma_parser_module_reader.specs.Supported.{supported_item, supported_module, supported_program}
+use Rattle.swc_ecma_parser_module_reader.specs.Entry.{SoundModule, module_walk, module_left}
+use Rattle.swc_ecma_parser_module_reader.specs.ItemEntry.{SoundItemAlone}
+use Rattle.swc_ecma_parser_module_reader.specs.ProgramEntry.{SoundProgram, ReadsProgram, program_walk}
+use Rattle.swc_ecma_parser_spelled.specs.Completes.{CompletesModule, CompletesItem, CompletesProgram}
 use Rattle.swc_ecma_parser_spelled.specs.ModuleDecides.{DecidesModule, DecidesItem, DecidesProgram}
 use Rattle.swc_ecma_parser_spelled.proofs.Decides.{none_behind, moved, decides, no_faults}
 
@@ -58,42 +58,41 @@ module _ (X : Type 0) (view : X → Tree) (limit : ℕ) (s : State) where
   module_spells (Ok y) t h = λ e. h.spells (none_behind s.faults h.added (sym h.faults ∙ e))
   module_spells (Err e) t h = tt
 
-  pub module_decides : (r : Result X Error) (t : State) → ordered_from 0 s.at.left ≡ true → ((x : Tree) (d : Place) → Spells limit programs.«module» s.code s.scope.labels x s.at d → supported_module x ≡ true)
-      → IfOk r (λ y. SoundModule limit s (view y) t) → CompleteModule view limit s r t → DecidesModule view limit s r t
-  module_decides r t ordered law sound complete =
+  pub module_decides : (r : Result X Error) (t : State) → ordered_from 0 s.at.left ≡ true → IfOk r (λ y. SoundModule limit s (view y) t) → CompletesModule view limit s r t
+      → DecidesModule view limit s r t
+  module_decides r t ordered sound completes =
       decides X view s r t (λ x d. Spells limit programs.«module» s.code s.scope.labels x s.at d) (module_spells r t sound) (λ x d h. record {
         left = module_left s x d h.0.0.awaits;
         at = refl;
         faults = no_faults s.faults (module_walk s x) h.1;
-        gives = complete x d (h.0, law x d h, λ e. ordered) (inl h.1);
+        gives = completes x d h.0 (λ e. ordered) (inl h.1);
       })
 
 -- ---- where what had been held back is recorded too
 
 module _ (X : Type 0) (view : X → Tree) (limit : ℕ) (s : State) where
-  pub item_decides : (r : Result X Error) (t : State) → ordered_from 0 s.at.left ≡ true → ((x : Tree) (d : Place) → Spells limit programs.module_item s.code s.scope.labels x s.at d → supported_item x ≡ true)
-      → IfOk r (λ y. SoundItemAlone limit s (view y) t) → CompleteItem view limit s r t → DecidesItem view limit s r t
-  item_decides (Ok y) t ordered law sound complete l x d = (
+  pub item_decides : (r : Result X Error) (t : State) → ordered_from 0 s.at.left ≡ true → IfOk r (λ y. SoundItemAlone limit s (view y) t) → CompletesItem view limit s r t
+      → DecidesItem view limit s r t
+  item_decides (Ok y) t ordered sound completes l x d = (
     λ a. let (new, note, e) = a.2 in
         let held : List Fault = if is_module_decl (view y) then s.notes.held_back else [] in
         let n = nothing_else s.faults sound.before sound.recorded sound.behind new held sound.held _ (ap (λ z. length (if is_module_decl z then s.notes.held_back else [])) a.0) sound.recorded_as (ap length note) (sym sound.faults ∙ e) in
         moved (λ z c. Spells limit programs.module_item s.code s.scope.labels z s.at c) a.0 a.1 (sound.spells n.recorded n.held_back),
-    λ h. let (before, recorded, behind, walked, first, note, is, left) = complete x d (h.0, law x d h, λ e. ordered) (inl h.1) in
+    λ h. let (before, recorded, behind, walked, first, note, is, left) = completes x d h.0 (λ e. ordered) (inl h.1) in
         let n = parted before behind (walked ∙ h.1) in
         (is, ap (λ u. u.at) left, (recorded, note, ap (λ u. u.faults) left ∙ ap (λ z. s.faults ++ z) (ap (λ z. z ++ recorded ++ behind) n.0 ∙ no_faults recorded behind n.1))),
   )
-  item_decides (Err e) t ordered law sound complete l x d = (λ a. absurd a, λ h. absurd (l (complete x d (h.0, law x d h, λ e. ordered) (inl h.1))))
+  item_decides (Err e) t ordered sound completes l x d = (λ a. absurd a, λ h. absurd (l (completes x d h.0 (λ e. ordered) (inl h.1))))
 
-  pub program_decides : (r : Result X Error) (t : State) → ordered_from 0 s.at.left ≡ true
-      → ((x : Tree) (d : Place) → ReadsProgram limit s.notes.found_module_item s.code x s.at d → program_walk s x ≡ [] → supported_program x ≡ true)
-      → IfOk r (λ y. SoundProgram limit s (view y) t) → CompleteProgram view limit s r t → DecidesProgram view limit s r t
-  program_decides (Ok y) t ordered law sound complete l x d = (
+  pub program_decides : (r : Result X Error) (t : State) → ordered_from 0 s.at.left ≡ true → IfOk r (λ y. SoundProgram limit s (view y) t) → CompletesProgram view limit s r t
+      → DecidesProgram view limit s r t
+  program_decides (Ok y) t ordered sound completes l x d = (
     λ a. let (new, note, e) = a.2 in
         let held : List Fault = if is_module_program (view y) then s.notes.held_back else [] in
         let n = nothing_else s.faults sound.before sound.recorded sound.behind new held sound.held _ (ap (λ z. length (if is_module_program z then s.notes.held_back else [])) a.0) sound.recorded_as (ap length note) (sym sound.faults ∙ e) in
         moved (λ z c. ReadsProgram limit s.notes.found_module_item s.code z s.at c × (program_walk s z ≡ [])) a.0 a.1 (sound.spells n.recorded n.held_back),
-    λ h. let (before, recorded, behind, walked, note, is, left) = complete x d (h.0, law x d h.0 h.1, λ e. ordered) (inl h.1) in
+    λ h. let (before, recorded, behind, walked, note, is, left) = completes x d h.0 (λ e. ordered) (inl h.1) in
         let n = parted before behind (walked ∙ h.1) in
         (is, ap (λ u. u.at) left, (recorded, note, ap (λ u. u.faults) left ∙ ap (λ z. s.faults ++ z) (ap (λ z. z ++ recorded ++ behind) n.0 ∙ no_faults recorded behind n.1))),
   )
-  program_decides (Err e) t ordered law sound complete l x d = (λ a. absurd a, λ h. absurd (l (complete x d (h.0, law x d h.0 h.1, λ e. ordered) (inl h.1))))
+  program_decides (Err e) t ordered sound completes l x d = (λ a. absurd a, λ h. absurd (l (completes x d h.0 (λ e. ordered) (inl h.1))))

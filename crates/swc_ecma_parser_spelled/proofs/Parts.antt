@@ -1,8 +1,7 @@
--- Keys, accesses, arguments, blocks, functions and classes are supported where the walk finds no fault.
+-- Keys, accesses, arguments, blocks, functions and classes are supported.
 use Rattle.std.proofs.Common.{◌≡◌, Bool, true, false, true≢false, List, [], ◌∷◌, ◌++◌, refl, sym, ap}
 use Rattle.std.specs.Prelude.{◌&&◌, ◌||◌, if◌then◌else◌}
 use Rattle.swc_ecma_parser_common.specs.declared.span.Span.{Span}
-use Rattle.swc_ecma_parser_error.specs.Kind.{Fault}
 use Rattle.swc_ecma_parser_input.specs.Place.{Place, after}
 use Rattle.swc_ecma_parser_model.specs.declared.leaves.MethodKind.{MethodKind}
 use Rattle.swc_ecma_parser_model.specs.Tree as tree
@@ -12,8 +11,6 @@ use Rattle.swc_ecma_parser_grammar.specs.Looks.{spanned}
 use Rattle.swc_ecma_parser_grammar.specs.Names.{Code}
 use Rattle.swc_ecma_parser_grammar.specs.Parameters.{parameters}
 use Rattle.swc_ecma_parser_grammar.specs.Reads.{with_in}
-use Rattle.swc_ecma_parser_grammar.specs.Walk.{Env, walk, walk_body, walk_method, in_params, in_class}
-use Rattle.swc_ecma_parser_grammar.specs.Walk as walks
 use Rattle.swc_ecma_parser_grammar.specs.language.Goals.{Goal, Purpose, binding, expression, assignment, left_side, expr_goal, pattern_goal, element_goal, stmt_goal, member_goal, decorator_goal}
 use Rattle.swc_ecma_parser_grammar.specs.language.Contexts as contexts
 use Rattle.swc_ecma_parser_grammar.specs.language.Parts as parts
@@ -24,10 +21,9 @@ use Rattle.swc_ecma_parser_grammar.specs.language.Functions.{PatternItemRule, Pa
 use Rattle.swc_ecma_parser_grammar.specs.language.Classes as classes
 use Rattle.swc_ecma_parser_grammar.specs.language.Classes.{DecoratorRule, DecoratorsRule, MemberKeyRule, method_member, field_member, FieldValueRule, CoreRule, MemberRule, HeritageRule, ClassRule}
 use Rattle.swc_ecma_parser_grammar.proofs.Tests.{and_both}
-use Rattle.swc_ecma_parser_grammar.proofs.SupportedIn.{parted}
 use Rattle.swc_ecma_parser_grammar.specs.Supported.{supported, is_supported_key_in, is_supported_property_in, is_supported_method_in}
 use Rattle.swc_ecma_parser_spelled.specs.Spelled.{Whole, WholeGoal}
-use Rattle.swc_ecma_parser_spelled.proofs.Wholes.{triple, as_form, leaf, WholeKey, WholeProperty, WholeBody, key_as, property_as, body_as, EachWhole, all_whole, list_whole, members_whole, parameters_whole, each_whole, listed_whole}
+use Rattle.swc_ecma_parser_spelled.proofs.Wholes.{as_form, three, WholeKey, WholeProperty, key_as, property_as, EachWhole, list_whole, parameters_whole, each_whole, listed_whole}
 
 -- ---- names and keys
 
@@ -76,7 +72,7 @@ pub record WholeList (x : Tree) : Type 0 where
 
 pub record WholeParts (patterns : List Tree) (body : Tree) : Type 0 where
   pub each : EachWhole patterns
-  pub inside : WholeBody body
+  pub inside : Whole body
 
 pub record WholeClass (members : List Tree) (heritage : Tree) : Type 0 where
   pub each : EachWhole members
@@ -86,16 +82,16 @@ module _ (In : Goal → Type 0) (small : (g : Goal) → In g → WholeGoal g) wh
   -- ---- keys, accesses, arguments
 
   pub key_whole : (k : Code) (x : Tree) (c d : Place) → KeyRule In k x c d → WholeKey x
-  key_whole k x c d (parts.word_key text s r e) = λ env h. ap (is_supported_key_in false) e
-  key_whole k x c d (parts.string_key value raw s r e) = λ env h. ap (is_supported_key_in false) e
-  key_whole k x c d (parts.number_key raw s r e) = λ env h. ap (is_supported_key_in false) e
-  key_whole k x c d (parts.big_int_key raw s r e) = λ env h. ap (is_supported_key_in false) e
+  key_whole k x c d (parts.word_key text s r e) = ap (is_supported_key_in false) e
+  key_whole k x c d (parts.string_key value raw s r e) = ap (is_supported_key_in false) e
+  key_whole k x c d (parts.number_key raw s r e) = ap (is_supported_key_in false) e
+  key_whole k x c d (parts.big_int_key raw s r e) = ap (is_supported_key_in false) e
   key_whole k x c d (parts.computed_key r) =
       key_as x (tree.computed (spanned c d) r.key) r.is (small (expr_goal assignment (with_in k) r.key (after c) r.close) r.reads_key)
 
   pub access_whole : {k : Code} {x : Tree} {c d : Place} → AccessRule In k x c d → WholeProperty x
-  access_whole (parts.word_access text s h r e) = λ env j. ap (is_supported_property_in false) e
-  access_whole (parts.private_access h r) = λ env j. ap (is_supported_property_in false) r.is
+  access_whole (parts.word_access text s h r e) = ap (is_supported_property_in false) e
+  access_whole (parts.private_access h r) = ap (is_supported_property_in false) r.is
   access_whole {k = k} {x = x} {c = c} {d = d} (parts.bracket_access e m h r i g j) =
       property_as x (tree.computed (spanned c d) e) j (small (expr_goal expression (with_in k) e (after c) m) r)
 
@@ -118,11 +114,6 @@ module _ (In : Goal → Type 0) (small : (g : Goal) → In g → WholeGoal g) wh
   block_whole {k = k} {directives = directives} {x = x} {c = c} {d = d} r =
       as_form x (tree.block (spanned c d) (listed r.items)) r.is (list_whole r.items (items_whole k directives nested_item r.items (after c) r.close r.reads_items))
 
-  pub body_whole : {k : Code} {directives : Bool} {x : Tree} {c d : Place} → BlockRule In k directives x c d → WholeBody x
-  body_whole {k = k} {directives = directives} {x = x} {c = c} {d = d} r =
-      body_as x (tree.block (spanned c d) (listed r.items)) r.is
-      (λ env. all_whole r.items (items_whole k directives nested_item r.items (after c) r.close r.reads_items) env true)
-
   -- ---- functions
 
   pub pattern_item_whole : (p : Purpose) (k : Code) (x : Tree) (c d : Place) → PatternItemRule In p k x c d → Whole x
@@ -134,12 +125,10 @@ module _ (In : Goal → Type 0) (small : (g : Goal) → In g → WholeGoal g) wh
       listed_whole (PatternItemRule In binding (with_in k)) (pattern_item_whole binding (with_in k)) true ps (after c) r.close r.reads_patterns
 
   pub function_parts : {k : Code} {is_async is_generator : Bool} {ps : List Tree} {body : Tree} {c d : Place} → FunctionParts In k is_async is_generator ps body c d → WholeParts ps body
-  function_parts r = record { each = patterns_whole r.reads_parameters; inside = body_whole r.reads_body }
+  function_parts r = record { each = patterns_whole r.reads_parameters; inside = block_whole r.reads_body }
 
   function_of : (s : Span) (ds : Tree) (ps : List Tree) (body : Tree) (a g : Bool) → Whole ds → WholeParts ps body → Whole (tree.function s ds (parameters ps) body a g)
-  function_of s ds ps body a g w p env h =
-      let i = parted (walk env ds ++ walk (in_params env) (parameters ps) ++ walk_body (walks.in_body env) body) _ h in
-      triple (w env) (parameters_whole ps p.each (in_params env)) (p.inside (walks.in_body env)) i.0
+  function_of s ds ps body a g w p = three ds (parameters ps) body w (parameters_whole ps p.each) p.inside
 
   pub function_whole : {is_expression : Bool} {k : Code} {decorators name x : Tree} {c d : Place} → Whole decorators → FunctionRule In is_expression k decorators name x c d → Whole x
   function_whole {decorators = ds} {x = x} {c = c} {d = d} w r =
@@ -161,63 +150,52 @@ module _ (In : Goal → Type 0) (small : (g : Goal) → In g → WholeGoal g) wh
 
   member_key_whole : (k : Code) (x : Tree) (c d : Place) → MemberKeyRule In k x c d → WholeMemberKey x
   member_key_whole k x c d (classes.member_key r) = open_key (key_is_public r) (key_whole k x c d r)
-  member_key_whole k x c d (classes.private_key s word text r e h) = hidden_key (ap is_private e) (λ env j. ap (is_supported_property_in false) e)
+  member_key_whole k x c d (classes.private_key s word text r e h) = hidden_key (ap is_private e) (ap (is_supported_property_in false) e)
 
   value_whole : {k : Code} {key x : Tree} {c d : Place} → FieldValueRule In k key x c d → Whole x
-  value_whole {x = x} (classes.no_value h i j g e) = leaf x (ap supported e)
+  value_whole {x = x} (classes.no_value h i j g e) = ap supported e
   value_whole {k = k} {x = x} {c = c} {d = d} (classes.a_value h r) = small (expr_goal assignment (with_in k) x (after c) d) r
 
   heritage_whole : {k : Code} {x : Tree} {c d : Place} → HeritageRule In k x c d → Whole x
-  heritage_whole {x = x} (classes.no_heritage h e) = leaf x (ap supported e)
+  heritage_whole {x = x} (classes.no_heritage h e) = ap supported e
   heritage_whole {k = k} {x = x} {c = c} {d = d} (classes.heritage_rule h r) = small (expr_goal left_side k x (after c) d) r
 
-  -- the key of a method, in a walk that has these faults of it, and its function
-  method_supported : (key : List Fault) (b : Bool) → (key ≡ [] → b ≡ true) → (s : Span) (ds : Tree) (ps : List Tree) (body : Tree) (a g : Bool) → Whole ds → WholeParts ps body
-      → (env : Env) → walk_method env key (tree.function s ds (parameters ps) body a g) ≡ []
+  -- the key of a method, and its function
+  method_supported : (b : Bool) → b ≡ true → (s : Span) (ds : Tree) (ps : List Tree) (body : Tree) (a g : Bool) → Whole ds → WholeParts ps body
       → (b && (is_supported_method_in false (tree.function s ds (parameters ps) body a g) && true)) ≡ true
-  method_supported key b f s ds ps body a g w p env h =
-      let i = parted (walk env ds ++ key ++ walk (in_params env) (parameters ps) ++ walk_body (walks.in_body env) body) _ h in
-      let j = parted (walk env ds ++ key ++ walk (in_params env) (parameters ps)) (walk_body (walks.in_body env) body) i.0 in
-      let l = parted (walk env ds ++ key) (walk (in_params env) (parameters ps)) j.0 in
-      let o = parted (walk env ds) key l.0 in
-      and_both b _ (f o.1)
-      (and_both _ true (and_both _ _ (w env o.0) (and_both _ _ (parameters_whole ps p.each (in_params env) l.1) (p.inside (walks.in_body env) j.1))) refl)
+  method_supported b f s ds ps body a g w p = and_both b _ f (and_both _ true (three ds (parameters ps) body w (parameters_whole ps p.each) p.inside) refl)
 
   method_whole : (s : Span) (key ds : Tree) (ps : List Tree) (body : Tree) (a g : Bool) (form : MethodKind) (is_static : Bool) → WholeMemberKey key → Whole ds → WholeParts ps body
       → Whole (method_member s key (tree.function s ds (parameters ps) body a g) form is_static)
   method_whole s key ds ps body a g form is_static (open_key e f) w p =
       let fn = tree.function s ds (parameters ps) body a g in
       as_form _ (tree.method s key fn form is_static) (chosen_no (is_private key) (tree.private_method s key fn form is_static) (tree.method s key fn form is_static) e)
-      (λ env. method_supported (walk env key) (is_supported_key_in false key) (f env) s ds ps body a g w p env)
+      (method_supported (is_supported_key_in false key) f s ds ps body a g w p)
   method_whole s key ds ps body a g form is_static (hidden_key e f) w p =
       let fn = tree.function s ds (parameters ps) body a g in
       as_form _ (tree.private_method s key fn form is_static) (chosen_yes (is_private key) (tree.private_method s key fn form is_static) (tree.method s key fn form is_static) e)
-      (λ env. method_supported (walk env key) (is_supported_property_in false key) (f env) s ds ps body a g w p env)
+      (method_supported (is_supported_property_in false key) f s ds ps body a g w p)
 
-  accessor_key : (key : Tree) → WholeMemberKey key → (env : Env) → walk env key ≡ [] → (is_supported_key_in false key || is_private key) ≡ true
-  accessor_key key (open_key e f) env h = first_key (is_supported_key_in false key) (is_private key) (f env h)
-  accessor_key key (hidden_key e f) env h = either_key (is_supported_key_in false key) (is_private key) e
+  accessor_key : (key : Tree) → WholeMemberKey key → (is_supported_key_in false key || is_private key) ≡ true
+  accessor_key key (open_key e f) = first_key (is_supported_key_in false key) (is_private key) f
+  accessor_key key (hidden_key e f) = either_key (is_supported_key_in false key) (is_private key) e
 
   field_whole : (s : Span) (key value : Tree) (is_static is_accessor : Bool) (ds : Tree) → WholeMemberKey key → Whole value → Whole ds
       → Whole (field_member s key value is_static is_accessor ds)
-  field_whole s key value is_static true ds m v w = λ env. triple (w env) (accessor_key key m env) (v env)
+  field_whole s key value is_static true ds m v w = and_both _ _ w (and_both _ _ (accessor_key key m) v)
   field_whole s key value is_static false ds (open_key e f) v w =
       as_form _ (tree.class_prop s key value is_static ds) (chosen_no (is_private key) (tree.private_prop s key value is_static ds) (tree.class_prop s key value is_static ds) e)
-      (λ env. triple (w env) (f env) (v env))
+      (and_both _ _ w (and_both _ _ f v))
   field_whole s key value is_static false ds (hidden_key e f) v w =
       as_form _ (tree.private_prop s key value is_static ds) (chosen_yes (is_private key) (tree.private_prop s key value is_static ds) (tree.class_prop s key value is_static ds) e)
-      (λ env. triple (w env) (f env) (v env))
+      (and_both _ _ w (and_both _ _ f v))
 
-  constructor_whole : (s : Span) (key : Tree) (ps : List Tree) (body : Tree) → WholeKey key → EachWhole ps → WholeBody body → Whole (tree.constructor s key (parameters ps) body)
-  constructor_whole s key ps body f p b env h =
-      let i = parted (walk env key ++ walk env (parameters ps) ++ walk_body (walks.in_body env) body) _ h in
-      let j = parted (walk env key ++ walk env (parameters ps)) (walk_body (walks.in_body env) body) i.0 in
-      let l = parted (walk env key) (walk env (parameters ps)) j.0 in
-      and_both _ _ (f env l.0) (and_both _ true (and_both _ _ (parameters_whole ps p env l.1) (b (walks.in_body env) j.1)) refl)
+  constructor_whole : (s : Span) (key : Tree) (ps : List Tree) (body : Tree) → WholeKey key → EachWhole ps → Whole body → Whole (tree.constructor s key (parameters ps) body)
+  constructor_whole s key ps body f p b = and_both _ _ f (and_both _ true (and_both _ _ (parameters_whole ps p) b) refl)
 
   core_whole : {k : Code} {is_static is_accessor : Bool} {decorators x : Tree} {c m d : Place} → Whole decorators → CoreRule In k is_static is_accessor decorators x c m d → Whole x
   core_whole {k = k} {x = x} {c = c} {m = m} {d = d} w (classes.constructor_rule key ps body i j f g e r h s t is) =
-      as_form x (tree.constructor (spanned c d) key (parameters ps) body) is (constructor_whole (spanned c d) key ps body (key_whole k key m i r) (patterns_whole s) (body_whole t))
+      as_form x (tree.constructor (spanned c d) key (parameters ps) body) is (constructor_whole (spanned c d) key ps body (key_whole k key m i r) (patterns_whole s) (block_whole t))
   core_whole {k = k} {is_static = is_static} {decorators = ds} {x = x} {c = c} {d = d} w (classes.method_rule form is_async is_generator key ps body f r h is) =
       as_form x (method_member (spanned c d) key (tree.function (spanned c d) ds (parameters ps) body is_async is_generator) form is_static) is
       (method_whole (spanned c d) key ds ps body is_async is_generator form is_static (member_key_whole k key r.behind_head r.behind_key r.reads_key) w (function_parts r.reads_parts))
@@ -225,10 +203,10 @@ module _ (In : Goal → Type 0) (small : (g : Goal) → In g → WholeGoal g) wh
       as_form x (field_member (spanned c d) key value is_static is_accessor ds) is
       (field_whole (spanned c d) key value is_static is_accessor ds (member_key_whole k key m i r) (value_whole v) w)
   core_whole {x = x} {c = c} {d = d} w (classes.static_block_rule body f g e r is) =
-      as_form x (tree.static_block (spanned c d) body) is (λ env h. and_both (supported body) true (block_whole r env h) refl)
+      as_form x (tree.static_block (spanned c d) body) is (and_both (supported body) true (block_whole r) refl)
 
   pub member_whole : {k : Code} {x : Tree} {c d : Place} → MemberRule In k x c d → Whole x
-  member_whole {x = x} {c = c} {d = d} (classes.empty_rule h g e) = leaf x (ap supported e)
+  member_whole {x = x} {c = c} {d = d} (classes.empty_rule h g e) = ap supported e
   member_whole (classes.member_rule decorators m r s) = core_whole (decorators_whole r) s
 
   pub class_parts : {k : Code} {start : Place} {decorators name x : Tree} {c d : Place} (r : ClassRule In k start decorators name x c d) → WholeClass r.members r.heritage
@@ -238,7 +216,7 @@ module _ (In : Goal → Type 0) (small : (g : Goal) → In g → WholeGoal g) wh
   }
 
   class_of : (s : Span) (ds : Tree) (members : List Tree) (heritage : Tree) → Whole ds → WholeClass members heritage → Whole (tree.class s ds (listed members) heritage)
-  class_of s ds members heritage w p env = triple (w env) (p.base (in_class env)) (members_whole members p.each (in_class env) false)
+  class_of s ds members heritage w p = three ds heritage (listed members) w p.base (list_whole members p.each)
 
   pub class_whole : {k : Code} {start : Place} {decorators name x : Tree} {c d : Place} → Whole decorators → ClassRule In k start decorators name x c d → Whole x
   class_whole {start = start} {decorators = ds} {x = x} {d = d} w r =

@@ -1,4 +1,4 @@
--- Statements and declarations are supported where the walk finds no fault.
+-- Statements and declarations are supported.
 use Rattle.std.proofs.Common.{◌≡◌, Bool, true, false, List, [], ◌∷◌, ◌++◌, refl, ap}
 use Rattle.swc_ecma_parser_common.specs.declared.span.Span.{Span}
 use Rattle.swc_ecma_parser_input.specs.Place.{Place, after}
@@ -8,10 +8,7 @@ use Rattle.swc_ecma_parser_model.specs.Tree.{Tree, listed}
 use Rattle.swc_ecma_parser_grammar.specs.declared.position.Position.{Position}
 use Rattle.swc_ecma_parser_grammar.specs.Looks.{spanned}
 use Rattle.swc_ecma_parser_grammar.specs.Names.{Code}
-use Rattle.swc_ecma_parser_grammar.specs.Own.{head_faults, labelled_function}
 use Rattle.swc_ecma_parser_grammar.specs.Reads.{with_in, head_code}
-use Rattle.swc_ecma_parser_grammar.specs.Walk as walks
-use Rattle.swc_ecma_parser_grammar.specs.Walk.{walk}
 use Rattle.swc_ecma_parser_grammar.specs.language.Goals.{Goal, binding, assigning, expression, assignment, expr_goal, pattern_goal, stmt_goal, using_goal}
 use Rattle.swc_ecma_parser_grammar.specs.language.Contexts.{without_in, in_with, in_loop, in_breakable}
 use Rattle.swc_ecma_parser_grammar.specs.language.Items.{nested_item, sub_statement, labelled_item}
@@ -22,10 +19,9 @@ use Rattle.swc_ecma_parser_grammar.specs.language.ForHeads.{HeadVariablesRule, I
 use Rattle.swc_ecma_parser_grammar.specs.language.Statements as statements
 use Rattle.swc_ecma_parser_grammar.specs.language.Statements.{HeadRule, OperandRule, TargetRule, IfRule, ElseRule, CaseRule, CatchRule, FinallyRule, FormRule, StmtRule}
 use Rattle.swc_ecma_parser_grammar.proofs.Tests.{and_both}
-use Rattle.swc_ecma_parser_grammar.proofs.SupportedIn.{parted}
 use Rattle.swc_ecma_parser_grammar.specs.Supported.{supported}
 use Rattle.swc_ecma_parser_spelled.specs.Spelled.{Whole, WholeGoal}
-use Rattle.swc_ecma_parser_spelled.proofs.Wholes.{pair, as_form, leaf, both, three, EachWhole, list_whole, each_whole, separated_whole}
+use Rattle.swc_ecma_parser_spelled.proofs.Wholes.{as_form, both, three, EachWhole, list_whole, each_whole, separated_whole}
 use Rattle.swc_ecma_parser_spelled.proofs.Parts.{name_supported, items_whole, block_whole, decorators_whole, function_whole, class_whole}
 
 -- the label of `break` and `continue`
@@ -38,7 +34,7 @@ module _ (In : Goal → Type 0) (small : (g : Goal) → In g → WholeGoal g) wh
 
   declarator_whole : (k : Code) (loop : Bool) (word : VarDeclKind) (x : Tree) (c d : Place) → DeclaratorRule In k loop word x c d → Whole x
   declarator_whole k loop word x c d (declarations.plain_rule name r h i e) =
-      as_form x (tree.declarator (spanned c d) name tree.absent) e (both name tree.absent (small (pattern_goal binding (with_in k) name c d) r) (leaf tree.absent refl))
+      as_form x (tree.declarator (spanned c d) name tree.absent) e (both name tree.absent (small (pattern_goal binding (with_in k) name c d) r) refl)
   declarator_whole k loop word x c d (declarations.initialized_rule name init m r h s e) =
       as_form x (tree.declarator (spanned c d) name init) e
       (both name init (small (pattern_goal binding (with_in k) name c m) r) (small (expr_goal assignment k init (after m) d) s))
@@ -64,12 +60,12 @@ module _ (In : Goal → Type 0) (small : (g : Goal) → In g → WholeGoal g) wh
       (list_whole r.declarators (variables_whole (head_code r.word k) true r.word r.declarators c d r.reads))
 
   init_whole : {k : Code} {x : Tree} {c d : Place} → InitRule In k x c d → Whole x
-  init_whole {x = x} (heads.no_init_rule h i e) = leaf x (ap supported e)
+  init_whole {x = x} (heads.no_init_rule h i e) = ap supported e
   init_whole (heads.init_variables_rule r) = head_variables_whole r
   init_whole {k = k} {x = x} {c = c} {d = d} (heads.init_expression_rule h r) = small (expr_goal expression (without_in k) x c d) r
 
   part_whole : {k : Code} {x : Tree} {c d : Place} → PartRule In k x c d → Whole x
-  part_whole {x = x} (heads.no_part_rule h e) = leaf x (ap supported e)
+  part_whole {x = x} (heads.no_part_rule h e) = ap supported e
   part_whole {k = k} {x = x} {c = c} {d = d} (heads.part_rule r) = small (expr_goal expression (with_in k) x c d) r
 
   left_whole : {k : Code} {x : Tree} {c d : Place} → LeftRule In k x c d → Whole x
@@ -79,7 +75,7 @@ module _ (In : Goal → Type 0) (small : (g : Goal) → In g → WholeGoal g) wh
   pub using_name_whole : {k : Code} {x : Tree} {c d : Place} → UsingNameRule In k x c d → Whole x
   using_name_whole {k = k} {x = x} {c = c} {d = d} r =
       as_form x (tree.declarator (spanned (after c) d) r.name tree.absent) r.is
-      (both r.name tree.absent (small (pattern_goal binding k r.name (after c) d) r.reads_name) (leaf tree.absent refl))
+      (both r.name tree.absent (small (pattern_goal binding k r.name (after c) d) r.reads_name) refl)
 
   using_head_whole : {k : Code} {x : Tree} {c d : Place} → UsingHeadRule In k x c d → Whole x
   using_head_whole {x = x} {c = c} {d = d} (heads.using_head_rule y r e) =
@@ -97,7 +93,7 @@ module _ (In : Goal → Type 0) (small : (g : Goal) → In g → WholeGoal g) wh
   head_whole {k = k} {y = y} {c = c} r = small (expr_goal expression (with_in k) y (after c) r.close) r.reads
 
   operand_whole : {k : Code} {x : Tree} {c d : Place} → OperandRule In k x c d → Whole x
-  operand_whole {x = x} (statements.no_operand_rule h i e) = leaf x (ap supported e)
+  operand_whole {x = x} (statements.no_operand_rule h i e) = ap supported e
   operand_whole {k = k} {x = x} {c = c} {d = d} (statements.operand_rule h r) = small (expr_goal expression (with_in k) x c d) r
 
   mutual
@@ -106,7 +102,7 @@ module _ (In : Goal → Type 0) (small : (g : Goal) → In g → WholeGoal g) wh
         as_form x (tree.if_stmt (spanned c d) test cons alt) e (three test cons alt (head_whole r) (small (stmt_goal k sub_statement cons m n) s) (else_whole t))
 
     else_whole : {k : Code} {x : Tree} {c d : Place} → ElseRule In k x c d → Whole x
-    else_whole {x = x} (statements.no_else_rule h i e) = leaf x (ap supported e)
+    else_whole {x = x} (statements.no_else_rule h i e) = ap supported e
     else_whole {k = k} {x = x} {c = c} {d = d} (statements.else_rule h i r) = small (stmt_goal k sub_statement x (after c) d) r
     else_whole (statements.else_if_rule h r) = if_whole r
 
@@ -118,100 +114,56 @@ module _ (In : Goal → Type 0) (small : (g : Goal) → In g → WholeGoal g) wh
       as_form x (tree.case (spanned c d) tree.absent (listed xs)) e (list_whole xs (items_whole In small k false nested_item xs (after (after c)) d s))
 
   catch_whole : {k : Code} {x : Tree} {c d : Place} → CatchRule In k x c d → Whole x
-  catch_whole {x = x} (statements.no_catch_rule h i e) = leaf x (ap supported e)
+  catch_whole {x = x} (statements.no_catch_rule h i e) = ap supported e
   catch_whole {x = x} {c = c} {d = d} (statements.catch_rule body h r e) = as_form x (tree.catch (spanned c d) tree.absent body) e (block_whole In small r)
   catch_whole {k = k} {x = x} {c = c} {d = d} (statements.catch_parameter_rule p body m h i r g s e) =
       as_form x (tree.catch (spanned c d) p body) e (both p body (small (pattern_goal binding (with_in k) p (after (after c)) m) r) (block_whole In small s))
 
   finally_whole : {k : Code} {x : Tree} {c d : Place} → FinallyRule In k x c d → Whole x
-  finally_whole {x = x} (statements.no_finally_rule h i e) = leaf x (ap supported e)
+  finally_whole {x = x} (statements.no_finally_rule h i e) = ap supported e
   finally_whole (statements.finally_rule h r) = block_whole In small r
-
-  -- ---- statements whose parts stand in other code
-
-  with_whole : (s : Span) (e y : Tree) → Whole e → Whole y → Whole (tree.with s e y)
-  with_whole s e y f g env = pair (f env) (g (walks.in_with env))
-
-  return_whole : (s : Span) (e : Tree) → Whole e → Whole (tree.return s e)
-  return_whole s e f env h = f env (parted (walk env e) _ h).0
-
-  labeled_whole : (s : Span) (label y : Tree) → supported label ≡ true → Whole y → Whole (tree.labeled s label y)
-  labeled_whole s label y e f env h =
-      let i = parted (walk (walks.in_label env label) y ++ labelled_function env.strict y) _ h in
-      let j = parted (walk (walks.in_label env label) y) _ i.0 in
-      and_both _ _ e (f (walks.in_label env label) j.0)
-
-  switch_whole : (s : Span) (e cases : Tree) → Whole e → Whole cases → Whole (tree.switch s e cases)
-  switch_whole s e cases f g env = pair (f env) (g (walks.in_switch env))
-
-  while_whole : (s : Span) (e y : Tree) → Whole e → Whole y → Whole (tree.while s e y)
-  while_whole s e y f g env = pair (f env) (g (walks.in_loop env))
-
-  do_while_whole : (s : Span) (e y : Tree) → Whole e → Whole y → Whole (tree.do_while s e y)
-  do_while_whole s e y f g env h = let i = parted (walk (walks.in_loop env) y) (walk env e) h in and_both _ _ (f env i.1) (g (walks.in_loop env) i.0)
-
-  for_whole : (s : Span) (init test next y : Tree) → Whole init → Whole test → Whole next → Whole y → Whole (tree.for s init test next y)
-  for_whole s init test next y f g l o env h =
-      let i = parted (walk env init ++ walk env test ++ walk env next) (walk (walks.in_loop env) y) h in
-      let j = parted (walk env init ++ walk env test) (walk env next) i.0 in
-      let p = parted (walk env init) (walk env test) j.0 in
-      and_both _ _ (f env p.0) (and_both _ _ (g env p.1) (and_both _ _ (l env j.1) (o (walks.in_loop env) i.1)))
-
-  for_in_whole : (s : Span) (left right y : Tree) → Whole left → Whole right → Whole y → Whole (tree.for_in s left right y)
-  for_in_whole s left right y f g l env h =
-      let i = parted (walk env left ++ head_faults env.strict left ++ walk env right) (walk (walks.in_loop env) y) h in
-      let j = parted (walk env left ++ head_faults env.strict left) (walk env right) i.0 in
-      let p = parted (walk env left) (head_faults env.strict left) j.0 in
-      and_both _ _ (f env p.0) (and_both _ _ (g env j.1) (l (walks.in_loop env) i.1))
-
-  for_of_whole : (s : Span) (is_await : Bool) (left right y : Tree) → Whole left → Whole right → Whole y → Whole (tree.for_of s is_await left right y)
-  for_of_whole s is_await left right y f g l env h =
-      let i = parted (walk env left ++ head_faults true left ++ walk env right) (walk (walks.in_loop env) y) h in
-      let j = parted (walk env left ++ head_faults true left) (walk env right) i.0 in
-      let p = parted (walk env left) (head_faults true left) j.0 in
-      and_both _ _ (f env p.0) (and_both _ _ (g env j.1) (l (walks.in_loop env) i.1))
 
   -- ---- statements
 
   pub form_whole : {k : Code} {at : Position} {x : Tree} {c d : Place} → FormRule In k at x c d → Whole x
   form_whole {x = x} (statements.class_rule decorators name y m h r s i e) =
-      as_form x (tree.class_decl name y) e (both name y (leaf name (name_supported s.reads_name)) (class_whole In small (decorators_whole In small r) s))
+      as_form x (tree.class_decl name y) e (both name y (name_supported s.reads_name) (class_whole In small (decorators_whole In small r) s))
   form_whole {x = x} (statements.function_rule decorators name y m r h s i e) =
-      as_form x (tree.fn_decl name y) e (both name y (leaf name (name_supported s.reads_name)) (function_whole In small (decorators_whole In small r) s))
+      as_form x (tree.fn_decl name y) e (both name y (name_supported s.reads_name) (function_whole In small (decorators_whole In small r) s))
   form_whole {k = k} {x = x} {c = c} {d = d} (statements.variables_rule word xs m h r g e) =
       as_form x (tree.var (spanned c d) word (listed xs)) e (list_whole xs (variables_whole (with_in k) false word xs c m r))
   form_whole (statements.using_rule r) = using_whole r
   form_whole (statements.block_rule r) = block_whole In small r
-  form_whole {x = x} (statements.empty_rule h i e) = leaf x (ap supported e)
-  form_whole {x = x} (statements.debugger_rule h i e) = leaf x (ap supported e)
+  form_whole {x = x} (statements.empty_rule h i e) = ap supported e
+  form_whole {x = x} (statements.debugger_rule h i e) = ap supported e
   form_whole {k = k} {x = x} {c = c} {d = d} (statements.with_rule a y m h r s e) =
-      as_form x (tree.with (spanned c d) a y) e (with_whole (spanned c d) a y (head_whole r) (small (stmt_goal (in_with k) sub_statement y m d) s))
-  form_whole {x = x} {c = c} {d = d} (statements.return_rule a m h r i e) = as_form x (tree.return (spanned c d) a) e (return_whole (spanned c d) a (operand_whole r))
+      as_form x (tree.with (spanned c d) a y) e (both a y (head_whole r) (small (stmt_goal (in_with k) sub_statement y m d) s))
+  form_whole {x = x} {c = c} {d = d} (statements.return_rule a m h r i e) = as_form x (tree.return (spanned c d) a) e (operand_whole r)
   form_whole {k = k} {x = x} {c = c} {d = d} (statements.labeled_rule text s y m r h i e) =
       as_form x (tree.labeled (spanned c d) (tree.ident s text) y) e
-      (labeled_whole (spanned c d) (tree.ident s text) y refl (small (stmt_goal (in_breakable k) (labelled_item (after m)) y (after m) d) i))
-  form_whole {x = x} {c = c} {d = d} (statements.break_rule label m h r i e) = as_form x (tree.break (spanned c d) label) e (λ env j. target_supported r)
-  form_whole {x = x} {c = c} {d = d} (statements.continue_rule label m h r i e) = as_form x (tree.continue (spanned c d) label) e (λ env j. target_supported r)
+      (both (tree.ident s text) y refl (small (stmt_goal (in_breakable k) (labelled_item (after m)) y (after m) d) i))
+  form_whole {x = x} {c = c} {d = d} (statements.break_rule label m h r i e) = as_form x (tree.break (spanned c d) label) e (target_supported r)
+  form_whole {x = x} {c = c} {d = d} (statements.continue_rule label m h r i e) = as_form x (tree.continue (spanned c d) label) e (target_supported r)
   form_whole (statements.if_statement_rule r) = if_whole r
   form_whole {k = k} {x = x} {c = c} {d = d} (statements.switch_rule a xs m n h r i s j g o e) =
       as_form x (tree.switch (spanned c d) a (listed xs)) e
-      (switch_whole (spanned c d) a (listed xs) (head_whole r) (list_whole xs (each_whole (CaseRule In (in_breakable k)) (case_whole (in_breakable k)) xs (after m) n s)))
+      (both a (listed xs) (head_whole r) (list_whole xs (each_whole (CaseRule In (in_breakable k)) (case_whole (in_breakable k)) xs (after m) n s)))
   form_whole {k = k} {x = x} {c = c} {d = d} (statements.throw_rule a m h i r g e) = as_form x (tree.throw (spanned c d) a) e (small (expr_goal expression (with_in k) a (after c) m) r)
   form_whole {x = x} {c = c} {d = d} (statements.try_rule body handler finalizer m n h r s t i e) =
       as_form x (tree.try (spanned c d) body handler finalizer) e (three body handler finalizer (block_whole In small r) (catch_whole s) (finally_whole t))
   form_whole {k = k} {x = x} {c = c} {d = d} (statements.while_rule a y m h r s e) =
-      as_form x (tree.while (spanned c d) a y) e (while_whole (spanned c d) a y (head_whole r) (small (stmt_goal (in_loop k) sub_statement y m d) s))
+      as_form x (tree.while (spanned c d) a y) e (both a y (head_whole r) (small (stmt_goal (in_loop k) sub_statement y m d) s))
   form_whole {k = k} {x = x} {c = c} {d = d} (statements.do_while_rule a y m n h r i s g e) =
-      as_form x (tree.do_while (spanned c d) a y) e (do_while_whole (spanned c d) a y (head_whole s) (small (stmt_goal (in_loop k) sub_statement y (after c) m) r))
+      as_form x (tree.do_while (spanned c d) a y) e (both a y (head_whole s) (small (stmt_goal (in_loop k) sub_statement y (after c) m) r))
   form_whole {k = k} {x = x} {c = c} {d = d} (statements.for_rule init test step y l m n h i r j s g t o u e) =
       as_form x (tree.for (spanned c d) init test step y) e
-      (for_whole (spanned c d) init test step y (init_whole r) (part_whole s) (part_whole t) (small (stmt_goal (in_loop k) sub_statement y (after n) d) u))
+      (and_both _ _ (init_whole r) (three test step y (part_whole s) (part_whole t) (small (stmt_goal (in_loop k) sub_statement y (after n) d) u)))
   form_whole {k = k} {x = x} {c = c} {d = d} (statements.for_in_rule left right y m n h i r j s g t e) =
       as_form x (tree.for_in (spanned c d) left right y) e
-      (for_in_whole (spanned c d) left right y (left_whole r) (small (expr_goal expression (with_in k) right (after m) n) s) (small (stmt_goal (in_loop k) sub_statement y (after n) d) t))
+      (three left right y (left_whole r) (small (expr_goal expression (with_in k) right (after m) n) s) (small (stmt_goal (in_loop k) sub_statement y (after n) d) t))
   form_whole {k = k} {x = x} {c = c} {d = d} (statements.for_of_rule is_await left right y l m n h a i r j s g t e) =
       as_form x (tree.for_of (spanned c d) is_await left right y) e
-      (for_of_whole (spanned c d) is_await left right y (of_left_whole r) (small (expr_goal assignment (with_in k) right (after m) n) s) (small (stmt_goal (in_loop k) sub_statement y (after n) d) t))
+      (three left right y (of_left_whole r) (small (expr_goal assignment (with_in k) right (after m) n) s) (small (stmt_goal (in_loop k) sub_statement y (after n) d) t))
   form_whole {k = k} {x = x} {c = c} {d = d} (statements.expr_rule a m h r i g e) = as_form x (tree.expr_stmt (spanned c d) a) e (small (expr_goal expression (with_in k) a c m) r)
   form_whole {k = k} {x = x} {c = c} {d = d} (statements.import_expr_rule a m h r g e) = as_form x (tree.expr_stmt (spanned c d) a) e (small (expr_goal expression (with_in k) a c m) r)
 

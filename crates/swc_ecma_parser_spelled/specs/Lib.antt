@@ -1,3 +1,5 @@
 pub mod Spelled
+pub mod Completes
+pub mod Unique
 pub mod Decides
 pub mod ModuleDecides

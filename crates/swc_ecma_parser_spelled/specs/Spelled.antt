@@ -1,30 +1,50 @@
--- What is spelled without a fault is supported.
-use Rattle.std.specs.Prelude.{◌≡◌, ℕ, Bool, true, false, List, []}
+-- What the language reads is supported.
+use Rattle.std.specs.Prelude.{◌≡◌, ℕ, Bool, true, false, not, ◌||◌}
 use Rattle.swc_ecma_parser_input.specs.Place.{Place}
 use Rattle.swc_ecma_parser_input.specs.TokenSource.{ordered_from}
-use Rattle.swc_ecma_parser_model.specs.Tree.{Tree, Text}
+use Rattle.swc_ecma_parser_model.specs.Tree as tree
+use Rattle.swc_ecma_parser_model.specs.Tree.{Tree, Trees, none, also}
 use Rattle.swc_ecma_parser_grammar.specs.Names.{Code}
-use Rattle.swc_ecma_parser_grammar.specs.Walk.{Env, walk}
 use Rattle.swc_ecma_parser_grammar.specs.language.Goals.{Goal, expr_goal, callee_goal, pattern_goal, element_goal, stmt_goal, member_goal, decorator_goal, using_goal, attributes_goal, item_goal}
 use Rattle.swc_ecma_parser_grammar.specs.language.Programs as programs
-use Rattle.swc_ecma_parser_grammar.specs.language.Programs.{Entry, ModuleRule, Spells}
+use Rattle.swc_ecma_parser_grammar.specs.language.Programs.{Entry, EntryRule, entry_code, ModuleRule}
 use Rattle.swc_ecma_parser_grammar.specs.language.Reads.{Reads}
-use Rattle.swc_ecma_parser_grammar.specs.Supported.{supported}
+use Rattle.swc_ecma_parser_grammar.specs.Supported.{supported, has_none}
 use Rattle.swc_ecma_parser_module_reader.specs.Supported.{supported_item, supported_module, supported_program}
 
--- a tree that is supported if the walk over it finds no fault, whatever stands around
 abbrev pub Whole : Tree → Type 0
-Whole x = (env : Env) → walk env x ≡ [] → supported x ≡ true
-
--- the same of an item of a module
-abbrev pub WholeItem : Tree → Type 0
-WholeItem x = (env : Env) → walk env x ≡ [] → supported_item x ≡ true
+Whole x = supported x ≡ true
 
 -- tokens one behind another from a position on, which they are if each was spelled in its place
 abbrev pub Ordered : ℕ → Place → Type 0
 Ordered at c = ordered_from at c.left ≡ true
 
--- the same of what a goal asks for; of an item where the tokens are in order, so that decorators behind `export` begin behind it
+-- ---- exports with decorators, before their words or behind them
+
+abbrev pub has_decorators : Tree → Bool
+has_decorators (tree.class s decorators body base) = not (has_none decorators)
+has_decorators (tree.function s decorators params body is_async is_generator) = not (has_none decorators)
+has_decorators _ = false
+
+abbrev pub is_decorated : Tree → Bool
+is_decorated (tree.export_decl s (tree.class_decl name x)) = has_decorators x
+is_decorated (tree.export_decl s (tree.fn_decl name x)) = has_decorators x
+is_decorated (tree.export_default_decl s (tree.fn_expr t name x)) = has_decorators x
+is_decorated (tree.export_default_decl s (tree.class_expr t name x)) = has_decorators x
+is_decorated _ = false
+
+abbrev pub any_decorated : Trees → Bool
+any_decorated none = false
+any_decorated (also t ts) = is_decorated t || any_decorated ts
+
+abbrev pub any_decorated_in : Tree → Bool
+any_decorated_in (tree.script s (tree.list ts) shebang) = any_decorated ts
+any_decorated_in (tree.module_program s (tree.list ts) shebang) = any_decorated ts
+any_decorated_in _ = false
+
+-- ---- what is supported
+
+-- What a goal asks for; an export with decorators where the tokens are in order, so that decorators behind `export` begin behind it.
 abbrev pub WholeGoal : Goal → Type 0
 WholeGoal (expr_goal class k x c d) = Whole x
 WholeGoal (callee_goal k x c d) = Whole x
@@ -35,11 +55,11 @@ WholeGoal (member_goal k x c d) = Whole x
 WholeGoal (decorator_goal k x c d) = Whole x
 WholeGoal (using_goal k x c d) = Whole x
 WholeGoal (attributes_goal k x c d) = Whole x
-WholeGoal (item_goal k x c d) = (from : ℕ) → Ordered from c → WholeItem x
+WholeGoal (item_goal k x c d) = (from : ℕ) → (is_decorated x ≡ true → Ordered from c) → supported_item x ≡ true
 
 -- whatever the whole language reads
-abbrev pub SpelledIsSupported : Type 0
-SpelledIsSupported = (n : ℕ) (g : Goal) → Reads n g → WholeGoal g
+abbrev pub ReadIsSupported : Type 0
+ReadIsSupported = (n : ℕ) (g : Goal) → Reads n g → WholeGoal g
 
 -- ---- entries
 
@@ -52,19 +72,19 @@ supported_entry programs.module_item x = supported_item x
 supported_entry (programs.stmt top_level) x = supported x
 supported_entry (programs.stmt_list_item top_level) x = supported x
 
--- whether what it reads may be an export, or hold one
-abbrev pub may_export : Entry → Bool
-may_export programs.«module» = true
-may_export programs.program = true
-may_export programs.module_item = true
-may_export _ = false
+-- whether it is an export with decorators, or holds one
+abbrev pub decorated_entry : Entry → Tree → Bool
+decorated_entry programs.«module» x = any_decorated_in x
+decorated_entry programs.program x = any_decorated_in x
+decorated_entry programs.module_item x = is_decorated x
+decorated_entry _ x = false
 
--- whatever tokens spell, by any entry, which are in order where an export may stand
-abbrev pub SpelledEntryIsSupported : Type 0
-SpelledEntryIsSupported = (n : ℕ) (entry : Entry) (k : Code) (labels : List Text) (x : Tree) (c d : Place) (from : ℕ) → (may_export entry ≡ true → Ordered from c)
-    → Spells n entry k labels x c d → supported_entry entry x ≡ true
+-- whatever any entry reads of tokens, which are in order where an export has decorators
+abbrev pub ReadEntryIsSupported : Type 0
+ReadEntryIsSupported = (n : ℕ) (entry : Entry) (k : Code) (x : Tree) (c d : Place) (from : ℕ) → (decorated_entry entry x ≡ true → Ordered from c)
+    → EntryRule (Reads n) entry (entry_code entry k) x c d → supported_entry entry x ≡ true
 
--- A program that is a module for certain, where something had made it one before, or not. No rule asks for the walk's code.
-abbrev pub SpelledProgramIsSupported : Type 0
-SpelledProgramIsSupported = (n : ℕ) (is_certain : Bool) (k : Code) (x : Tree) (c d : Place) (from : ℕ) (env : Env) → Ordered from c
-    → ModuleRule (Reads n) is_certain k x c d → walk env x ≡ [] → supported_program x ≡ true
+-- a program that is a module for certain, where something had made it one before, or not
+abbrev pub ReadProgramIsSupported : Type 0
+ReadProgramIsSupported = (n : ℕ) (is_certain : Bool) (k : Code) (x : Tree) (c d : Place) (from : ℕ) → (any_decorated_in x ≡ true → Ordered from c)
+    → ModuleRule (Reads n) is_certain k x c d → supported_program x ≡ true

@@ -1,12 +1,20 @@
-//! What is spelled without a fault is supported: proofs alone.
+//! What the language reads is supported: proofs alone.
 #![tactic(auto)]
 
-ghost use Rattle.swc_ecma_parser_spelled.specs.Spelled.{SpelledIsSupported, SpelledEntryIsSupported, SpelledProgramIsSupported};
+ghost use Rattle.swc_ecma_parser_spelled.specs.Spelled.{ReadIsSupported, ReadEntryIsSupported, ReadProgramIsSupported};
+ghost use Rattle.swc_ecma_parser_spelled.specs.Unique.{OneScript, OneModule, OneProgram};
 
-/// A law: whatever the grammar of the whole language reads is supported where the walk over it finds no fault, and so is what ordered
-/// tokens spell by any entry.
-pub fn supports_the_spelled()
-    ensures whatever { SpelledIsSupported }
-    ensures entries { SpelledEntryIsSupported }
-    ensures programs { SpelledProgramIsSupported }
+/// A law: whatever the grammar of the whole language reads is supported, and so is what any entry reads of tokens that are in order
+/// where an export has decorators.
+pub fn supports_the_language()
+    ensures whatever { ReadIsSupported }
+    ensures entries { ReadEntryIsSupported }
+    ensures programs { ReadProgramIsSupported }
+{}
+
+/// A law: at most one tree of the language within a limit stands on a list as a script, a module or a program.
+pub fn reads_one()
+    ensures scripts { OneScript }
+    ensures modules { OneModule }
+    ensures programs { OneProgram }
 {}

@@ -1,5 +1,6 @@
 use Rattle.swc_ecma_parser_ast.specs.View.{view_module}
 use Rattle.swc_ecma_parser_module_reader.proofs.Answers as modules
+use Rattle.swc_ecma_parser_spelled.proofs.Completed.{module_completes}
 use Rattle.swc_ecma_parser_spelled.proofs.Decided.{module_decided}
 use Rattle.std.proofs.Common.{ap, ◌∙◌}
 use Rattle.swc_ecma_parser_forward.specs.Forward.{in_order}
@@ -12,7 +13,7 @@ returns-clause-sound g c = let (u, i, h) = c.module.ensures.answers in
 
 pub returns-clause-complete : goal.returns-clause-complete
 returns-clause-complete g c = let (u, i, h) = c.module.ensures.answers in
-    rw (← c.self.view_is) (u, i, modules.complete _ view_module c.self.inside.limit c.self.inside.state u i c.module.result c.module.new.state h)
+    rw (← c.self.view_is) (u, i, module_completes _ view_module c.self.inside.limit c.self.inside.state u c.module.result c.module.new.state i h)
 
 pub returns-clause-memory : goal.returns-clause-memory
 returns-clause-memory g c = let (u, i, h) = c.module.ensures.answers in

@@ -1,6 +1,7 @@
 use Rattle.swc_ecma_parser_ast.specs.View.{view_module_item}
 use Rattle.swc_ecma_parser_reader.specs.Entry.{unmarked}
 use Rattle.swc_ecma_parser_module_reader.proofs.ItemEntries as items
+use Rattle.swc_ecma_parser_spelled.proofs.Completed.{item_completes}
 use Rattle.swc_ecma_parser_spelled.proofs.Decided.{item_decided}
 use Rattle.swc_ecma_parser_module_forward.proofs.Entries.{item_answers_forward}
 use Rattle.swc_ecma_parser.proofs.parser.Parser.parse_module_item.Goals as goal
@@ -9,7 +10,7 @@ pub returns-clause-sound : goal.returns-clause-sound
 returns-clause-sound g c = rw (← c.self.view_is) (items.sound _ view_module_item c.self.inside.limit (unmarked c.self.inside.state) c.item.result c.item.new.state c.item.ensures.answers)
 
 pub returns-clause-complete : goal.returns-clause-complete
-returns-clause-complete g c = rw (← c.self.view_is) (items.complete _ view_module_item c.self.inside.limit (unmarked c.self.inside.state) c.item.result c.item.new.state c.item.ensures.answers)
+returns-clause-complete g c = rw (← c.self.view_is) (item_completes _ view_module_item c.self.inside.limit (unmarked c.self.inside.state) c.item.result c.item.new.state c.item.ensures.answers)
 
 pub returns-clause-memory : goal.returns-clause-memory
 returns-clause-memory g c = rw (← c.self.view_is) (items.memory _ view_module_item c.self.inside.limit (unmarked c.self.inside.state) c.item.result c.item.new.state c.item.ensures.answers)

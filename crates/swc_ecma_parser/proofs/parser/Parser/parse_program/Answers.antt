@@ -2,6 +2,7 @@ use Rattle.swc_ecma_parser_ast.specs.View.{view_program}
 use Rattle.swc_ecma_parser_reader.specs.Entry.{unmarked}
 use Rattle.swc_ecma_parser_module_reader.proofs.Programs as programs
 use Rattle.swc_ecma_parser_module_reader.proofs.ProgramAnswers as answers
+use Rattle.swc_ecma_parser_spelled.proofs.Completed.{program_completes}
 use Rattle.swc_ecma_parser_spelled.proofs.Decided.{program_decided}
 use Rattle.swc_ecma_parser_module_forward.proofs.Entries.{program_answers_forward}
 use Rattle.swc_ecma_parser.proofs.parser.Parser.parse_program.Goals as goal
@@ -12,7 +13,7 @@ returns-clause-sound g c =
 
 pub returns-clause-complete : goal.returns-clause-complete
 returns-clause-complete g c =
-    rw (← c.self.view_is) (programs.complete _ view_program c.self.inside.limit (unmarked c.self.inside.state) c.program.result c.program.new.state c.program.ensures.answers)
+    rw (← c.self.view_is) (program_completes _ view_program c.self.inside.limit (unmarked c.self.inside.state) c.program.result c.program.new.state c.program.ensures.answers)
 
 pub returns-clause-memory : goal.returns-clause-memory
 returns-clause-memory g c =

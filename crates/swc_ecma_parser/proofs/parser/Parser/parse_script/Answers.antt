@@ -1,9 +1,11 @@
 use Rattle.std.proofs.Common.{subst}
 use Rattle.swc_ecma_parser_ast.specs.View.{view_script}
-use Rattle.swc_ecma_parser_reader.specs.Entry.{unmarked, CompleteScript}
+use Rattle.swc_ecma_parser_reader.specs.Entry.{unmarked}
 use Rattle.swc_ecma_parser_reader.proofs.Entries as entries
 use Rattle.swc_ecma_parser_reader.proofs.Keeps as keeps
+use Rattle.swc_ecma_parser_spelled.proofs.Completed.{script_completes}
 use Rattle.swc_ecma_parser_spelled.proofs.Decided.{script_decided}
+use Rattle.swc_ecma_parser_spelled.specs.Completes.{CompletesScript}
 use Rattle.swc_ecma_parser_spelled.specs.Decides.{DecidesScript}
 use Rattle.swc_ecma_parser_forward.proofs.Entries.{script_answers_forward}
 use Rattle.swc_ecma_parser.proofs.parser.Parser.parse_script.Goals as goal
@@ -13,8 +15,8 @@ returns-clause-sound g c = rw (← c.self.view_is) (entries.entry_sound _ view_s
 
 pub returns-clause-complete : goal.returns-clause-complete
 returns-clause-complete g c =
-    subst (λ q. CompleteScript view_script q.limit (unmarked q.state) c.script.result c.script.new.state) c.self.view_is
-    (entries.entry_complete _ view_script c.self.inside.limit (unmarked c.self.inside.state) c.script.result c.script.new.state c.script.ensures.answers)
+    subst (λ q. CompletesScript view_script q.limit (unmarked q.state) c.script.result c.script.new.state) c.self.view_is
+    (script_completes _ view_script c.self.inside.limit (unmarked c.self.inside.state) c.script.result c.script.new.state c.script.ensures.answers)
 
 pub returns-clause-memory : goal.returns-clause-memory
 returns-clause-memory g c = rw (← c.self.view_is) (entries.entry_memory _ view_script c.self.inside.limit (unmarked c.self.inside.state) c.script.result c.script.new.state c.script.ensures.answers)

@@ -3,6 +3,7 @@ use Rattle.swc_ecma_parser_ast.specs.View.{view_stmt}
 use Rattle.swc_ecma_parser_reader.specs.Entry.{unmarked}
 use Rattle.swc_ecma_parser_reader.proofs.Statements as statements
 use Rattle.swc_ecma_parser_reader.proofs.Keeps as keeps
+use Rattle.swc_ecma_parser_spelled.proofs.Completed.{statement_completes}
 use Rattle.swc_ecma_parser_spelled.proofs.Decided.{statement_decided}
 use Rattle.swc_ecma_parser_forward.proofs.Entries.{statement_answers_forward}
 use Rattle.swc_ecma_parser.proofs.parser.Parser.parse_stmt.Goals as goal
@@ -11,7 +12,7 @@ pub returns-clause-sound : goal.returns-clause-sound
 returns-clause-sound g c = rw (← c.self.view_is) (statements.statement_sound _ view_stmt c.self.inside.limit false c.args.top_level (unmarked c.self.inside.state) c.statement.result c.statement.new.state c.statement.ensures.answers)
 
 pub returns-clause-complete : goal.returns-clause-complete
-returns-clause-complete g c = rw (← c.self.view_is) (statements.statement_complete _ view_stmt c.self.inside.limit false c.args.top_level (unmarked c.self.inside.state) c.statement.result c.statement.new.state c.statement.ensures.answers)
+returns-clause-complete g c = rw (← c.self.view_is) (statement_completes _ view_stmt c.self.inside.limit (unmarked c.self.inside.state) c.statement.result c.statement.new.state false c.args.top_level c.statement.ensures.answers)
 
 pub returns-clause-memory : goal.returns-clause-memory
 returns-clause-memory g c = rw (← c.self.view_is) (statements.statement_memory _ view_stmt c.self.inside.limit false c.args.top_level (unmarked c.self.inside.state) c.statement.result c.statement.new.state c.statement.ensures.answers)
