@@ -23,7 +23,7 @@ use Rattle.swc_ecma_parser_grammar.specs.Using.{is_using_declaration, misused, e
 use Rattle.swc_ecma_parser_grammar.specs.Reads.{with_in, directed, directs_on, nested_item, top_item, DeclaratorRule, plain_rule, initialized_rule, ReadsSeparated, ReadsItems, StmtRule, block_rule, empty_rule, debugger_rule, variables_rule, using_rule, if_statement_rule, TargetRule, no_target_rule, target_rule, OperandRule, no_operand_rule, operand_rule, break_rule, continue_rule, return_rule, labeled_rule, HeadVariables, InitRule, no_init_rule, init_variables_rule, init_expression_rule, LeftRule, declared_rule, left_target_rule, for_in_rule, for_of_rule, head_code, PartRule, no_part_rule, part_rule, for_rule, CaseRule, case_clause_rule, default_clause_rule, ReadsCases, switch_rule, throw_rule, try_rule, with_rule, while_rule, do_while_rule, expr_rule, import_rule, ReadsBlock, CatchRule, no_catch_rule, catch_rule, catch_parameter_rule, FinallyRule, no_finally_rule, finally_rule, ReadsHead, IfRule, if_rule, ElseRule, no_else_rule, else_rule, else_if_rule, ReadsBraced, ReadsFunction, class_rule, function_rule, OfLeftRule, of_left_rule, of_using_rule, of_await_rule}
 use Rattle.swc_ecma_parser_grammar.specs.Entries.{ReadsScript, ReadsShebang, some_shebang, no_shebang, script_code, items_await, script_awaits}
 use Rattle.swc_ecma_parser_grammar.specs.Decorated.{decorated_by, DeclaredRule, declared_class, declared_function, DecoratedRule, EitherRule, plain_statement, decorated_statement}
-use Rattle.swc_ecma_parser_grammar.specs.Supported.{supported, supported_in, all_supported_in}
+use Rattle.swc_ecma_parser_grammar.specs.Supported.{supported_in, all_supported_in}
 use Rattle.swc_ecma_parser_grammar.specs.ReadsSupported.{ReadsClass, ReadsPat, ReadsTarget, ReadsStmt, ReadsTop, ReadsParams, ReadsNamedClass, ReadsDecorators, ReadsDeclared}
 use Rattle.swc_ecma_parser_grammar.specs.language.Goals.{expression, assignment, expr_goal, stmt_goal}
 use Rattle.swc_ecma_parser_grammar.specs.language.Contexts.{in_loop, in_breakable, in_with, without_in}
@@ -517,7 +517,3 @@ script_widens n k x c d r = (
 pub script_awaits_as : (n : ℕ) (k : Code) (x : Tree) (c d : Place) (r : ReadsScript n k x c d) → programs.script_awaits n k x c d (script_widens n k x c d r) ≡ script_awaits n k x c d r
 unfolding script_widens
 script_awaits_as n k x c d r = items_await_as n top_item (λ j. ReadsTop n j top_item) (λ j y a b q. top_widens n j top_item y a b q) (script_code k) true r.items r.first d r.reads_items
-
-pub script_supported : (n : ℕ) (k : Code) (x : Tree) (c d : Place) → ReadsScript n k x c d → supported x ≡ true
-script_supported n k x c d r =
-    ap supported r.is ∙ items_supported (λ j. ReadsTop n j top_item) (λ j y a b q. stmt_supported n j top_item y a b q.0) (script_code k) true r.items r.first d r.reads_items

@@ -6,10 +6,8 @@ use Rattle.swc_ecma_parser_model.specs.Kinds.{is_module_decl}
 use Rattle.swc_ecma_parser_model.specs.Tree.{Tree, trees}
 use Rattle.swc_ecma_parser_grammar.specs.Notes.{notes, all_notes}
 use Rattle.swc_ecma_parser_grammar.specs.language.Noted.{has_meta, any_has_meta}
-use Rattle.swc_ecma_parser_grammar.proofs.Tests.{and_yes, and_both}
 use Rattle.swc_ecma_parser_reader.proofs.Notes.{or_true, or_assoc}
 use Rattle.swc_ecma_parser_module_reader.specs.ProgramEntry.{any_module_decl}
-use Rattle.swc_ecma_parser_module_reader.specs.Supported.{supported_item, all_supported_items}
 
 pub notes_joined : (xs ys : List Tree) → all_notes (trees (xs ++ ys)) ≡ all_notes (trees xs) ++ all_notes (trees ys)
 notes_joined [] ys = refl
@@ -23,10 +21,6 @@ pub declarations_joined : (xs ys : List Tree) → any_module_decl (trees (xs ++ 
 declarations_joined [] ys = refl
 declarations_joined (x ∷ xs) ys = ap (λ z. is_module_decl x || z) (declarations_joined xs ys)
     ∙ sym (or_assoc (is_module_decl x) (any_module_decl (trees xs)) (any_module_decl (trees ys)))
-
-pub supported_joined : (xs ys : List Tree) → all_supported_items (trees xs) ≡ true → all_supported_items (trees ys) ≡ true → all_supported_items (trees (xs ++ ys)) ≡ true
-supported_joined [] ys h g = g
-supported_joined (x ∷ xs) ys h g = let b = and_yes (supported_item x) (all_supported_items (trees xs)) h in and_both (supported_item x) _ b.0 (supported_joined xs ys b.1 g)
 
 -- the tests of the language are those of the trees
 pub declarations_listed : (xs : List Tree) → list_any is_module_decl xs ≡ any_module_decl (trees xs)

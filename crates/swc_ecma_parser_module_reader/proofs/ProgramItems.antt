@@ -23,16 +23,15 @@ use Rattle.swc_ecma_parser_grammar.specs.language.ModuleItems.{statement_rule, i
 use Rattle.swc_ecma_parser_grammar.specs.language.Reads.{Reads}
 use Rattle.swc_ecma_parser_grammar.proofs.StatementEntries.{statement_widens, stmt_unnoted}
 use Rattle.swc_ecma_parser_grammar.proofs.SupportedIn.{strict_module}
-use Rattle.swc_ecma_parser_grammar.proofs.Tests.{or_no, and_both}
+use Rattle.swc_ecma_parser_grammar.proofs.Tests.{or_no}
 use Rattle.swc_ecma_parser_grammar.proofs.Unnoted.{joined}
 use Rattle.swc_ecma_parser_reader.proofs.expressions.CompleteKinds.{seen}
 use Rattle.swc_ecma_parser_reader.proofs.Notes.{or_assoc}
 use Rattle.swc_ecma_parser_reader.proofs.SoundParts.{code_after}
 use Rattle.swc_ecma_parser_module_reader.specs.Modules.{module_code}
 use Rattle.swc_ecma_parser_module_reader.specs.ProgramEntry.{any_module_decl}
-use Rattle.swc_ecma_parser_module_reader.specs.Supported.{supported_item, all_supported_items}
 use Rattle.swc_ecma_parser_module_reader.proofs.ItemForms.{IsDeclaration}
-use Rattle.swc_ecma_parser_module_reader.proofs.ItemStarts.{statement_told, item_supported, no_module_decl, sign_seen}
+use Rattle.swc_ecma_parser_module_reader.proofs.ItemStarts.{statement_told, no_module_decl, sign_seen}
 use Rattle.swc_ecma_parser_module_reader.proofs.ModuleCode.{entered_code, declared_code, declared_env, stated_code, stated_env}
 use Rattle.swc_ecma_parser_module_reader.proofs.SoundModules.{stmt_item}
 
@@ -86,18 +85,12 @@ walk_joined k labels directives (x ∷ xs) ys h l =
     (walk_joined (directed k directives x) labels false xs ys g.1 l))
     ∙ ap (λ v. walk env x ++ walk_items v false (trees (xs ++ ys))) (sym (stated_env (walks.directed env directives x) x g.0))
 
--- ---- what is supported of a script is in a program
+-- ---- in module code the statements of a script note nothing
 
 module _ (n : ℕ) where
   abbrev Top : Code → Tree → Place → Place → Type 0
   Top j = ReadsTop n j top_item
 
-  pub tops_supported : (k : Code) (directives : Bool) (xs : List Tree) (c d : Place) → ReadsItems Top k directives xs c d → all_supported_items (trees xs) ≡ true
-  tops_supported k directives [] c d r = refl
-  tops_supported k directives (x ∷ xs) c d (m, r, rs) =
-      and_both (supported_item x) _ (item_supported x (statement_widens n k top_item x c m r).1) (tops_supported (directed k directives x) (directs_on directives x) xs m d rs)
-
-  -- in module code they note nothing
   pub tops_unnoted : (k : Code) (directives : Bool) (xs : List Tree) (c d : Place) → k.flags.module ≡ true → ReadsItems Top k directives xs c d → all_notes (trees xs) ≡ []
   tops_unnoted k directives [] c d o r = refl
   tops_unnoted k directives (x ∷ xs) c d o (m, r, rs) =

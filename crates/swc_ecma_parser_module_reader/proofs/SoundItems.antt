@@ -36,7 +36,7 @@ use Rattle.swc_ecma_parser_module_reader.specs.Items.{turned, item_whole}
 use Rattle.swc_ecma_parser_module_reader.specs.ItemEntry.{SoundItemAlone}
 use Rattle.swc_ecma_parser_module_reader.proofs.ItemCases.{with_held, alone_cases}
 use Rattle.swc_ecma_parser_module_reader.proofs.ItemForms.{IsDeclaration, declaration_form}
-use Rattle.swc_ecma_parser_module_reader.proofs.ItemStarts.{import_word, item_supported}
+use Rattle.swc_ecma_parser_module_reader.proofs.ItemStarts.{import_word}
 use Rattle.swc_ecma_parser_module_reader.proofs.ModuleCode.{IsModule, stated_code}
 use Rattle.swc_ecma_parser_module_reader.proofs.ProgramItems.{declared_around}
 use Rattle.swc_ecma_parser_module_reader.proofs.SoundExports.{export_sound}
@@ -102,7 +102,6 @@ declared_is n recorded s x t off noted_as p (d, w) = record {
   plain = λ _. (refl, refl);
   stated = λ e. absurd (true≢false (sym d ∙ e));
   spells = λ h _. let r = p.reads h in ((declared_around n s.code x s.at t.at d off r.0, λ _. r.2), sym (w (env_of s.code s.scope.labels)) ∙ p.clean h);
-  is_supported = λ h. (p.reads h).1;
   fewer = p.fewer;
   walked = λ g h. p.walked g h ∙ w (env_of s.code s.scope.labels);
   noted = λ h _. rw (d, or_nil (has_meta x)) (p.notes h);
@@ -124,7 +123,6 @@ stated_is n s x t p e = record {
   plain = λ _. (refl, refl);
   stated = λ _. (refl, refl);
   spells = λ h _. let r = p.spells h in ((stmt_item n s.code x s.at t.at r.0.0, r.0.1), r.1);
-  is_supported = λ h. item_supported x (p.is_supported h);
   fewer = p.fewer;
   walked = p.walked;
   noted = λ h _. rw e (p.noted h);
@@ -170,7 +168,6 @@ module _ (n : ℕ) (recorded : List Fault) (s : State) (begins : begins_decorato
       plain = λ h. absurd (true≢false (sym (signs s.code s.at begins).1 ∙ h));
       stated = λ h. absurd (true≢false (sym p.declared ∙ h));
       spells = λ g h. (((p.reads g).0, λ _. unnoted g h), p.clean g);
-      is_supported = λ g. (p.reads g).1;
       fewer = p.fewer;
       walked = p.walked;
       noted = λ g h. rw (p.declared, or_nil (has_meta x)) (left_notes g h);

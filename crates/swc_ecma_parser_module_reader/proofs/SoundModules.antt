@@ -53,7 +53,7 @@ use Rattle.swc_ecma_parser_module_reader.specs.Entry.{SoundModule}
 use Rattle.swc_ecma_parser_module_reader.specs.Decorated.{begins_decorators, export_item}
 use Rattle.swc_ecma_parser_module_reader.specs.Imports.{import_decl}
 use Rattle.swc_ecma_parser_module_reader.specs.Modules.{begins_import, import_in, export_in, import_behind, export_behind, module_item, module_code, module_body, module_whole}
-use Rattle.swc_ecma_parser_module_reader.specs.Supported.{supported_item, all_supported_items, supported_module}
+use Rattle.swc_ecma_parser_module_reader.specs.Supported.{supported_item, all_supported_items}
 use Rattle.swc_ecma_parser_module_reader.proofs.ItemStarts.{import_word, item_supported, no_module_decl}
 use Rattle.swc_ecma_parser_module_reader.proofs.ModuleCode.{IsModule, in_module_same, directed_same, behind_same, env_same}
 use Rattle.swc_ecma_parser_module_reader.proofs.DecoratedItems.{item_cases}
@@ -303,7 +303,6 @@ module_is n s x t (b, p, e) = record {
     ),
     p.clean g,
   );
-  is_supported = λ g. ap supported_module (p.reads g).is ∙ (p.reads g).reads_body.support;
   walked = λ g d. p.walked (none_counted s.at.left g ∙ sym (ap error_tokens (nothing_at_end t.at e))) d;
   awaits = b;
   awaited = λ g. refl;

@@ -49,9 +49,9 @@ use Rattle.swc_ecma_parser_module_reader.proofs.Keeps.{list_keeps}
 use Rattle.swc_ecma_parser_module_reader.proofs.SoundAround.{SoundAround, plain_around, behind_list}
 use Rattle.swc_ecma_parser_module_reader.proofs.SoundLed.{list_sound}
 use Rattle.swc_ecma_parser_module_reader.proofs.ItemForms.{declaration_form}
-use Rattle.swc_ecma_parser_module_reader.proofs.ItemLists.{notes_joined, meta_joined, declarations_joined, supported_joined, declarations_listed, meta_listed, or_shift}
+use Rattle.swc_ecma_parser_module_reader.proofs.ItemLists.{notes_joined, meta_joined, declarations_joined, declarations_listed, meta_listed, or_shift}
 use Rattle.swc_ecma_parser_module_reader.proofs.ModuleCode.{directed_may}
-use Rattle.swc_ecma_parser_module_reader.proofs.ProgramItems.{LeadsPlainly, plainly_leads, leads_declared, walk_joined, tops_supported, tops_unnoted, items_joined}
+use Rattle.swc_ecma_parser_module_reader.proofs.ProgramItems.{LeadsPlainly, plainly_leads, leads_declared, walk_joined, tops_unnoted, items_joined}
 use Rattle.swc_ecma_parser_module_reader.proofs.Sound.{items_sound}
 use Rattle.swc_ecma_parser_module_reader.proofs.SoundModules.{shebang_sound, at_end_seen}
 use Rattle.swc_ecma_parser_module_reader.proofs.StatementForms.{whole_form}
@@ -192,7 +192,6 @@ script_is n s o b xs t p stated ends found =
         (reads (plain p.added h), λ m. tops_unnoted n (program_code s.code) true xs r.0 t.at (sym (or_nil s.code.flags.module) ∙ m) r.2.0),
         p.clean (plain p.added h),
       );
-      is_supported = λ h g. let r = p.reads (plain p.added h) in tops_supported n (program_code s.code) true xs r.0 t.at r.2.0;
       walked = λ g d. ap tabled (append-nil p.added) ∙ p.walked (none_counted s.at.left g ∙ sym (ap error_tokens (nothing_at_end t.at e))) (ap drops (sym (append-nil p.added))
           ∙ d);
       awaits = b;
@@ -307,8 +306,6 @@ module _ (n : ℕ) (s : State) (o : Option Text) (recorded entering : List Fault
           ∙ joined (walks.walks (env_of k0 s.scope.labels) true (trees xs)) (walk_items (env_of k1 s.scope.labels) true (trees ys))
           (p.clean h.0) (sym walked_behind ∙ q.clean h.1),
     );
-    is_supported = λ e g. let h = split e in let r = p.reads h.0 in
-        supported_joined xs ys (tops_supported n k0 true xs r.0 m.at r.2.0) (q.reads h.1).1;
     walked = λ g d. let e = drops-split p.added (q.list ++ q.behind) (ap drops (sym (append_assoc p.added q.list q.behind)) ∙ d) in
         let l = same-between (error_tokens s.at.left) (error_tokens m.at.left) (error_tokens t.at.left) p.fewer q.fewer
         (none_counted s.at.left g ∙ sym (ap error_tokens (nothing_at_end t.at the_end))) in

@@ -37,9 +37,9 @@ pub record IsEntered (s u : State) : Type 0 where
   pub faults : u.faults ≡ s.faults ++ recorded
   pub recorded_as : map as_note recorded ≡ s.notes.held_back
 
--- An answer: it takes the whole list; where nothing was recorded the list spells it as a module of the language, it has supported
--- forms alone, its walk is empty, and what was noted are its notes; and where no error token stands and nothing was dropped, the
--- faults of the table among those recorded are the walk's.
+-- An answer: it takes the whole list; where nothing was recorded the list spells it as a module of the language, its walk is empty,
+-- and what was noted are its notes; and where no error token stands and nothing was dropped, the faults of the table among those
+-- recorded are the walk's.
 pub record SoundModule (limit : ℕ) (s : State) (x : Tree) (t : State) : Type 0 where
   pub code : t.code ≡ module_code s.code
   pub scope : t.scope ≡ s.scope
@@ -47,7 +47,6 @@ pub record SoundModule (limit : ℕ) (s : State) (x : Tree) (t : State) : Type 0
   pub added : List Fault
   pub faults : t.faults ≡ s.faults ++ added
   pub spells : added ≡ [] → Spells limit programs.«module» s.code s.scope.labels x s.at t.at
-  pub is_supported : added ≡ [] → supported_module x ≡ true
   pub walked : has_error_token s.at.left ≡ false → drops added ≡ false → tabled added ≡ module_walk s x
   -- whether one of its own statements begins with `await`
   pub awaits : Bool

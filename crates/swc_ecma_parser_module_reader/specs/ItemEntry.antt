@@ -31,9 +31,9 @@ released s x = if is_module_decl x then record s.notes { held_back = [] } else s
 -- An answer. An import or an export leaves module code behind it and records what had been held back (`recorded`): what the state
 -- had, and what decorators before its word did; a statement leaves the code as it was. Where nothing else was recorded, before that or
 -- behind it, and those decorators held back nothing, the tokens up to its end spell it as an item of the language, its walk is empty,
--- and what was noted are its notes; it has supported forms alone. Where no error token was read and nothing was dropped, the faults of
--- the table among those recorded are the walk's; and whatever was recorded, that the code is a module's is noted where the tree says
--- so and where a statement begins with `await`, and nowhere else.
+-- and what was noted are its notes. Where no error token was read and nothing was dropped, the faults of the table among those
+-- recorded are the walk's; and whatever was recorded, that the code is a module's is noted where the tree says so and where a
+-- statement begins with `await`, and nowhere else.
 pub record SoundItemAlone (limit : ℕ) (s : State) (x : Tree) (t : State) : Type 0 where
   pub code : t.code ≡ behind_item s.code x
   pub scope : t.scope ≡ s.scope
@@ -48,7 +48,6 @@ pub record SoundItemAlone (limit : ℕ) (s : State) (x : Tree) (t : State) : Typ
   -- nor does anything of a statement, which all faults are recorded behind
   pub stated : is_module_decl x ≡ false → (before ≡ []) × (held ≡ [])
   pub spells : before ++ behind ≡ [] → held ≡ [] → Spells limit programs.module_item s.code s.scope.labels x s.at t.at
-  pub is_supported : before ++ behind ≡ [] → supported_item x ≡ true
   -- no error token comes to those that are left, and there are as many where none was read
   pub fewer : error_tokens t.at.left ≤ error_tokens s.at.left
   pub walked : error_tokens s.at.left ≡ error_tokens t.at.left → drops (before ++ behind) ≡ false → tabled (before ++ behind) ≡ item_walk s x

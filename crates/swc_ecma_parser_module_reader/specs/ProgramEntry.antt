@@ -46,10 +46,9 @@ noted_behind h x awaits = if is_module_program x then record { held_back = []; f
 
 -- An answer: it takes the whole list. Faults were recorded before module code began and behind; where it began, what had been held
 -- back was recorded: what the state had, and what the program itself did. Where neither was anything recorded nor did the program
--- hold back anything until it turned out to be a module, the list spells it as a program of the language, it has supported forms
--- alone, its walk is empty, and what was noted are its notes. Where no error token stands and nothing was dropped, the faults of the
--- table among those recorded are the walk's. It is a module where it has an import or an export, or where it is noted that
--- something else made it one.
+-- hold back anything until it turned out to be a module, the list spells it as a program of the language, its walk is empty, and
+-- what was noted are its notes. Where no error token stands and nothing was dropped, the faults of the table among those recorded are
+-- the walk's. It is a module where it has an import or an export, or where it is noted that something else made it one.
 pub record SoundProgram (limit : ℕ) (s : State) (x : Tree) (t : State) : Type 0 where
   pub code : t.code ≡ code_behind programs.program s.code x
   pub scope : t.scope ≡ s.scope
@@ -61,7 +60,6 @@ pub record SoundProgram (limit : ℕ) (s : State) (x : Tree) (t : State) : Type 
   pub held : List Fault
   pub recorded_as : map as_note recorded ≡ (if is_module_program x then s.notes.held_back else []) ++ held
   pub spells : before ++ behind ≡ [] → held ≡ [] → ReadsProgram limit s.notes.found_module_item s.code x s.at t.at × (program_walk s x ≡ [])
-  pub is_supported : before ++ behind ≡ [] → held ≡ [] → supported_program x ≡ true
   pub walked : has_error_token s.at.left ≡ false → drops (before ++ behind) ≡ false → tabled (before ++ behind) ≡ program_walk s x
   -- whether one of its own statements begins with `await`
   pub awaits : Bool

@@ -33,7 +33,7 @@ use Rattle.swc_ecma_parser_grammar.specs.Walk as walks
 use Rattle.swc_ecma_parser_grammar.specs.Walk.{walk, env_of}
 use Rattle.swc_ecma_parser_grammar.specs.language.Statements.{may_begin_at_top}
 use Rattle.swc_ecma_parser_grammar.proofs.Tests.{and_yes}
-use Rattle.swc_ecma_parser_grammar.proofs.Widens.{shebang_widens, script_widens, script_awaits_as, script_supported}
+use Rattle.swc_ecma_parser_grammar.proofs.Widens.{shebang_widens, script_widens, script_awaits_as}
 use Rattle.swc_ecma_parser_reader.specs.Notes.{Notes, ◌⊕◌, notes_of, all_notes_of, notes_with, all_notes_with}
 use Rattle.swc_ecma_parser_reader.specs.State.{State, moved, coded, flagged, noted, module_found, fault_at}
 use Rattle.swc_ecma_parser_reader.specs.Reader.{directs, items_turn, items, at_end, stmt, top_await_fault, top_await, whole_stmt, shebang_of, shebang_in, shebang_taken, shebang, script_body, script}
@@ -361,7 +361,6 @@ script_is n s x t (b, (f, keeps, p), h, stands, e) =
       added = p.added;
       faults = p.faults;
       spells = λ g. (script_widens n s.code x s.at t.at (spelled g), p.clean g);
-      is_supported = λ g. script_supported n s.code x s.at t.at (spelled g);
       walked = λ g d. p.walked (none_counted s.at.left g ∙ sym (ap error_tokens (nothing_at_end t.at e))) d;
       awaits = b;
       stands = stands;

@@ -67,7 +67,6 @@ sound_by limit include_decl top_level s x t (p, h) stands =
       added = p.added;
       faults = p.faults;
       spells = λ h. (as_entry limit include_decl top_level s.code x s.at t.at (statement_widens limit s.code at x s.at t.at (p.reads h).0).0, walks_here include_decl top_level s x (p.clean h));
-      is_supported = λ h. (statement_widens limit s.code at x s.at t.at (p.reads h).0).1;
       stands = stands;
       fewer = p.fewer;
       walked = p.walked;

@@ -113,11 +113,11 @@ pub record StandsAsScript (x : Tree) (awaits : Bool) (c d : Place) : Type 0 wher
 
 -- ---- a script
 
--- An answer: it takes the whole list; where nothing was recorded the list spells it as a script of the language, it has supported
--- forms alone, its walk is empty, and what was noted are its notes; where no error token stands and nothing was dropped, the
--- faults of the table among those recorded are the walk's; and whatever was recorded, its statements stand on the tokens of the
--- list, and that the code is a module's is noted where the tree says so and where one of these statements begins with `await`,
--- and nowhere else. That one does is told, but in code that may be a module's.
+-- An answer: it takes the whole list; where nothing was recorded the list spells it as a script of the language, its walk is empty,
+-- and what was noted are its notes; where no error token stands and nothing was dropped, the faults of the table among those
+-- recorded are the walk's; and whatever was recorded, its statements stand on the tokens of the list, and that the code is a
+-- module's is noted where the tree says so and where one of these statements begins with `await`, and nowhere else. That one does is
+-- told, but in code that may be a module's.
 pub record SoundScript (limit : ℕ) (s : State) (x : Tree) (t : State) : Type 0 where
   pub code : t.code ≡ script_code s.code
   pub scope : t.scope ≡ s.scope
@@ -125,7 +125,6 @@ pub record SoundScript (limit : ℕ) (s : State) (x : Tree) (t : State) : Type 0
   pub added : List Fault
   pub faults : t.faults ≡ s.faults ++ added
   pub spells : added ≡ [] → Spells limit programs.script s.code s.scope.labels x s.at t.at
-  pub is_supported : added ≡ [] → supported x ≡ true
   pub walked : has_error_token s.at.left ≡ false → drops added ≡ false → tabled added ≡ script_walk s x
   -- whether one of its own statements begins with `await`
   pub awaits : Bool
@@ -216,17 +215,16 @@ abbrev pub statement_left : (top_level : Bool) → State → Tree → Place → 
 statement_left top_level s x d = record s { at = d; faults = s.faults ++ statement_walk s x; notes = s.notes ⊕ statement_notes top_level s.at x }
 
 -- An answer: the code and the labels around are as before; where nothing was recorded the tokens up to its end spell it as a
--- statement of the language, it has supported forms alone, its walk is empty, and what was noted are its notes; where no error
--- token was read and nothing was dropped, the faults of the table among those recorded are the walk's; and whatever was recorded,
--- it stands on the tokens that were taken, and that the code is a module's is noted where the tree says so and where a statement
--- of the top level begins with `await`, and nowhere else.
+-- statement of the language, its walk is empty, and what was noted are its notes; where no error token was read and nothing was
+-- dropped, the faults of the table among those recorded are the walk's; and whatever was recorded, it stands on the tokens that were
+-- taken, and that the code is a module's is noted where the tree says so and where a statement of the top level begins with `await`,
+-- and nowhere else.
 pub record SoundStatement (limit : ℕ) (include_decl top_level : Bool) (s : State) (x : Tree) (t : State) : Type 0 where
   pub code : t.code ≡ s.code
   pub scope : t.scope ≡ s.scope
   pub added : List Fault
   pub faults : t.faults ≡ s.faults ++ added
   pub spells : added ≡ [] → Spells limit (statement_entry include_decl top_level) s.code s.scope.labels x s.at t.at
-  pub is_supported : added ≡ [] → supported x ≡ true
   pub stands : StandsAt x s.at t.at
   -- no error token comes to those that are left, and there are as many where none was read
   pub fewer : error_tokens t.at.left ≤ error_tokens s.at.left
