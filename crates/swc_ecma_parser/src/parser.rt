@@ -17,7 +17,7 @@ ghost use Rattle.swc_ecma_parser_reader.specs.Limits.{has_too_deep_token, has_ou
 ghost use Rattle.swc_ecma_parser_spelled.specs.Completes.{CompletesScript, CompletesModule, CompletesProgram, CompletesItem, CompletesStatement};
 ghost use Rattle.swc_ecma_parser_spelled.specs.Decides.{DecidesScript, DecidesStatement};
 ghost use Rattle.swc_ecma_parser_spelled.specs.ModuleDecides.{DecidesModule, DecidesItem, DecidesProgram};
-ghost use Rattle.swc_ecma_parser_spelled.specs.Spelled.{Ordered};
+ghost use Rattle.swc_ecma_parser_spelled.specs.Supports.{Ordered};
 ghost use Rattle.swc_ecma_parser_state.specs.Opened.{opened};
 ghost use Rattle.swc_ecma_parser_token.specs.declared.token.Token.TheVariants as token;
 ghost use Rattle.swc_ecma_parser_token.specs.declared.token.TokenAndSpan.{TokenAndSpan};

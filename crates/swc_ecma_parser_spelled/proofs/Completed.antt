@@ -1,9 +1,8 @@
 -- Whatever answers as the reader does answers every tree of the language, since all of them are supported.
-use Rattle.std.proofs.Common.{◌≡◌, ℕ, Bool, true, false, true≢false, not, Result, refl, sym, ◌∙◌, ap}
+use Rattle.std.proofs.Common.{◌≡◌, ℕ, Bool, true, false, true≢false, not, Result, refl, sym}
 use Rattle.std.specs.Prelude.{◌||◌, Option}
 use Rattle.swc_ecma_parser_common.specs.declared.span.Span.{Span}
 use Rattle.swc_ecma_parser_error.specs.declared.error.Error.{Error}
-use Rattle.swc_ecma_parser_input.specs.Place.{Place}
 use Rattle.swc_ecma_parser_model.specs.Tree as tree
 use Rattle.swc_ecma_parser_model.specs.Tree.{Tree, Trees, none, also}
 use Rattle.swc_ecma_parser_grammar.specs.Supported.{has_none}
@@ -16,11 +15,11 @@ use Rattle.swc_ecma_parser_module_reader.specs.Entry.{IsEntered, AnswersModule}
 use Rattle.swc_ecma_parser_module_reader.specs.ItemEntry.{AnswersItem}
 use Rattle.swc_ecma_parser_module_reader.specs.ProgramEntry.{AnswersProgram}
 use Rattle.swc_ecma_parser_module_reader.specs.Programs.{program_code}
-use Rattle.swc_ecma_parser_module_reader.specs.Supported.{are_before, is_led_by, is_led, any_led, any_led_in, OrderedFor}
+use Rattle.swc_ecma_parser_module_reader.specs.Supported.{are_before, is_led_by, is_led, any_led, any_led_in}
 use Rattle.swc_ecma_parser_module_reader.proofs.Answers as modules
 use Rattle.swc_ecma_parser_module_reader.proofs.ItemEntries as items
 use Rattle.swc_ecma_parser_module_reader.proofs.Programs as whole_programs
-use Rattle.swc_ecma_parser_spelled.specs.Spelled.{has_decorators, is_decorated, any_decorated, any_decorated_in}
+use Rattle.swc_ecma_parser_spelled.specs.Supports.{has_decorators, is_decorated, any_decorated, any_decorated_in}
 use Rattle.swc_ecma_parser_spelled.specs.Completes.{CompletesScript, CompletesStatement, CompletesModule, CompletesItem, CompletesProgram}
 use Rattle.swc_ecma_parser_spelled.proofs.Entries.{read_entry, read_program}
 use Rattle.swc_ecma_parser_spelled.proofs.Exported.{first_of_two, second_of_two}

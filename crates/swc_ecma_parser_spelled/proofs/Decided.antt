@@ -1,5 +1,5 @@
 -- Whatever answers as the reader does decides: it answers a tree with nothing recorded exactly where the tokens spell it.
-use Rattle.std.proofs.Common.{ℕ, Bool, true, false, Result, ◌∙◌, ap}
+use Rattle.std.proofs.Common.{ℕ, Bool, Result, ◌∙◌, ap}
 use Rattle.swc_ecma_parser_error.specs.declared.error.Error.{Error}
 use Rattle.swc_ecma_parser_input.specs.TokenSource.{ordered_from}
 use Rattle.swc_ecma_parser_model.specs.Tree.{Tree}
@@ -13,7 +13,7 @@ use Rattle.swc_ecma_parser_module_reader.specs.ProgramEntry.{AnswersProgram}
 use Rattle.swc_ecma_parser_module_reader.proofs.Answers as modules
 use Rattle.swc_ecma_parser_module_reader.proofs.ItemEntries as items
 use Rattle.swc_ecma_parser_module_reader.proofs.Programs as whole_programs
-use Rattle.swc_ecma_parser_spelled.specs.Spelled.{Ordered}
+use Rattle.swc_ecma_parser_spelled.specs.Supports.{Ordered}
 use Rattle.swc_ecma_parser_spelled.specs.Decides.{DecidesScript, DecidesStatement}
 use Rattle.swc_ecma_parser_spelled.specs.ModuleDecides.{DecidesModule, DecidesItem, DecidesProgram}
 use Rattle.swc_ecma_parser_spelled.proofs.Ordered.{from_outset}

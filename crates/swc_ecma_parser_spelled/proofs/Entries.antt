@@ -1,5 +1,5 @@
 -- What an entry of the language reads is supported.
-use Rattle.std.proofs.Common.{◌≡◌, ℕ, Bool, true, false, List, [], ◌∷◌, Option, refl, sym, ◌∙◌, ap}
+use Rattle.std.proofs.Common.{◌≡◌, ℕ, Bool, true, false, List, [], ◌∷◌, Option, refl, ◌∙◌, ap}
 use Rattle.std.specs.Prelude.{◌||◌}
 use Rattle.swc_ecma_parser_common.specs.declared.span.Span.{Span}
 use Rattle.swc_ecma_parser_input.specs.Place.{Place}
@@ -18,7 +18,7 @@ use Rattle.swc_ecma_parser_grammar.proofs.language.progress.Statements.{progress
 use Rattle.swc_ecma_parser_grammar.proofs.Tests.{and_both}
 use Rattle.swc_ecma_parser_grammar.specs.Supported.{supported}
 use Rattle.swc_ecma_parser_module_reader.specs.Supported.{supported_item, all_supported_items, supported_module, supported_program}
-use Rattle.swc_ecma_parser_spelled.specs.Spelled.{Whole, WholeGoal, Ordered, is_decorated, any_decorated, any_decorated_in, supported_entry, decorated_entry, ReadEntryIsSupported, ReadProgramIsSupported}
+use Rattle.swc_ecma_parser_spelled.specs.Supports.{Whole, WholeGoal, Ordered, is_decorated, any_decorated, any_decorated_in, supported_entry, decorated_entry, ReadEntryIsSupported, ReadProgramIsSupported}
 use Rattle.swc_ecma_parser_spelled.proofs.Wholes.{list_whole}
 use Rattle.swc_ecma_parser_spelled.proofs.Parts.{items_whole}
 use Rattle.swc_ecma_parser_spelled.proofs.Ordered.{advanced, onward, from_outset}

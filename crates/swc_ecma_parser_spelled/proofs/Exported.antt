@@ -1,6 +1,6 @@
 -- The decorators of what is exported stand before the words of the export or behind them, and a class or a function with such
 -- decorators is supported.
-use Rattle.std.proofs.Common.{◌≡◌, ℕ, ◌≤◌, Bool, true, false, not, List, [], ◌∷◌, ◌++◌, refl, sym, ◌∙◌, ap, subst, le_trans, le-ltb}
+use Rattle.std.proofs.Common.{◌≡◌, ℕ, ◌≤◌, Bool, true, false, not, List, [], ◌∷◌, refl, sym, ◌∙◌, ap, subst, le_trans, le-ltb}
 use Rattle.std.specs.Prelude.{◌&&◌, ◌||◌, nat_lt}
 use Rattle.swc_ecma_parser_common.specs.declared.span.Span.{Span}
 use Rattle.swc_ecma_parser_token.specs.declared.kind.TokenKind.TheVariants as kind
@@ -25,7 +25,7 @@ use Rattle.swc_ecma_parser_grammar.proofs.language.progress.Expressions as progr
 use Rattle.swc_ecma_parser_grammar.specs.Supported.{all_supported, has_none}
 use Rattle.swc_ecma_parser_module_reader.specs.Supported.{supported_beside, supported_decorated}
 use Rattle.swc_ecma_parser_module_reader.specs.Decorated.{none_before}
-use Rattle.swc_ecma_parser_spelled.specs.Spelled.{WholeGoal, Ordered}
+use Rattle.swc_ecma_parser_spelled.specs.Supports.{WholeGoal, Ordered}
 use Rattle.swc_ecma_parser_spelled.proofs.Wholes.{both, EachWhole, all_whole, list_whole, each_whole, parameters_whole}
 use Rattle.swc_ecma_parser_spelled.proofs.Parts.{WholeParts, WholeClass, decorator_whole, decorators_list}
 use Rattle.swc_ecma_parser_spelled.proofs.Ordered.{OrderedPast, advanced, onward, begins_later, behind_word}

@@ -1,5 +1,5 @@
 -- Expressions and patterns are supported.
-use Rattle.std.proofs.Common.{ℕ, suc, Bool, true, false, List, [], ◌∷◌, ◌++◌, refl, ap}
+use Rattle.std.proofs.Common.{ℕ, suc, Bool, true, false, List, [], ◌∷◌, refl, ap}
 use Rattle.swc_ecma_parser_common.specs.declared.span.Span.{Span}
 use Rattle.swc_ecma_parser_input.specs.Place.{Place, after}
 use Rattle.swc_ecma_parser_model.specs.declared.operators.BinaryOp.TheVariants as binary
@@ -27,7 +27,7 @@ use Rattle.swc_ecma_parser_grammar.specs.language.Decorators as decorators
 use Rattle.swc_ecma_parser_grammar.specs.language.Decorators.{ChainRule, GroupRule, DecoratedRule}
 use Rattle.swc_ecma_parser_grammar.proofs.Tests.{and_both}
 use Rattle.swc_ecma_parser_grammar.specs.Supported.{supported}
-use Rattle.swc_ecma_parser_spelled.specs.Spelled.{Whole, WholeGoal}
+use Rattle.swc_ecma_parser_spelled.specs.Supports.{Whole, WholeGoal}
 use Rattle.swc_ecma_parser_spelled.proofs.Wholes.{as_form, both, three, WholeKey, EachWhole, each_as, list_whole, parameters_whole, listed_whole, separated_whole, elements_whole}
 use Rattle.swc_ecma_parser_spelled.proofs.Parts.{name_supported, WholeParts, key_whole, access_whole, element_whole, arguments_whole, block_whole, pattern_item_whole, patterns_whole, function_parts, function_whole, class_whole}
 

@@ -23,7 +23,7 @@ use Rattle.swc_ecma_parser_grammar.specs.language.Laws.{Advances, begin, end}
 use Rattle.swc_ecma_parser_grammar.proofs.Tests.{and_both}
 use Rattle.swc_ecma_parser_grammar.specs.Supported.{supported, has_none}
 use Rattle.swc_ecma_parser_module_reader.specs.Supported.{supported_item}
-use Rattle.swc_ecma_parser_spelled.specs.Spelled.{Whole, WholeGoal, Ordered, is_decorated}
+use Rattle.swc_ecma_parser_spelled.specs.Supports.{Whole, WholeGoal, Ordered, is_decorated}
 use Rattle.swc_ecma_parser_spelled.proofs.Wholes.{list_whole}
 use Rattle.swc_ecma_parser_spelled.proofs.Parts.{name_supported, function_parts, class_parts}
 use Rattle.swc_ecma_parser_spelled.proofs.Statements.{variables_whole, stmt_whole}

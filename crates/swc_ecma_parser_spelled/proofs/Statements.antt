@@ -1,6 +1,5 @@
 -- Statements and declarations are supported.
-use Rattle.std.proofs.Common.{◌≡◌, Bool, true, false, List, [], ◌∷◌, ◌++◌, refl, ap}
-use Rattle.swc_ecma_parser_common.specs.declared.span.Span.{Span}
+use Rattle.std.proofs.Common.{◌≡◌, Bool, true, false, List, [], ◌∷◌, refl, ap}
 use Rattle.swc_ecma_parser_input.specs.Place.{Place, after}
 use Rattle.swc_ecma_parser_model.specs.declared.leaves.VarDeclKind.{VarDeclKind}
 use Rattle.swc_ecma_parser_model.specs.Tree as tree
@@ -20,7 +19,7 @@ use Rattle.swc_ecma_parser_grammar.specs.language.Statements as statements
 use Rattle.swc_ecma_parser_grammar.specs.language.Statements.{HeadRule, OperandRule, TargetRule, IfRule, ElseRule, CaseRule, CatchRule, FinallyRule, FormRule, StmtRule}
 use Rattle.swc_ecma_parser_grammar.proofs.Tests.{and_both}
 use Rattle.swc_ecma_parser_grammar.specs.Supported.{supported}
-use Rattle.swc_ecma_parser_spelled.specs.Spelled.{Whole, WholeGoal}
+use Rattle.swc_ecma_parser_spelled.specs.Supports.{Whole, WholeGoal}
 use Rattle.swc_ecma_parser_spelled.proofs.Wholes.{as_form, both, three, EachWhole, list_whole, each_whole, separated_whole}
 use Rattle.swc_ecma_parser_spelled.proofs.Parts.{name_supported, items_whole, block_whole, decorators_whole, function_whole, class_whole}
 

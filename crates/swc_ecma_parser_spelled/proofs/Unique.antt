@@ -13,7 +13,7 @@ use Rattle.swc_ecma_parser_module_reader.specs.Programs.{program_code}
 use Rattle.swc_ecma_parser_module_reader.specs.Supported.{OrderedFor}
 use Rattle.swc_ecma_parser_module_reader.proofs.Unique as modules
 use Rattle.swc_ecma_parser_module_reader.proofs.UniquePrograms as whole_programs
-use Rattle.swc_ecma_parser_spelled.specs.Spelled.{any_decorated_in}
+use Rattle.swc_ecma_parser_spelled.specs.Supports.{any_decorated_in}
 use Rattle.swc_ecma_parser_spelled.specs.Unique.{OneScript, OneModule, OneProgram}
 use Rattle.swc_ecma_parser_spelled.proofs.Completed.{never, led_in}
 use Rattle.swc_ecma_parser_spelled.proofs.Entries.{read_entry, read_program}

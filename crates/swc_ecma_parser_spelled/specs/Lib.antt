@@ -1,4 +1,4 @@
-pub mod Spelled
+pub mod Supports
 pub mod Completes
 pub mod Unique
 pub mod Decides

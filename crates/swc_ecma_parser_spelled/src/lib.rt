@@ -1,7 +1,7 @@
 //! What the language reads is supported: proofs alone.
 #![tactic(auto)]
 
-ghost use Rattle.swc_ecma_parser_spelled.specs.Spelled.{ReadIsSupported, ReadEntryIsSupported, ReadProgramIsSupported};
+ghost use Rattle.swc_ecma_parser_spelled.specs.Supports.{ReadIsSupported, ReadEntryIsSupported, ReadProgramIsSupported};
 ghost use Rattle.swc_ecma_parser_spelled.specs.Unique.{OneScript, OneModule, OneProgram};
 
 /// A law: whatever the grammar of the whole language reads is supported, and so is what any entry reads of tokens that are in order
