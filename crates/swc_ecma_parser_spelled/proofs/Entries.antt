@@ -56,7 +56,7 @@ module _ (In : Goal → Type 0) (small : (g : Goal) → In g → WholeGoal g) (g
   each_item k directives (x ∷ xs) awaits c d from o (m, others, r, rs, e) = (
     small (item_goal k x c m) r from (λ h. o (first_of_two (is_decorated x) (any_decorated (trees xs)) h)),
     each_item (behind_item (directed k directives x) x) (directs_on directives x) xs others m d 0 (λ h.
-    let p = advanced from c m (o (second_of_two (is_decorated x) (any_decorated (trees xs)) h)) (go (item_goal k x c m) r) in from_outset p.from m.left p.ordered) rs,
+        let p = advanced from c m (o (second_of_two (is_decorated x) (any_decorated (trees xs)) h)) (go (item_goal k x c m) r) in from_outset p.from m.left p.ordered) rs,
   )
 
   items_of : {is_certain : Bool} {k : Code} {x : Tree} {c d : Place} (from : ℕ) → (any_decorated_in x ≡ true → Ordered from c) → (r : ModuleRule In is_certain k x c d) → EachItem r.items

@@ -59,14 +59,14 @@ module _ (In : Goal → Type 0) (small : (g : Goal) → In g → WholeGoal g) (g
       → ExportedRule In k decorators x c d → (is_decorated (tree.export_decl s x) ≡ true → Ordered from start) → supported_item (tree.export_decl s x) ≡ true
   exported_whole {decorators = ds} {x = x} {c = c} {d = d} s from start front (exports.exported_class name y r h e) o =
       let i : tree.export_decl s x ≡ tree.export_decl s (tree.class_decl name (tree.class (spanned c d) ds (listed r.members) r.heritage)) =
-          ap (tree.export_decl s) (e ∙ ap (tree.class_decl name) r.is) in
+      ap (tree.export_decl s) (e ∙ ap (tree.class_decl name) r.is) in
       let f = front (λ p. o (ap is_decorated i ∙ ap not p)) in
       as_item (tree.export_decl s x) (tree.export_decl s (tree.class_decl name (tree.class (spanned c d) (listed f.items) (listed r.members) r.heritage)))
       (i ∙ ap (λ t. tree.export_decl s (tree.class_decl name (tree.class (spanned c d) t (listed r.members) r.heritage))) f.is)
       (and_both _ _ (name_supported r.reads_name) (class_decorated s (spanned c d) f.items r.members r.heritage f.each f.placed (class_parts In small r)))
   exported_whole {decorators = ds} {x = x} {c = c} {d = d} s from start front (exports.exported_function name y r h e) o =
       let i : tree.export_decl s x ≡ tree.export_decl s (tree.fn_decl name (tree.function (spanned c d) ds (parameters r.patterns) r.body r.is_async r.is_generator)) =
-          ap (tree.export_decl s) (e ∙ ap (tree.fn_decl name) r.is) in
+      ap (tree.export_decl s) (e ∙ ap (tree.fn_decl name) r.is) in
       let f = front (λ p. o (ap is_decorated i ∙ ap not p)) in
       as_item (tree.export_decl s x) (tree.export_decl s (tree.fn_decl name (tree.function (spanned c d) (listed f.items) (parameters r.patterns) r.body r.is_async r.is_generator)))
       (i ∙ ap (λ t. tree.export_decl s (tree.fn_decl name (tree.function (spanned c d) t (parameters r.patterns) r.body r.is_async r.is_generator))) f.is)
@@ -79,14 +79,14 @@ module _ (In : Goal → Type 0) (small : (g : Goal) → In g → WholeGoal g) (g
       → DefaultRule In k decorators x c d → (is_decorated (tree.export_default_decl s x) ≡ true → Ordered from start) → supported_item (tree.export_default_decl s x) ≡ true
   default_whole {decorators = ds} {x = x} {c = c} {d = d} s from start front (exports.default_class name y r e) o =
       let i : tree.export_default_decl s x ≡ tree.export_default_decl s (tree.class_expr (spanned c d) name (tree.class (spanned c d) ds (listed r.members) r.heritage)) =
-          ap (tree.export_default_decl s) (e ∙ ap (tree.class_expr (spanned c d) name) r.is) in
+      ap (tree.export_default_decl s) (e ∙ ap (tree.class_expr (spanned c d) name) r.is) in
       let f = front (λ p. o (ap is_decorated i ∙ ap not p)) in
       as_item (tree.export_default_decl s x) (tree.export_default_decl s (tree.class_expr (spanned c d) name (tree.class (spanned c d) (listed f.items) (listed r.members) r.heritage)))
       (i ∙ ap (λ t. tree.export_default_decl s (tree.class_expr (spanned c d) name (tree.class (spanned c d) t (listed r.members) r.heritage))) f.is)
       (and_both _ _ (name_supported r.reads_name) (class_decorated s (spanned c d) f.items r.members r.heritage f.each f.placed (class_parts In small r)))
   default_whole {decorators = ds} {x = x} {c = c} {d = d} s from start front (exports.default_function name y r e) o =
       let i : tree.export_default_decl s x ≡ tree.export_default_decl s (tree.fn_expr (spanned c d) name (tree.function (spanned c d) ds (parameters r.patterns) r.body r.is_async r.is_generator)) =
-          ap (tree.export_default_decl s) (e ∙ ap (tree.fn_expr (spanned c d) name) r.is) in
+      ap (tree.export_default_decl s) (e ∙ ap (tree.fn_expr (spanned c d) name) r.is) in
       let f = front (λ p. o (ap is_decorated i ∙ ap not p)) in
       as_item (tree.export_default_decl s x) (tree.export_default_decl s (tree.fn_expr (spanned c d) name (tree.function (spanned c d) (listed f.items) (parameters r.patterns) r.body r.is_async r.is_generator)))
       (i ∙ ap (λ t. tree.export_default_decl s (tree.fn_expr (spanned c d) name (tree.function (spanned c d) t (parameters r.patterns) r.body r.is_async r.is_generator))) f.is)
