@@ -94,8 +94,7 @@ impl<I: Tokens> Parser<I> {
         ensures limit { self.new.limit ≡ self.old.limit }
 
         // Of any answer: it takes the whole list, and its statements stand on its tokens; with no fault recorded the list
-        // spells it within the limit, and it is supported; and its tabled faults are its walk where no error token stands and
-        // nothing was dropped.
+        // spells it within the limit; and its tabled faults are its walk where no error token stands and nothing was dropped.
         ensures sound { IfOk result (λ x. SoundScript self.old.limit (unmarked self.old.state) (view_script x) self.new.state) }
 
         // Each tree within the limit that the language has for the list is the answer, and only it, with its walk recorded.
@@ -138,13 +137,12 @@ impl<I: Tokens> Parser<I> {
         ensures limit { self.new.limit ≡ self.old.limit }
 
         // Of any answer, from the state `u` on in which module code begins: it takes the whole list; with no fault recorded the
-        // list spells it within the limit, and it is supported; and its tabled faults are its walk where no error token stands
-        // and nothing was dropped.
+        // list spells it within the limit; and its tabled faults are its walk where no error token stands and nothing was dropped.
         ensures sound { (u : reader.State) × IsEntered (unmarked self.old.state) u
             × IfOk result (λ x. SoundModule self.old.limit u (view_module x) self.new.state) }
 
         // Each module within the limit that the language has for the list is the answer, and only it, with its walk recorded; where
-        // an export has decorators, of tokens in order.
+        // an export begins behind decorators, or has some on both sides of its word, of tokens in order.
         ensures complete { (u : reader.State) × IsEntered (unmarked self.old.state) u
             × CompletesModule view_module self.old.limit u result self.new.state }
 
@@ -189,12 +187,12 @@ impl<I: Tokens> Parser<I> {
         ensures limit { self.new.limit ≡ self.old.limit }
 
         // Of any answer: it takes the whole list; with no fault recorded but what had been held back before, the list spells it
-        // within the limit, and it is supported; and its tabled faults are its walk where no error token stands and nothing was
-        // dropped.
+        // within the limit; and its tabled faults are its walk where no error token stands and nothing was dropped.
         ensures sound { IfOk result (λ x. SoundProgram self.old.limit (unmarked self.old.state) (view_program x) self.new.state) }
 
         // Each program within the limit that the language has for the list is the answer, and only it, with its walk recorded, and
-        // with what had been held back before, if it is a module; where an export has decorators, of tokens in order.
+        // with what had been held back before, if it is a module; where an export begins behind decorators, or has some on both
+        // sides of its word, of tokens in order.
         ensures complete { CompletesProgram view_program self.old.limit (unmarked self.old.state) result self.new.state }
 
         // The same on tokens in order, unless memory ran out: a tree is the answer, read up to a place with nothing recorded but what
@@ -236,12 +234,13 @@ impl<I: Tokens> Parser<I> {
         ensures limit { self.new.limit ≡ self.old.limit }
 
         // Of any answer: with no fault recorded but what had been held back, and nothing held back by decorators before its word, the
-        // tokens that were taken spell it within the limit, it is supported, and its walk is empty; where no error token was read and
-        // nothing was dropped, its tabled faults are its walk.
+        // tokens that were taken spell it within the limit, and its walk is empty; where no error token was read and nothing was
+        // dropped, its tabled faults are its walk.
         ensures sound { IfOk result (λ x. SoundItemAlone self.old.limit (unmarked self.old.state) (view_module_item x) self.new.state) }
 
         // Each item within the limit that the language has for tokens from here on is the answer, and only it, with its walk
-        // recorded, and with what had been held back, if it is an import or an export; with decorators, of tokens in order.
+        // recorded, and with what had been held back, if it is an import or an export; of tokens in order, where an export begins
+        // behind decorators or has some on both sides of its word.
         ensures complete { CompletesItem view_module_item self.old.limit (unmarked self.old.state) result self.new.state }
 
         // The same on tokens in order, unless memory ran out: a tree is the answer, read up to a place with nothing recorded but what
@@ -279,8 +278,8 @@ impl<I: Tokens> Parser<I> {
     pub fn parse_stmt(&mut self, top_level: bool) -> PResult<Stmt>
         ensures limit { self.new.limit ≡ self.old.limit }
 
-        // Of any answer: it stands on the tokens that were taken; with no fault recorded they spell it within the limit, it is
-        // supported, and its walk is empty; where no error token was read and nothing was dropped, its tabled faults are its walk.
+        // Of any answer: it stands on the tokens that were taken; with no fault recorded they spell it within the limit, and its walk
+        // is empty; where no error token was read and nothing was dropped, its tabled faults are its walk.
         ensures sound { IfOk result (λ x. SoundStatement self.old.limit false top_level (unmarked self.old.state) (view_stmt x) self.new.state) }
 
         // Each tree within the limit that the language has for tokens from here on is the answer, and only it, with its walk recorded.
@@ -324,8 +323,8 @@ impl<I: Tokens> Parser<I> {
     pub fn parse_stmt_list_item(&mut self, top_level: bool) -> PResult<Stmt>
         ensures limit { self.new.limit ≡ self.old.limit }
 
-        // Of any answer: it stands on the tokens that were taken; with no fault recorded they spell it within the limit, it is
-        // supported, and its walk is empty; where no error token was read and nothing was dropped, its tabled faults are its walk.
+        // Of any answer: it stands on the tokens that were taken; with no fault recorded they spell it within the limit, and its walk
+        // is empty; where no error token was read and nothing was dropped, its tabled faults are its walk.
         ensures sound { IfOk result (λ x. SoundStatement self.old.limit true top_level (unmarked self.old.state) (view_stmt x) self.new.state) }
 
         // Each tree within the limit that the language has for tokens from here on is the answer, and only it, with its walk recorded.

@@ -58,7 +58,7 @@ use Rattle.swc_ecma_parser_reader.proofs.SoundParts.{meets_both, only_untabled, 
 token_stands : (text : Text) (v : Token) → token_is text v ≡ true → is_error (token_kind v) ≡ false
 token_stands text (token.Word (word.Ident t)) h = refl
 token_stands text (token.Word _) h = cc
-token_stands text _ h = cc
+token_stands text _ h = absurd (true≢false (sym h))
 
 -- a word of this text is no error token
 text_stands : (text : Text) (c : Place) → word_at text c ≡ true → is_error (kind_at c) ≡ false
@@ -114,11 +114,11 @@ pub record HeadSound (Expr : Class → Code → Tree → Place → Place → Typ
 -- a name has no faults and no notes
 plain_walk : (x : Tree) (k : Code) (l : List Text) → is_binding_name x ≡ true → walk (env_of k l) x ≡ []
 plain_walk (tree.ident_pat s text) k l h = refl
-plain_walk _ k l h = cc
+plain_walk _ k l h = absurd (true≢false (sym h))
 
 plain_notes : (x : Tree) → is_binding_name x ≡ true → notes_of x ≡ no_notes
 plain_notes (tree.ident_pat s text) h = refl
-plain_notes _ h = cc
+plain_notes _ h = absurd (true≢false (sym h))
 
 using_walk : (w : Bool) (x : Tree) (s t : Span) (k : Code) (l : List Text) → is_binding_name x ≡ true → walk (env_of k l) x ≡ walk (env_of k l) (tree.using s w (listed (tree.declarator t x tree.absent ∷ [])))
 using_walk w x s t k l h = let e = plain_walk x k l h in e ∙ sym (ap (λ fs. (fs ++ []) ++ []) e)

@@ -18,7 +18,7 @@ use Rattle.swc_ecma_parser_grammar.proofs.language.progress.Statements.{progress
 use Rattle.swc_ecma_parser_grammar.proofs.Tests.{and_both}
 use Rattle.swc_ecma_parser_grammar.specs.Supported.{supported}
 use Rattle.swc_ecma_parser_module_reader.specs.Supported.{supported_item, all_supported_items, supported_module, supported_program}
-use Rattle.swc_ecma_parser_spelled.specs.Supports.{Whole, WholeGoal, Ordered, is_decorated, any_decorated, any_decorated_in, supported_entry, decorated_entry, ReadEntryIsSupported, ReadProgramIsSupported}
+use Rattle.swc_ecma_parser_spelled.specs.Supports.{Whole, WholeGoal, Ordered, needs_order, any_needs_order, needs_order_in, supported_entry, ordered_entry, ReadEntryIsSupported, ReadProgramIsSupported}
 use Rattle.swc_ecma_parser_spelled.proofs.Wholes.{list_whole}
 use Rattle.swc_ecma_parser_spelled.proofs.Parts.{items_whole}
 use Rattle.swc_ecma_parser_spelled.proofs.Ordered.{advanced, onward, from_outset}
@@ -41,7 +41,7 @@ whole_program : (is_module : Bool) (s : Span) (xs : List Tree) (shebang : Option
 whole_program true s xs shebang h = all_items xs h
 whole_program false s xs shebang h = all_items xs h
 
-decorated_whole : (is_module : Bool) (s : Span) (xs : List Tree) (shebang : Option Text) → any_decorated_in (whole is_module s (listed xs) shebang) ≡ any_decorated (trees xs)
+decorated_whole : (is_module : Bool) (s : Span) (xs : List Tree) (shebang : Option Text) → needs_order_in (whole is_module s (listed xs) shebang) ≡ any_needs_order (trees xs)
 decorated_whole true s xs shebang = refl
 decorated_whole false s xs shebang = refl
 
@@ -50,33 +50,33 @@ past_shebang (programs.some_shebang text s r) = goes (one r)
 past_shebang (programs.no_shebang h e) = stays e
 
 module _ (In : Goal → Type 0) (small : (g : Goal) → In g → WholeGoal g) (go : (g : Goal) → In g → Advances (begin g) (end g)) where
-  each_item : (k : Code) (directives : Bool) (xs : List Tree) (awaits : Bool) (c d : Place) (from : ℕ) → (any_decorated (trees xs) ≡ true → Ordered from c)
+  each_item : (k : Code) (directives : Bool) (xs : List Tree) (awaits : Bool) (c d : Place) (from : ℕ) → (any_needs_order (trees xs) ≡ true → Ordered from c)
       → ModuleItemsRule In k directives xs awaits c d → EachItem xs
   each_item k directives [] awaits c d from o r = tt
   each_item k directives (x ∷ xs) awaits c d from o (m, others, r, rs, e) = (
-    small (item_goal k x c m) r from (λ h. o (first_of_two (is_decorated x) (any_decorated (trees xs)) h)),
+    small (item_goal k x c m) r from (λ h. o (first_of_two (needs_order x) (any_needs_order (trees xs)) h)),
     each_item (behind_item (directed k directives x) x) (directs_on directives x) xs others m d 0 (λ h.
-        let p = advanced from c m (o (second_of_two (is_decorated x) (any_decorated (trees xs)) h)) (go (item_goal k x c m) r) in from_outset p.from m.left p.ordered) rs,
+        let p = advanced from c m (o (second_of_two (needs_order x) (any_needs_order (trees xs)) h)) (go (item_goal k x c m) r) in from_outset p.from m.left p.ordered) rs,
   )
 
-  items_of : {is_certain : Bool} {k : Code} {x : Tree} {c d : Place} (from : ℕ) → (any_decorated_in x ≡ true → Ordered from c) → (r : ModuleRule In is_certain k x c d) → EachItem r.items
+  items_of : {is_certain : Bool} {k : Code} {x : Tree} {c d : Place} (from : ℕ) → (needs_order_in x ≡ true → Ordered from c) → (r : ModuleRule In is_certain k x c d) → EachItem r.items
   items_of {is_certain = is_certain} {k = k} {c = c} {d = d} from o r =
       each_item k true r.items r.awaits r.first d 0 (λ h.
-      let p = onward from c r.first (o (ap any_decorated_in r.is ∙ decorated_whole (is_certain || is_module_body r.items r.awaits) (spanned c d) r.items r.shebang ∙ h)) (past_shebang r.reads_shebang) in
+      let p = onward from c r.first (o (ap needs_order_in r.is ∙ decorated_whole (is_certain || is_module_body r.items r.awaits) (spanned c d) r.items r.shebang ∙ h)) (past_shebang r.reads_shebang) in
       from_outset p.from r.first.left p.ordered) r.reads_items
 
-  program_whole : {is_certain : Bool} {k : Code} {x : Tree} {c d : Place} (from : ℕ) → (any_decorated_in x ≡ true → Ordered from c) → ModuleRule In is_certain k x c d
+  program_whole : {is_certain : Bool} {k : Code} {x : Tree} {c d : Place} (from : ℕ) → (needs_order_in x ≡ true → Ordered from c) → ModuleRule In is_certain k x c d
       → supported_program x ≡ true
   program_whole {is_certain = is_certain} {c = c} {d = d} from o r =
       ap supported_program r.is ∙ whole_program (is_certain || is_module_body r.items r.awaits) (spanned c d) r.items r.shebang (items_of from o r)
 
-  module_whole : {k : Code} {x : Tree} {c d : Place} (from : ℕ) → (any_decorated_in x ≡ true → Ordered from c) → ModuleRule In true k x c d → supported_module x ≡ true
+  module_whole : {k : Code} {x : Tree} {c d : Place} (from : ℕ) → (needs_order_in x ≡ true → Ordered from c) → ModuleRule In true k x c d → supported_module x ≡ true
   module_whole from o r = ap supported_module r.is ∙ all_items r.items (items_of from o r)
 
   script_whole : {k : Code} {x : Tree} {c d : Place} → ScriptRule In k x c d → Whole x
   script_whole {k = k} {d = d} r = ap supported r.is ∙ list_whole r.items (items_whole In small k true top_item r.items r.first d r.reads_items)
 
-  entry_whole : (entry : Entry) (k : Code) (x : Tree) (c d : Place) (from : ℕ) → (decorated_entry entry x ≡ true → Ordered from c) → EntryRule In entry k x c d
+  entry_whole : (entry : Entry) (k : Code) (x : Tree) (c d : Place) (from : ℕ) → (ordered_entry entry x ≡ true → Ordered from c) → EntryRule In entry k x c d
       → supported_entry entry x ≡ true
   entry_whole programs.script k x c d from o r = script_whole r
   entry_whole programs.«module» k x c d from o r = module_whole from o r

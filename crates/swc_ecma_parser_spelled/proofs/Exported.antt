@@ -22,10 +22,10 @@ use Rattle.swc_ecma_parser_grammar.specs.language.Laws.{Advances, begin, end}
 use Rattle.swc_ecma_parser_grammar.proofs.Tests.{and_both}
 use Rattle.swc_ecma_parser_grammar.proofs.language.progress.Steps.{any_token_to}
 use Rattle.swc_ecma_parser_grammar.proofs.language.progress.Expressions as progress
-use Rattle.swc_ecma_parser_grammar.specs.Supported.{all_supported, has_none}
-use Rattle.swc_ecma_parser_module_reader.specs.Supported.{supported_beside, supported_decorated}
+use Rattle.swc_ecma_parser_grammar.specs.Supported.{all_supported}
+use Rattle.swc_ecma_parser_module_reader.specs.Supported.{on_one_side, supported_beside, supported_decorated}
 use Rattle.swc_ecma_parser_module_reader.specs.Decorated.{none_before}
-use Rattle.swc_ecma_parser_spelled.specs.Supports.{WholeGoal, Ordered}
+use Rattle.swc_ecma_parser_spelled.specs.Supports.{WholeGoal, Ordered, is_astride}
 use Rattle.swc_ecma_parser_spelled.proofs.Wholes.{both, EachWhole, all_whole, list_whole, each_whole, parameters_whole}
 use Rattle.swc_ecma_parser_spelled.proofs.Parts.{WholeParts, WholeClass, decorator_whole, decorators_list}
 use Rattle.swc_ecma_parser_spelled.proofs.Ordered.{OrderedPast, advanced, onward, begins_later, behind_word}
@@ -36,6 +36,13 @@ use Rattle.swc_ecma_parser_spelled.proofs.Ordered.{OrderedPast, advanced, onward
 pub data Placed (s : Span) (ds : List Tree) : Type 0 where
   placed_before : all_before s (trees ds) ≡ true → Placed s ds
   placed_behind : none_before s.lo (trees ds) ≡ true → Placed s ds
+
+either_side : (s : Span) (ds : List Tree) → on_one_side s (trees ds) ≡ true → Placed s ds
+either_side s ds e = by_case (none_before s.lo (trees ds)) refl
+  where
+    by_case : (b : Bool) → none_before s.lo (trees ds) ≡ b → Placed s ds
+    by_case true h = placed_behind h
+    by_case false h = placed_before (ap (λ b. b || all_before s (trees ds)) (sym h) ∙ e)
 
 before_as : (s t : Span) (xs : Trees) → s.lo.0 ≡ t.lo.0 → all_before s xs ≡ all_before t xs
 before_as s t none e = refl
@@ -80,20 +87,23 @@ pub record WholeFront (s : Span) (x : Tree) : Type 0 where
   pub is : x ≡ listed items
 
 module _ (In : Goal → Type 0) (small : (g : Goal) → In g → WholeGoal g) (go : (g : Goal) → In g → Advances (begin g) (end g)) where
-  -- some are in order where they stand
-  front_behind : {k : Code} {x : Tree} {c d : Place} (s : Span) → (has_none x ≡ false → OrderedPast s.lo.0 c.left) → DecoratorsRule In k x c d → WholeFront s x
+  -- on one side, or in order where they stand
+  placed_by : (k : Code) (s : Span) (xs : List Tree) (c d : Place) → ReadsEach (DecoratorRule In k) xs c d → (b : Bool) → on_one_side s (trees xs) ≡ b
+      → (not b ≡ true → OrderedPast s.lo.0 c.left) → Placed s xs
+  placed_by k s xs c d rs true e o = either_side s xs e
+  placed_by k s xs c d rs false e o = let p = o refl in placed_behind (each_later In go k xs c d s p.from p.later p.ordered rs)
+
+  front_behind : {k : Code} {x : Tree} {c d : Place} (s : Span) → (is_astride s x ≡ true → OrderedPast s.lo.0 c.left) → DecoratorsRule In k x c d → WholeFront s x
   front_behind s o (classes.no_decorators h e) = record { items = []; each = tt; placed = placed_behind refl; is = e }
-  front_behind {k = k} {c = c} {d = d} s o (classes.some_decorators y ys h rs e) =
-      let p = o (ap has_none e) in
-      record {
-        items = y ∷ ys;
-        each = each_whole (DecoratorRule In k) (decorator_whole In small k) (y ∷ ys) c d rs;
-        placed = placed_behind (each_later In go k (y ∷ ys) c d s p.from p.later p.ordered rs);
-        is = e;
-      }
+  front_behind {k = k} {c = c} {d = d} s o (classes.some_decorators y ys h rs e) = record {
+    items = y ∷ ys;
+    each = each_whole (DecoratorRule In k) (decorator_whole In small k) (y ∷ ys) c d rs;
+    placed = placed_by k s (y ∷ ys) c d rs (on_one_side s (trees (y ∷ ys))) refl (λ p. o (ap (is_astride s) e ∙ p));
+    is = e;
+  }
 
   -- of an export whose span begins at its words and ends somewhere
-  pub front_whole : {k : Code} {is_default : Bool} {x : Tree} {c m n : Place} (d : Place) (from : ℕ) → (has_none x ≡ false → Ordered from c) → ExportFrontRule In k is_default x c m n
+  pub front_whole : {k : Code} {is_default : Bool} {x : Tree} {c m n : Place} (d : Place) (from : ℕ) → (is_astride (spanned m d) x ≡ true → Ordered from c) → ExportFrontRule In k is_default x c m n
       → WholeFront (spanned m d) x
   front_whole {m = m} d from o (exports.decorated_before a r b q) =
       let l = decorators_list In small r in

@@ -1,5 +1,5 @@
 -- Imports, exports and items are supported, if the tokens are in order where an export has decorators.
-use Rattle.std.proofs.Common.{◌≡◌, ℕ, true, false, true≢false, not, refl, sym, ◌∙◌, ap}
+use Rattle.std.proofs.Common.{◌≡◌, ℕ, true, false, true≢false, refl, sym, ◌∙◌, ap}
 use Rattle.swc_ecma_parser_common.specs.declared.span.Span.{Span}
 use Rattle.swc_ecma_parser_input.specs.Place.{Place, after}
 use Rattle.swc_ecma_parser_model.specs.Tree as tree
@@ -21,13 +21,13 @@ use Rattle.swc_ecma_parser_grammar.specs.language.ModuleItems as items
 use Rattle.swc_ecma_parser_grammar.specs.language.ModuleItems.{ItemRule}
 use Rattle.swc_ecma_parser_grammar.specs.language.Laws.{Advances, begin, end}
 use Rattle.swc_ecma_parser_grammar.proofs.Tests.{and_both}
-use Rattle.swc_ecma_parser_grammar.specs.Supported.{supported, has_none}
+use Rattle.swc_ecma_parser_grammar.specs.Supported.{supported}
 use Rattle.swc_ecma_parser_module_reader.specs.Supported.{supported_item}
-use Rattle.swc_ecma_parser_spelled.specs.Supports.{Whole, WholeGoal, Ordered, is_decorated}
+use Rattle.swc_ecma_parser_spelled.specs.Supports.{Whole, WholeGoal, Ordered, is_astride, needs_order}
 use Rattle.swc_ecma_parser_spelled.proofs.Wholes.{list_whole}
 use Rattle.swc_ecma_parser_spelled.proofs.Parts.{name_supported, function_parts, class_parts}
 use Rattle.swc_ecma_parser_spelled.proofs.Statements.{variables_whole, stmt_whole}
-use Rattle.swc_ecma_parser_spelled.proofs.Exported.{WholeFront, front_whole, class_decorated, function_decorated}
+use Rattle.swc_ecma_parser_spelled.proofs.Exported.{second_of_two, WholeFront, front_whole, class_decorated, function_decorated}
 
 -- the form that an item is
 as_item : (x y : Tree) → x ≡ y → supported_item y ≡ true → supported_item x ≡ true
@@ -55,19 +55,19 @@ module _ (In : Goal → Type 0) (small : (g : Goal) → In g → WholeGoal g) (g
   -- ---- exports
 
   -- what is exported, and where its decorators stand, which is known of tokens in order if it has any
-  exported_whole : {k : Code} {decorators x : Tree} {c d : Place} (s : Span) (from : ℕ) (start : Place) → ((has_none decorators ≡ false → Ordered from start) → WholeFront s decorators)
-      → ExportedRule In k decorators x c d → (is_decorated (tree.export_decl s x) ≡ true → Ordered from start) → supported_item (tree.export_decl s x) ≡ true
+  exported_whole : {k : Code} {decorators x : Tree} {c d : Place} (s : Span) (from : ℕ) (start : Place) → ((is_astride s decorators ≡ true → Ordered from start) → WholeFront s decorators)
+      → ExportedRule In k decorators x c d → (needs_order (tree.export_decl s x) ≡ true → Ordered from start) → supported_item (tree.export_decl s x) ≡ true
   exported_whole {decorators = ds} {x = x} {c = c} {d = d} s from start front (exports.exported_class name y r h e) o =
       let i : tree.export_decl s x ≡ tree.export_decl s (tree.class_decl name (tree.class (spanned c d) ds (listed r.members) r.heritage)) =
       ap (tree.export_decl s) (e ∙ ap (tree.class_decl name) r.is) in
-      let f = front (λ p. o (ap is_decorated i ∙ ap not p)) in
+      let f = front (λ p. o (ap needs_order i ∙ second_of_two _ _ p)) in
       as_item (tree.export_decl s x) (tree.export_decl s (tree.class_decl name (tree.class (spanned c d) (listed f.items) (listed r.members) r.heritage)))
       (i ∙ ap (λ t. tree.export_decl s (tree.class_decl name (tree.class (spanned c d) t (listed r.members) r.heritage))) f.is)
       (and_both _ _ (name_supported r.reads_name) (class_decorated s (spanned c d) f.items r.members r.heritage f.each f.placed (class_parts In small r)))
   exported_whole {decorators = ds} {x = x} {c = c} {d = d} s from start front (exports.exported_function name y r h e) o =
       let i : tree.export_decl s x ≡ tree.export_decl s (tree.fn_decl name (tree.function (spanned c d) ds (parameters r.patterns) r.body r.is_async r.is_generator)) =
       ap (tree.export_decl s) (e ∙ ap (tree.fn_decl name) r.is) in
-      let f = front (λ p. o (ap is_decorated i ∙ ap not p)) in
+      let f = front (λ p. o (ap needs_order i ∙ second_of_two _ _ p)) in
       as_item (tree.export_decl s x) (tree.export_decl s (tree.fn_decl name (tree.function (spanned c d) (listed f.items) (parameters r.patterns) r.body r.is_async r.is_generator)))
       (i ∙ ap (λ t. tree.export_decl s (tree.fn_decl name (tree.function (spanned c d) t (parameters r.patterns) r.body r.is_async r.is_generator))) f.is)
       (and_both _ _ (name_supported r.reads_name) (function_decorated s (spanned c d) f.items r.patterns r.body r.is_async r.is_generator f.each f.placed (function_parts In small r.reads_parts)))
@@ -75,32 +75,32 @@ module _ (In : Goal → Type 0) (small : (g : Goal) → In g → WholeGoal g) (g
       as_item (tree.export_decl s x) (tree.export_decl s (tree.var (spanned c d) word (listed xs))) (ap (tree.export_decl s) e)
       (list_whole xs (variables_whole In small (with_in k) false word xs c m r))
 
-  default_whole : {k : Code} {decorators x : Tree} {c d : Place} (s : Span) (from : ℕ) (start : Place) → ((has_none decorators ≡ false → Ordered from start) → WholeFront s decorators)
-      → DefaultRule In k decorators x c d → (is_decorated (tree.export_default_decl s x) ≡ true → Ordered from start) → supported_item (tree.export_default_decl s x) ≡ true
+  default_whole : {k : Code} {decorators x : Tree} {c d : Place} (s : Span) (from : ℕ) (start : Place) → ((is_astride s decorators ≡ true → Ordered from start) → WholeFront s decorators)
+      → DefaultRule In k decorators x c d → (needs_order (tree.export_default_decl s x) ≡ true → Ordered from start) → supported_item (tree.export_default_decl s x) ≡ true
   default_whole {decorators = ds} {x = x} {c = c} {d = d} s from start front (exports.default_class name y r e) o =
       let i : tree.export_default_decl s x ≡ tree.export_default_decl s (tree.class_expr (spanned c d) name (tree.class (spanned c d) ds (listed r.members) r.heritage)) =
       ap (tree.export_default_decl s) (e ∙ ap (tree.class_expr (spanned c d) name) r.is) in
-      let f = front (λ p. o (ap is_decorated i ∙ ap not p)) in
+      let f = front (λ p. o (ap needs_order i ∙ second_of_two _ _ p)) in
       as_item (tree.export_default_decl s x) (tree.export_default_decl s (tree.class_expr (spanned c d) name (tree.class (spanned c d) (listed f.items) (listed r.members) r.heritage)))
       (i ∙ ap (λ t. tree.export_default_decl s (tree.class_expr (spanned c d) name (tree.class (spanned c d) t (listed r.members) r.heritage))) f.is)
       (and_both _ _ (name_supported r.reads_name) (class_decorated s (spanned c d) f.items r.members r.heritage f.each f.placed (class_parts In small r)))
   default_whole {decorators = ds} {x = x} {c = c} {d = d} s from start front (exports.default_function name y r e) o =
       let i : tree.export_default_decl s x ≡ tree.export_default_decl s (tree.fn_expr (spanned c d) name (tree.function (spanned c d) ds (parameters r.patterns) r.body r.is_async r.is_generator)) =
       ap (tree.export_default_decl s) (e ∙ ap (tree.fn_expr (spanned c d) name) r.is) in
-      let f = front (λ p. o (ap is_decorated i ∙ ap not p)) in
+      let f = front (λ p. o (ap needs_order i ∙ second_of_two _ _ p)) in
       as_item (tree.export_default_decl s x) (tree.export_default_decl s (tree.fn_expr (spanned c d) name (tree.function (spanned c d) (listed f.items) (parameters r.patterns) r.body r.is_async r.is_generator)))
       (i ∙ ap (λ t. tree.export_default_decl s (tree.fn_expr (spanned c d) name (tree.function (spanned c d) t (parameters r.patterns) r.body r.is_async r.is_generator))) f.is)
       (and_both _ _ (name_supported r.reads_name) (function_decorated s (spanned c d) f.items r.patterns r.body r.is_async r.is_generator f.each f.placed (function_parts In small r.reads_parts)))
 
-  export_whole : {k : Code} {x : Tree} {c d : Place} (from : ℕ) → (is_decorated x ≡ true → Ordered from c) → ExportRule In k x c d → supported_item x ≡ true
+  export_whole : {k : Code} {x : Tree} {c d : Place} (from : ℕ) → (needs_order x ≡ true → Ordered from c) → ExportRule In k x c d → supported_item x ≡ true
   export_whole {x = x} {c = c} {d = d} from o (exports.export_declaration_rule decorators y m n r s e) =
-      as_item x (tree.export_decl (spanned m d) y) e (exported_whole (spanned m d) from c (λ p. front_whole In small go d from p r) s (λ h. o (ap is_decorated e ∙ h)))
+      as_item x (tree.export_decl (spanned m d) y) e (exported_whole (spanned m d) from c (λ p. front_whole In small go d from p r) s (λ h. o (ap needs_order e ∙ h)))
   export_whole {x = x} {c = c} {d = d} from o (exports.export_from_rule in_braces xs src attributes l m n h r s t i e) =
       as_item x (tree.export_named (spanned c d) (listed xs) src attributes) e (attributes_whole t)
   export_whole {x = x} {c = c} {d = d} from o (exports.export_names_rule xs m h r i j e) =
       as_item x (tree.export_named (spanned c d) (listed xs) tree.absent tree.absent) e refl
   export_whole {x = x} {c = c} {d = d} from o (exports.export_default_declaration_rule decorators y m n r s e) =
-      as_item x (tree.export_default_decl (spanned m d) y) e (default_whole (spanned m d) from c (λ p. front_whole In small go d from p r) s (λ h. o (ap is_decorated e ∙ h)))
+      as_item x (tree.export_default_decl (spanned m d) y) e (default_whole (spanned m d) from c (λ p. front_whole In small go d from p r) s (λ h. o (ap needs_order e ∙ h)))
   export_whole {k = k} {x = x} {c = c} {d = d} from o (exports.export_default_expression_rule a m h i j r g e) =
       as_item x (tree.export_default_expr (spanned c d) a) e (small (expr_goal assignment (with_in (in_module k)) a (after (after c)) m) r)
   export_whole {x = x} {c = c} {d = d} from o (exports.export_all_rule src attributes m n h i r s g e) =
@@ -108,7 +108,7 @@ module _ (In : Goal → Type 0) (small : (g : Goal) → In g → WholeGoal g) (g
 
   -- ---- items
 
-  pub item_whole : {k : Code} {x : Tree} {c d : Place} → ItemRule In k x c d → (from : ℕ) → (is_decorated x ≡ true → Ordered from c) → supported_item x ≡ true
+  pub item_whole : {k : Code} {x : Tree} {c d : Place} → ItemRule In k x c d → (from : ℕ) → (needs_order x ≡ true → Ordered from c) → supported_item x ≡ true
   item_whole {k = k} {x = x} {c = c} {d = d} (items.statement_rule r) from o = statement_item x (stmt_whole In small k top_item x c d r)
   item_whole (items.import_item_rule r) from o = import_whole r
   item_whole (items.export_item_rule r) from o = export_whole from o r

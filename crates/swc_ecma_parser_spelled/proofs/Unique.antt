@@ -13,7 +13,7 @@ use Rattle.swc_ecma_parser_module_reader.specs.Programs.{program_code}
 use Rattle.swc_ecma_parser_module_reader.specs.Supported.{OrderedFor}
 use Rattle.swc_ecma_parser_module_reader.proofs.Unique as modules
 use Rattle.swc_ecma_parser_module_reader.proofs.UniquePrograms as whole_programs
-use Rattle.swc_ecma_parser_spelled.specs.Supports.{any_decorated_in}
+use Rattle.swc_ecma_parser_spelled.specs.Supports.{needs_order_in}
 use Rattle.swc_ecma_parser_spelled.specs.Unique.{OneScript, OneModule, OneProgram}
 use Rattle.swc_ecma_parser_spelled.proofs.Completed.{never, led_in}
 use Rattle.swc_ecma_parser_spelled.proofs.Entries.{read_entry, read_program}
@@ -21,10 +21,10 @@ use Rattle.swc_ecma_parser_spelled.proofs.Entries.{read_entry, read_program}
 script_of : (limit : ℕ) (k : Code) (x : Tree) (c d : Place) → ReadsEntry limit programs.script k x c d → ReadsSupported limit k x c d
 script_of limit k x c d r = (r, read_entry limit programs.script k x c d 0 never r.0)
 
-module_of : (limit : ℕ) (k : Code) (x : Tree) (c d : Place) → ReadsEntry limit programs.«module» k x c d → OrderedFor (any_decorated_in x) c → ReadsSupportedModule limit k x c d
+module_of : (limit : ℕ) (k : Code) (x : Tree) (c d : Place) → ReadsEntry limit programs.«module» k x c d → OrderedFor (needs_order_in x) c → ReadsSupportedModule limit k x c d
 module_of limit k x c d r o = (r, read_entry limit programs.«module» k x c d 0 o r.0, λ e. o (led_in x e))
 
-program_of : (limit : ℕ) (is_certain : Bool) (k : Code) (x : Tree) (c d : Place) → ReadsProgram limit is_certain k x c d → OrderedFor (any_decorated_in x) c
+program_of : (limit : ℕ) (is_certain : Bool) (k : Code) (x : Tree) (c d : Place) → ReadsProgram limit is_certain k x c d → OrderedFor (needs_order_in x) c
     → ReadsSupportedProgram limit is_certain k x c d
 program_of limit is_certain k x c d r o = (r, read_program limit is_certain (program_code k) x c d 0 o r.0, λ e. o (led_in x e))
 
