@@ -78,84 +78,102 @@ fn nested(
     Ok(all)
 }
 
-/// What stands before a class in a class, and behind it; how many stand in one another within the default limit; how long the
-/// script of these is; and where the class stands that is one too many.
-const CLASSES: [(&str, &str, usize, &str, &str); 10] = [
-    ("class A extends ", "{}", 999, "0..17983", "16000..16005"),
-    ("class A extends f(", "){}", 499, "0..10480", "9000..9005"),
-    ("class A extends [", "]{}", 499, "0..9981", "8500..8505"),
-    ("class A extends {a:", "}{}", 499, "0..10979", "9500..9505"),
-    ("class A extends f[", "]{}", 499, "0..10480", "9000..9005"),
+/// What a script is whose one item nests in itself: what stands before the next one and behind it, how many stand in one another
+/// within the default limit, how long the script of these is, and where the first token stands of what is too deep.
+const NESTS: [(&str, &str, &str, usize, &str, &str); 14] = [
     (
+        "Class",
+        "class A extends ",
+        "{}",
+        999,
+        "0..17983",
+        "16000..16005",
+    ),
+    (
+        "Class",
+        "class A extends f(",
+        "){}",
+        499,
+        "0..10480",
+        "9000..9005",
+    ),
+    (
+        "Class",
+        "class A extends [",
+        "]{}",
+        499,
+        "0..9981",
+        "8500..8505",
+    ),
+    (
+        "Class",
+        "class A extends {a:",
+        "}{}",
+        499,
+        "0..10979",
+        "9500..9505",
+    ),
+    (
+        "Class",
+        "class A extends f[",
+        "]{}",
+        499,
+        "0..10480",
+        "9000..9005",
+    ),
+    (
+        "Class",
         "class A extends f(...",
         "){}",
         499,
         "0..11977",
         "10500..10505",
     ),
-    ("class A{a=", "}", 499, "0..5490", "5000..5005"),
-    ("class A{[", "]}", 499, "0..5490", "4500..4505"),
-    ("class A{a(){", "}}", 499, "0..6987", "6000..6005"),
-    ("class A{static{", "}}", 499, "0..8484", "7500..7505"),
+    ("Class", "class A{a=", "}", 499, "0..5490", "5000..5005"),
+    ("Class", "class A{[", "]}", 499, "0..5490", "4500..4505"),
+    ("Class", "class A{a(){", "}}", 499, "0..6987", "6000..6005"),
+    (
+        "Class",
+        "class A{static{",
+        "}}",
+        499,
+        "0..8484",
+        "7500..7505",
+    ),
+    ("Expr", "f(", ")", 998, "0..2995", "1998..1999"),
+    ("Expr", "f(...", ")", 998, "0..5989", "4995..4996"),
+    ("Expr", "new a(", ")", 998, "0..6987", "5992..5993"),
+    ("Expr", "import(", ")", 998, "0..7985", "6993..6999"),
 ];
 
-/// What stands before an argument of a call, plain or spread, of `new` or of `import(..)`, and behind it; how many of these stand in
-/// one another within the default limit; how long the script of them is; and where the argument of one more stands, or what it makes.
-const CALLS: [(&str, &str, usize, &str, &str); 4] = [
-    ("f(", ")", 998, "0..2995", "1998..1999"),
-    ("f(...", ")", 998, "0..5989", "4995..4996"),
-    ("new a(", ")", 998, "0..6987", "5992..5993"),
-    ("import(", ")", 998, "0..7985", "6993..6994"),
-];
-
-/// The lines of a script that is one item.
-fn item_lines(alloc: Global, item: &str, span: &str) -> Result<String, Fail> {
-    let mut lines = String::new(alloc);
-    lines.push_str("Script ")?;
-    lines.push_str(span)?;
-    lines.push_str("\n  ")?;
-    lines.push_str(item)?;
-    lines.push_str(" ")?;
-    lines.push_str(span)?;
-    lines.push_str("\n")?;
-    Ok(lines)
+/// Whether a text so many times around another parses to one item that is as long as the script.
+fn is_read(
+    alloc: Global,
+    item: &str,
+    (open, close): (&str, &str),
+    times: usize,
+    span: &str,
+) -> Result<bool, Fail> {
+    let text = nested(alloc, open, "a", close, times)?;
+    let found = parsed(alloc, text.as_str())?;
+    let wanted = format!(in alloc; "Script {span}\n  {item} {span}\n")?;
+    Ok(found.as_str() == wanted.as_str())
 }
 
-/// The line of what stands too deep.
-fn too_deep_line(alloc: Global, span: &str) -> Result<String, Fail> {
-    let mut lines = String::new(alloc);
-    lines.push_str("refused ")?;
-    lines.push_str(span)?;
-    lines.push_str(" TooDeep\n")?;
-    Ok(lines)
+/// Whether a text that goes on beyond the default limit is refused there.
+fn is_too_deep(alloc: Global, open: &str, span: &str) -> Result<bool, Fail> {
+    let text = nested(alloc, open, "", "", 1_001)?;
+    let found = outcome(alloc, text.as_str(), plainly(Goal::Script))?;
+    let wanted = format!(in alloc; "refused {span} TooDeep\n")?;
+    Ok(found.lines.as_str() == wanted.as_str())
 }
 
 #[test]
-fn classes_in_one_another(rt: HostRuntime) -> Result<(), Fail> {
-    for (open, close, times, whole, deepest) in CLASSES {
-        let text = nested(rt.alloc(), open, "a", close, times)?;
-        let found = parsed(rt.alloc(), text.as_str())?;
-        let wanted = item_lines(rt.alloc(), "Class", whole)?;
-        assert_eq!(rt; found.as_str(), wanted.as_str());
-        let text = nested(rt.alloc(), open, "", "", 1_001)?;
-        let found = outcome(rt.alloc(), text.as_str(), plainly(Goal::Script))?;
-        let wanted = too_deep_line(rt.alloc(), deepest)?;
-        assert_eq!(rt; found.lines.as_str(), wanted.as_str());
-    }
-    Ok(())
-}
-
-#[test]
-fn calls_in_one_another(rt: HostRuntime) -> Result<(), Fail> {
-    for (open, close, times, whole, deepest) in CALLS {
-        let text = nested(rt.alloc(), open, "a", close, times)?;
-        let found = parsed(rt.alloc(), text.as_str())?;
-        let wanted = item_lines(rt.alloc(), "Expr", whole)?;
-        assert_eq!(rt; found.as_str(), wanted.as_str());
-        let text = nested(rt.alloc(), open, "a", close, 999)?;
-        let found = outcome(rt.alloc(), text.as_str(), plainly(Goal::Script))?;
-        let wanted = too_deep_line(rt.alloc(), deepest)?;
-        assert_eq!(rt; found.lines.as_str(), wanted.as_str());
+fn items_in_one_another(rt: HostRuntime) -> Result<(), Fail> {
+    for (item, open, close, times, whole, deepest) in NESTS {
+        let is_read = is_read(rt.alloc(), item, (open, close), times, whole)?;
+        let is_refused = is_too_deep(rt.alloc(), open, deepest)?;
+        assert_eq!(rt; (open, is_read, is_refused), (open, true, true));
     }
     Ok(())
 }
