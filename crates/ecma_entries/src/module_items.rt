@@ -261,12 +261,71 @@ const TWO_LEVELS: [(&str, u32, &str); 2] = [
     ),
 ];
 
-/// In which context a text is read, within how many levels, and whether decorators are, before `export` too.
+/// In which code a text is read.
+#[derive(Clone, Copy)]
+enum Code {
+    Script,
+    Undecided,
+    Module,
+}
+
+/// In which code a text is read, within how many levels, and whether decorators are, before `export` too.
 #[derive(Clone, Copy)]
 struct Around {
-    context: Context,
+    code: Code,
     limit: u32,
     decorators: bool,
+}
+
+/// What tables are read in.
+const PLAIN: Around = Around {
+    code: Code::Script,
+    limit: 1000,
+    decorators: false,
+};
+
+/// Each table, with what it is read in.
+const TABLES: [(Around, &[(&str, u32, &str)]); 11] = [
+    (PLAIN, &FORMS),
+    (PLAIN, &REFUSALS),
+    (PLAIN, &HELD_BACK),
+    (PLAIN, &BEHIND),
+    (PLAIN, &DECIDED),
+    (
+        Around {
+            decorators: true,
+            ..PLAIN
+        },
+        &DECORATED,
+    ),
+    (
+        Around {
+            code: Code::Undecided,
+            ..PLAIN
+        },
+        &UNDECIDED,
+    ),
+    (
+        Around {
+            code: Code::Module,
+            ..PLAIN
+        },
+        &MODULES,
+    ),
+    (Around { limit: 0, ..PLAIN }, &NO_LEVELS),
+    (Around { limit: 1, ..PLAIN }, &ONE_LEVEL),
+    (Around { limit: 2, ..PLAIN }, &TWO_LEVELS),
+];
+
+/// The context that a source begins in.
+fn code_context(code: Code) -> Context {
+    let mut context = Context::default();
+    match code {
+        Code::Script => {}
+        Code::Undecided => context.can_be_module = true,
+        Code::Module => context.module = true,
+    }
+    context
 }
 
 /// Writes what a parser answers that is asked for an item of a module.
@@ -304,7 +363,7 @@ fn read(
         ..EsSyntax::default()
     };
     let mut lexer = Lexer::new(alloc, Syntax::Es(settings), input, false);
-    lexer.set_ctx(around.context);
+    lexer.set_ctx(code_context(around.code));
     let mut parser = Parser::new_from_limited(alloc, lexer, around.limit);
     let found = asked(alloc, &mut parser, times);
     let_go(parser);
@@ -330,84 +389,8 @@ fn write_wrong(
 #[test]
 fn rows_of_items_hold(rt: HostRuntime) -> Result<(), Fail> {
     let mut wrong = String::new(rt.alloc());
-    let around = Around {
-        context: Context::default(),
-        limit: 1000,
-        decorators: false,
-    };
-    for rows in [
-        FORMS.as_slice(),
-        REFUSALS.as_slice(),
-        HELD_BACK.as_slice(),
-        BEHIND.as_slice(),
-        DECIDED.as_slice(),
-    ] {
+    for (around, rows) in TABLES {
         write_wrong(rt.alloc(), &mut wrong, rows, around)?;
-    }
-    let around = Around {
-        decorators: true,
-        ..around
-    };
-    write_wrong(rt.alloc(), &mut wrong, &DECORATED, around)?;
-    assert_eq!(rt; wrong.as_str(), "");
-    Ok(())
-}
-
-#[test]
-fn rows_of_items_hold_in_other_code(rt: HostRuntime) -> Result<(), Fail> {
-    let mut wrong = String::new(rt.alloc());
-    let context = Context {
-        can_be_module: true,
-        ..Context::default()
-    };
-    let limit = 1000;
-    write_wrong(
-        rt.alloc(),
-        &mut wrong,
-        &UNDECIDED,
-        Around {
-            context,
-            limit,
-            decorators: false,
-        },
-    )?;
-    let context = Context {
-        module: true,
-        ..Context::default()
-    };
-    write_wrong(
-        rt.alloc(),
-        &mut wrong,
-        &MODULES,
-        Around {
-            context,
-            limit,
-            decorators: false,
-        },
-    )?;
-    assert_eq!(rt; wrong.as_str(), "");
-    Ok(())
-}
-
-#[test]
-fn rows_of_items_hold_within_their_levels(rt: HostRuntime) -> Result<(), Fail> {
-    let mut wrong = String::new(rt.alloc());
-    for (rows, limit) in [
-        (NO_LEVELS.as_slice(), 0),
-        (ONE_LEVEL.as_slice(), 1),
-        (TWO_LEVELS.as_slice(), 2),
-    ] {
-        let context = Context::default();
-        write_wrong(
-            rt.alloc(),
-            &mut wrong,
-            rows,
-            Around {
-                context,
-                limit,
-                decorators: false,
-            },
-        )?;
     }
     assert_eq!(rt; wrong.as_str(), "");
     Ok(())
@@ -431,16 +414,14 @@ fn an_import_and_an_export_leave_module_code(rt: HostRuntime) -> Result<(), Fail
         strict: true,
         ..before
     };
-    assert_eq!(rt;
-        left_behind(alloc, input("export {} a b c")?),
-        (module, true)
-    );
-    assert_eq!(rt;
-        left_behind(alloc, input("import 'a'; b c")?),
-        (module, false)
-    );
-    assert_eq!(rt; left_behind(alloc, input("a; b c d")?), (before, true));
-    assert_eq!(rt; left_behind(alloc, input("export + a")?), (before, false));
+    for (text, wanted) in [
+        ("export {} a b c", (module, true)),
+        ("import 'a'; b c", (module, false)),
+        ("a; b c d", (before, true)),
+        ("export + a", (before, false)),
+    ] {
+        assert_eq!(rt; left_behind(alloc, input(text)?), wanted);
+    }
     Ok(())
 }
 

@@ -52,16 +52,19 @@ fn captured<I: Tokens>(alloc: Global, parser: Parser<Capturing<I>>) -> (Vec<Toke
     (tokens, source.take().len())
 }
 
-#[test]
-fn captured_tokens_parse_to_the_same(rt: HostRuntime) -> Result<(), Fail> {
-    let alloc = rt.alloc();
-    let text = "'use strict'; { var a; (b) } 1n";
+/// Whether the tokens that were captured parse to what their text does, and how many there are and are left.
+fn recaptured(alloc: Global, text: &str) -> Result<(bool, usize, usize), Fail> {
     let (tokens, left) = captured(alloc, capturing(alloc, lexer(alloc, input(text)?)));
     let kept = tokens.len();
     let found = listed(alloc, tokens, plainly(Goal::Script))?;
-    assert_eq!(rt; (kept, left), (11, 0));
     let wanted = lexed(alloc, input(text)?, plainly(Goal::Script))?;
-    assert_eq!(rt; found.tree.as_str(), wanted.tree.as_str());
+    Ok((found.tree == wanted.tree, kept, left))
+}
+
+#[test]
+fn captured_tokens_parse_to_the_same(rt: HostRuntime) -> Result<(), Fail> {
+    let text = "'use strict'; { var a; (b) } 1n";
+    assert_eq!(rt; recaptured(rt.alloc(), text)?, (true, 11, 0));
     Ok(())
 }
 
@@ -135,6 +138,14 @@ fn story<I: CommentSource>(alloc: Global, parser: &mut Parser<I>) -> PResult<Str
     Ok(out)
 }
 
+/// The same of a parser that is let go of.
+fn told<I: CommentSource>(alloc: Global, parser: Parser<I>) -> PResult<String> {
+    let mut parser = parser;
+    let found = story(alloc, &mut parser);
+    let_go(parser);
+    found
+}
+
 /// A parser of a text, whose comments may be wanted.
 fn parser(alloc: Global, input: StringInput<'_>, comments: bool) -> Parser<Lexer<'_>> {
     Parser::new(alloc, Syntax::default(), input, comments)
@@ -158,18 +169,12 @@ fn comments_are_handed_out_once(rt: HostRuntime) -> Result<(), Fail> {
     // Two tokens are read ahead.
     let wanted =
         "Block 0..7: a ;Line 10..14: b;||Script 8..16\n  Expr 8..16\n0\nBlock 17..24: c ;|";
-    let mut plain = parser(alloc, input(COMMENTED)?, true);
-    let found = story(alloc, &mut plain);
-    let_go(plain);
-    assert_eq!(rt; found?.as_str(), wanted);
-    let mut kept = capturing(alloc, commented(alloc, input(COMMENTED)?));
-    let found = story(alloc, &mut kept);
-    let_go(kept);
-    assert_eq!(rt; found?.as_str(), wanted);
-    let mut bare = parser(alloc, input(COMMENTED)?, false);
-    let found = story(alloc, &mut bare);
-    let_go(bare);
-    assert_eq!(rt; found?.as_str(), "||Script 8..16\n  Expr 8..16\n0\n|");
+    let found = told(alloc, parser(alloc, input(COMMENTED)?, true))?;
+    assert_eq!(rt; found.as_str(), wanted);
+    let found = told(alloc, capturing(alloc, commented(alloc, input(COMMENTED)?)))?;
+    assert_eq!(rt; found.as_str(), wanted);
+    let found = told(alloc, parser(alloc, input(COMMENTED)?, false))?;
+    assert_eq!(rt; found.as_str(), "||Script 8..16\n  Expr 8..16\n0\n|");
     Ok(())
 }
 
@@ -275,15 +280,16 @@ fn undecided(alloc: Global, input: StringInput<'_>) -> Result<Shown, AllocError>
 
 #[test]
 fn what_makes_a_module_is_no_fault_where_code_can_be_one(rt: HostRuntime) -> Result<(), Fail> {
-    let alloc = rt.alloc();
-    let found = undecided(alloc, input("const_foo = import.meta.url;")?)?;
-    assert_eq!(rt; found.lines.as_str(), "Script 0..28\n  Expr 0..28\n");
-    let found = undecided(alloc, input("new import.meta")?)?;
-    assert_eq!(rt; found.lines.as_str(), "refused 4..10 Unexpected\n");
-    let found = undecided(alloc, input("await a; b")?)?;
-    assert_eq!(rt;
-        found.lines.as_str(),
-        "Script 0..10\n  Expr 0..8\n  Expr 9..10\n"
-    );
+    for (text, wanted) in [
+        (
+            "const_foo = import.meta.url;",
+            "Script 0..28\n  Expr 0..28\n",
+        ),
+        ("new import.meta", "refused 4..10 Unexpected\n"),
+        ("await a; b", "Script 0..10\n  Expr 0..8\n  Expr 9..10\n"),
+    ] {
+        let found = undecided(rt.alloc(), input(text)?)?;
+        assert_eq!(rt; found.lines.as_str(), wanted);
+    }
     Ok(())
 }
