@@ -14,9 +14,9 @@ ghost use Rattle.swc_ecma_parser_reader.specs.Reader as rules;
 ghost use Rattle.swc_ecma_parser_reader.specs.State.{Gives, GivesAs};
 ghost use Rattle.swc_ecma_parser_trees.specs.Parts.{part_of};
 
+use swc_ecma_parser_bodies::body::close;
 use swc_ecma_parser_common::Span;
 use swc_ecma_parser_error::{PResult, SyntaxError};
-use swc_ecma_parser_functions::body::close;
 use swc_ecma_parser_grammar::Class;
 use swc_ecma_parser_inner::found::{found_module_item, set_found_module_item};
 use swc_ecma_parser_inner::steps::{grown, pushed, since, told_if, with_in};

@@ -3,3 +3,4 @@
 #![tactic(auto)]
 
 pub mod class;
+pub mod words;

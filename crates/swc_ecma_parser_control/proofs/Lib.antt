@@ -1,4 +1,3 @@
-pub mod Links
 pub mod Clauses
 pub mod Labels
 pub mod Strays

@@ -8,16 +8,16 @@ ghost use Rattle.swc_ecma_parser_reader.specs.State as reader;
 ghost use Rattle.swc_ecma_parser_reader.specs.State.{Gives, GivesAs};
 ghost use Rattle.swc_ecma_parser_trees.specs.Parts.{part_of};
 
+use swc_ecma_parser_bodies::body::braced;
 use swc_ecma_parser_common::Span;
 use swc_ecma_parser_error::{PResult, SyntaxError};
-use swc_ecma_parser_functions::body::braced;
 use swc_ecma_parser_grammar::Position;
 use swc_ecma_parser_inner::cover::{Cover, Reading};
 use swc_ecma_parser_inner::grammar::{Grammar, Part};
 use swc_ecma_parser_inner::steps::{grown, since};
 use swc_ecma_parser_patterns::pat::inner_pat;
+use swc_ecma_parser_recovery::recovery::dropped;
 use swc_ecma_parser_source::Source;
-use swc_ecma_parser_statements::recovery::{put_back, stays_refused};
 use swc_ecma_parser_token::TokenKind;
 use swc_ecma_parser_trees::{BuildsBlock, BuildsOperator, BuildsStmt, BuildsTry, MakerOf, Trees};
 
@@ -150,7 +150,7 @@ pub(crate) fn try_stmt<
     grown(p, T::try_stmt(t.alloc, span, block, handler, finalizer))
 }
 
-/// Reads a catch, if one stands here, and drops it, and so its refusal, but one for want of memory or depth.
+/// Reads a catch, if one stands here, and drops it.
 fn dropped_handler<
     P: Source,
     T: BuildsTry,
@@ -163,19 +163,8 @@ fn dropped_handler<
 {
     let around = p.copy_around()?;
     let outer = p.flags();
-    match handler(g, t, p) {
-        Ok(_) => {
-            put_back(p, around, outer);
-            Ok(())
-        }
-        Err(error) => {
-            if stays_refused(p, &error) {
-                return Err(error);
-            }
-            put_back(p, around, outer);
-            Ok(())
-        }
-    }
+    let read = handler(g, t, p);
+    dropped(p, around, outer, read)
 }
 
 /// The same of a finally.
@@ -191,19 +180,8 @@ fn dropped_finalizer<
 {
     let around = p.copy_around()?;
     let outer = p.flags();
-    match finalizer(g, t, p) {
-        Ok(_) => {
-            put_back(p, around, outer);
-            Ok(())
-        }
-        Err(error) => {
-            if stays_refused(p, &error) {
-                return Err(error);
-            }
-            put_back(p, around, outer);
-            Ok(())
-        }
-    }
+    let read = finalizer(g, t, p);
+    dropped(p, around, outer, read)
 }
 
 /// A catch or a finally behind no `try`: a fault of its word, which stands for it in the tree. What stands behind it is dropped.

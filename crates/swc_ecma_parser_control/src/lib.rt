@@ -2,7 +2,6 @@
 //! ECMA-262, section 14. A rule takes the readers of what stands further in as parameters, so each is proved by itself.
 #![tactic(auto)]
 
-mod branch;
 mod handler;
 mod label;
 pub mod stmt;

@@ -7,13 +7,13 @@ ghost use Rattle.swc_ecma_parser_reader.specs.Reader as rules;
 ghost use Rattle.swc_ecma_parser_reader.specs.State.{GivesAs};
 ghost use Rattle.swc_ecma_parser_token.specs.declared.kind.TokenKind.TheVariants as kind;
 
-use crate::branch::if_stmt;
 use crate::handler::{stray, try_stmt};
 use crate::label::{let_stmt, other_stmt};
 use crate::switch::switch_stmt;
 use crate::with_statement::with_stmt;
+use swc_ecma_parser_bodies::body::block;
+use swc_ecma_parser_branches::branch::if_stmt;
 use swc_ecma_parser_error::PResult;
-use swc_ecma_parser_functions::body::block;
 use swc_ecma_parser_functions::function::{function_decl, function_stmt};
 use swc_ecma_parser_grammar::Position;
 use swc_ecma_parser_inner::cover::{Cover, Reading};

@@ -8,9 +8,9 @@ ghost use Rattle.swc_ecma_parser_reader.specs.Reader as rules;
 ghost use Rattle.swc_ecma_parser_reader.specs.State.{GivesAs};
 ghost use Rattle.swc_ecma_parser_trees.specs.Parts.{part_of};
 
+use swc_ecma_parser_bodies::body::{Body, begins_clause, body_items};
 use swc_ecma_parser_common::Span;
 use swc_ecma_parser_error::{PResult, SyntaxError};
-use swc_ecma_parser_functions::body::{Body, begins_clause, body_items};
 use swc_ecma_parser_grammar::{Class, Position};
 use swc_ecma_parser_inner::cover::{Cover, Reading, inside};
 use swc_ecma_parser_inner::grammar::{Grammar, Part};

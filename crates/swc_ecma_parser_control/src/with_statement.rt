@@ -15,8 +15,9 @@ use swc_ecma_parser_inner::cover::{Cover, Reading};
 use swc_ecma_parser_inner::grammar::{Grammar, Part};
 use swc_ecma_parser_inner::steps::{grown, since};
 use swc_ecma_parser_input::Context;
-use swc_ecma_parser_loops::simple::{SUB_STATEMENT, head};
+use swc_ecma_parser_loops::simple::head;
 use swc_ecma_parser_source::Source;
+use swc_ecma_parser_statements::simple::SUB_STATEMENT;
 use swc_ecma_parser_trees::{BuildsControl, MakerOf, Trees};
 
 /// Says that `with` stands at this word: a fault of module code.

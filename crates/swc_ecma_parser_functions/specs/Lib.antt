@@ -1,4 +1,2 @@
-pub mod Bodies
 pub mod Late
 pub mod Methods
-pub mod Arrows

@@ -18,7 +18,7 @@ ghost use Rattle.swc_ecma_parser_reader.specs.Reader as rules;
 ghost use Rattle.swc_ecma_parser_reader.specs.State.{Gives, GivesAs, enclosed, within};
 ghost use Rattle.swc_ecma_parser_trees.specs.Parts.{part_of};
 
-use crate::body::{Body, body_items, close};
+use swc_ecma_parser_bodies::body::{Body, body_items, close};
 use swc_ecma_parser_common::Span;
 use swc_ecma_parser_error::{PResult, SyntaxError};
 use swc_ecma_parser_grammar::Position;
@@ -154,7 +154,7 @@ fn block<
 }
 
 /// Statements in braces as a body, in what stands around them, with directives or without.
-pub(crate) fn inner_body<
+pub fn inner_body<
     P: Source,
     T: BuildsBlock,
     S: Fn(&MakerOf<T>, &mut P, usize, Position) -> PResult<T::Stmt>,

@@ -1,11 +1,6 @@
-//! The rules of bodies, of functions, of arrow functions, of methods, of `yield` and of `await`, over any source of tokens and any
-//! tree: ECMA-262, sections 14.2, 15.2 to 15.5 and 15.8.
+//! The rules of functions and of methods, over any source of tokens and any tree: ECMA-262, sections 15.2, 15.4 to 15.6 and 15.8.
 //! What stands further in is read by the readers that a rule takes as parameters.
 #![tactic(auto)]
 
-pub mod arrows;
-pub mod awaits;
-pub mod body;
 pub mod function;
 pub mod methods;
-pub mod yields;

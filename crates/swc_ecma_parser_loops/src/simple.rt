@@ -15,15 +15,9 @@ use swc_ecma_parser_inner::grammar::{Grammar, Part};
 use swc_ecma_parser_inner::steps::{grown, since};
 use swc_ecma_parser_input::Context;
 use swc_ecma_parser_source::Source;
-use swc_ecma_parser_statements::simple::optional_end;
+use swc_ecma_parser_statements::simple::{SUB_STATEMENT, optional_end};
 use swc_ecma_parser_token::TokenKind;
 use swc_ecma_parser_trees::{BuildsLoop, MakerOf, Trees};
-
-/// A statement that is a part of another, and no declaration.
-pub const SUB_STATEMENT: Position = Position {
-    include_decl: false,
-    top_level: false,
-};
 
 /// `( Expression )` behind the word of a statement.
 #[tactic(auto, unfolding(swc_ecma_parser_reader::specs::Reader::head, swc_ecma_parser_reader::specs::Expressions::inside))]

@@ -15,7 +15,7 @@ use crate::fields::{FieldHead, field};
 use crate::keys::{MemberKey, member_key};
 use crate::member::{before_constructor, keyed_member};
 use crate::methods::{Begin, plain_method, second_static, static_block};
-use crate::words::{begins_block, begins_words};
+use swc_ecma_parser_classes::words::{begins_block, begins_words};
 use swc_ecma_parser_common::Span;
 use swc_ecma_parser_error::{PResult, SyntaxError};
 use swc_ecma_parser_grammar::Position;

@@ -9,4 +9,3 @@ pub mod fields;
 pub mod keys;
 pub mod member;
 pub mod methods;
-pub mod words;

@@ -15,8 +15,10 @@ use crate::decorators::{Leading, leading_decorators, misplaced};
 use crate::fields::{FieldHead, field};
 use crate::keys::{MemberKey, is_constructor_key, member_key};
 use crate::methods::{Begin, Head, method, plain_method, second_static, static_block};
-use crate::words::{begins_static_block, is_accessor_word, member_words, static_word};
 use std::alloc::Global;
+use swc_ecma_parser_classes::words::{
+    begins_static_block, is_accessor_word, member_words, static_word,
+};
 use swc_ecma_parser_error::PResult;
 use swc_ecma_parser_grammar::Position;
 use swc_ecma_parser_inner::cover::{Cover, Reading};

@@ -12,10 +12,10 @@ ghost use Rattle.swc_ecma_parser_reader.specs.State.{GivesAs};
 
 use crate::decorated::{begins_decorators, no_leading};
 use crate::items::{TOP_ITEM, at_end, begins_import, item_behind, items, items_behind};
+use swc_ecma_parser_bodies::body::direct;
 use swc_ecma_parser_core::grammar::{leading, stmt_behind};
 use swc_ecma_parser_core::script::whole_stmt;
 use swc_ecma_parser_error::PResult;
-use swc_ecma_parser_functions::body::direct;
 use swc_ecma_parser_inner::steps::{grown, pushed};
 use swc_ecma_parser_members::decorators::Leading;
 use swc_ecma_parser_source::Source;

@@ -7,8 +7,8 @@ ghost use Rattle.swc_ecma_parser_reader.specs.Reader as rules;
 ghost use Rattle.swc_ecma_parser_reader.specs.State.{GivesAs};
 
 use crate::assignment::continued;
+use swc_ecma_parser_arrows::arrows::arrow_from;
 use swc_ecma_parser_error::PResult;
-use swc_ecma_parser_functions::arrows::arrow_from;
 use swc_ecma_parser_grammar::Position;
 use swc_ecma_parser_groups::arguments::{argument_parameters, async_called, either_arguments};
 use swc_ecma_parser_groups::closed::closed_group;

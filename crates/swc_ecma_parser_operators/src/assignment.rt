@@ -11,10 +11,10 @@ ghost use Rattle.swc_ecma_parser_reader.specs.Reader as rules;
 ghost use Rattle.swc_ecma_parser_reader.specs.State.{GivesAs};
 
 use crate::operator::{assigns_here, behind_operators, plain_expr, postfixed, sequence_from};
+use swc_ecma_parser_arrows::arrows::{arrow_of_one, only_parameter};
+use swc_ecma_parser_arrows::awaits::awaited;
 use swc_ecma_parser_common::Span;
 use swc_ecma_parser_error::PResult;
-use swc_ecma_parser_functions::arrows::{arrow_of_one, only_parameter};
-use swc_ecma_parser_functions::awaits::awaited;
 use swc_ecma_parser_grammar::{Class, Position};
 use swc_ecma_parser_inner::cover::{Cover, Reading, close, done, nested, target};
 use swc_ecma_parser_inner::grammar::{Grammar, Part};

@@ -1,4 +1,2 @@
 mod Misused
 mod AwaitStmt
-pub mod Dropped
-mod UpToEnd

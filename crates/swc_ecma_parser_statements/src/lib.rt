@@ -4,7 +4,6 @@
 
 pub mod jump;
 pub mod leave;
-pub mod recovery;
 pub mod simple;
 mod statement_end;
 pub mod using;

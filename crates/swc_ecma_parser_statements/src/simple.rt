@@ -19,6 +19,12 @@ use swc_ecma_parser_source::{Source, Wanted};
 use swc_ecma_parser_token::TokenKind;
 use swc_ecma_parser_trees::{BuildsOperator, BuildsStmt, MakerOf, Trees};
 
+/// A statement that is a part of another, and no declaration.
+pub const SUB_STATEMENT: Position = Position {
+    include_decl: false,
+    top_level: false,
+};
+
 /// `;`
 #[tactic(auto, unfolding(swc_ecma_parser_reader::specs::Reader::empty, swc_ecma_parser_grammar::specs::Looks::spanned))]
 pub fn empty<P: Source, T: BuildsStmt>(alloc: Global, p: &mut P) -> PResult<T::Stmt>

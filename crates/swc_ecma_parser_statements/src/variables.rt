@@ -6,7 +6,6 @@ ghost use Rattle.swc_ecma_parser_inner.specs.Nests.{Nests};
 ghost use Rattle.swc_ecma_parser_reader.specs.Reader as rules;
 ghost use Rattle.swc_ecma_parser_reader.specs.State.{GivesAs};
 
-use crate::recovery::declaration_end;
 use swc_ecma_parser_common::Span;
 use swc_ecma_parser_error::{PResult, SyntaxError};
 use swc_ecma_parser_grammar::{Class, Position};
@@ -15,6 +14,7 @@ use swc_ecma_parser_inner::grammar::{Grammar, Part};
 use swc_ecma_parser_inner::steps::{grown, pushed, since, with_in};
 use swc_ecma_parser_model::VarDeclKind;
 use swc_ecma_parser_patterns::pat::inner_pat;
+use swc_ecma_parser_recovery::recovery::declaration_end;
 use swc_ecma_parser_source::{Source, Wanted};
 use swc_ecma_parser_token::TokenKind;
 use swc_ecma_parser_trees::{BuildsPattern, BuildsVariables, MakerOf};

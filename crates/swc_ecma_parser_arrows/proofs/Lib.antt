@@ -1,0 +1,2 @@
+mod NoBlocks
+mod ArrowParts

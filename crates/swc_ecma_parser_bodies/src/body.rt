@@ -1,0 +1,203 @@
+//! Statements one behind another: blocks, and the bodies of functions and clauses (ECMA-262, sections 14.2, 14.12 and 15.2).
+
+ghost use Rattle.std.specs.Prelude.{◌≡◌, ◌&&◌, true, false, map, IfOk, IfErr};
+ghost use Rattle.swc_ecma_parser_error.specs.Kind as kinds;
+ghost use Rattle.swc_ecma_parser_error.specs.Kind.{kind_of, IsOutOfMemory};
+ghost use Rattle.swc_ecma_parser_bodies.specs.Bodies.{ends_of, directs_of};
+ghost use Rattle.swc_ecma_parser_grammar.specs.Reads.{directed, nested_item};
+ghost use Rattle.swc_ecma_parser_inner.specs.Nests.{Nests};
+ghost use Rattle.swc_ecma_parser_reader.specs.Reader as rules;
+ghost use Rattle.swc_ecma_parser_reader.specs.State as reader;
+ghost use Rattle.swc_ecma_parser_reader.specs.State.{Gives, GivesAs};
+
+use std::alloc::Global;
+use swc_ecma_parser_common::Atom;
+use swc_ecma_parser_error::{PResult, SyntaxError};
+use swc_ecma_parser_grammar::Position;
+use swc_ecma_parser_inner::cover::{Cover, Reading};
+use swc_ecma_parser_inner::grammar::{Grammar, Part};
+use swc_ecma_parser_inner::steps::{grown, pushed, since};
+use swc_ecma_parser_input::Context;
+use swc_ecma_parser_source::Source;
+use swc_ecma_parser_token::TokenKind;
+use swc_ecma_parser_trees::{BuildsBlock, BuildsStmt, MakerOf, Trees};
+
+/// What holds statements one behind another.
+#[derive(Clone, Copy)]
+pub enum Body {
+    /// A block, up to its `}`.
+    Block,
+    /// The body of a function, up to its `}`, where the first strings are directives.
+    Function,
+    /// A clause of a `switch`, up to the next one or to the `}` behind all.
+    Clause,
+}
+
+impl Body {
+    /// What holds statements up to a `}`, with directives or without.
+    pub fn in_braces(directives: bool) -> Body
+        ensures ends { ends_of result ≡ rules.closes }
+        ensures directs { directs_of result ≡ directives }
+    {
+        if directives {
+            Body::Function
+        } else {
+            Body::Block
+        }
+    }
+}
+
+/// A statement in a block or a body.
+const NESTED_ITEM: Position = Position {
+    include_decl: true,
+    top_level: false,
+};
+
+/// Whether a block's statements end here.
+#[tactic(auto, unfolding(swc_ecma_parser_reader::specs::Reader::closes))]
+fn closes<P: Source>(p: &P) -> bool
+    ensures { result ≡ rules.closes (P.seen p.now).at }
+{
+    p.sees(TokenKind::RBrace) || p.sees(TokenKind::End)
+}
+
+/// The fault of a `}` that is missing at the end of the list.
+fn missing_brace<P: Source>(alloc: Global, p: &mut P) -> PResult<SyntaxError>
+    ensures kind { IfOk result (λ kind. kind_of kind ≡ kinds.Expected) }
+    ensures state { IfOk result (λ kind. P.seen p.new ≡ P.seen p.old) }
+    ensures err { IfErr result IsOutOfMemory }
+{
+    let wanted = grown(p, Atom::new(alloc, "}"))?;
+    let found = grown(p, Atom::new(alloc, "<eof>"))?;
+    Ok(SyntaxError::Expected(wanted, found))
+}
+
+/// The `}` of a block, or a fault where the list has ended.
+#[tactic(auto, unfolding(swc_ecma_parser_reader::specs::Reader::close))]
+pub fn close<P: Source>(alloc: Global, p: &mut P) -> PResult<()>
+    ensures { Gives (rules.close (P.seen p.old)) result (P.seen p.new) }
+{
+    if p.sees(TokenKind::RBrace) {
+        return p.skip();
+    }
+    let kind = missing_brace(alloc, p)?;
+    let span = p.span();
+    p.fault(kind, span)
+}
+
+/// Whether a clause of a `switch` begins here.
+#[tactic(auto, unfolding(swc_ecma_parser_reader::specs::Reader::begins_clause))]
+pub fn begins_clause<P: Source>(p: &P) -> bool
+    ensures { result ≡ rules.begins_clause (P.seen p.now).at }
+{
+    p.sees(TokenKind::Case) || p.sees(TokenKind::Default)
+}
+
+/// Whether the statements of a clause end here.
+#[tactic(auto, unfolding(swc_ecma_parser_reader::specs::Reader::closes_clause))]
+fn closes_clause<P: Source>(p: &P) -> bool
+    ensures { result ≡ rules.closes_clause (P.seen p.now).at }
+{
+    begins_clause(p) || closes(p)
+}
+
+/// Whether the statements of a body end here.
+fn ends<P: Source>(p: &P, body: Body) -> bool
+    ensures { result ≡ ends_of body (P.seen p.now).at }
+{
+    match body {
+        Body::Block | Body::Function => closes(p),
+        Body::Clause => closes_clause(p),
+    }
+}
+
+/// The context of strict mode code.
+fn in_strict(flags: Context) -> Context
+    ensures { result ≡ record flags { strict = true } }
+{
+    Context {
+        strict: true,
+        ..flags
+    }
+}
+
+/// Turns strict what follows a directive.
+pub fn direct<P: Source, T: Trees>(p: &mut P, directives: bool, x: &T::Stmt)
+    ensures { P.seen p.new ≡ reader.coded (directed (P.seen p.old).code directives (T.stmt_of x.now)) (P.seen p.old) }
+{
+    if directives && T::is_use_strict(x) {
+        let flags = p.flags();
+        p.set_flags(in_strict(flags));
+    }
+}
+
+/// Whether the next statement can be a directive.
+fn may_direct(body: Body, is_first: bool) -> bool
+    ensures { result ≡ (directs_of body && is_first) }
+{
+    match body {
+        Body::Function => is_first,
+        Body::Block | Body::Clause => false,
+    }
+}
+
+/// The statements of a block, a body or a clause.
+#[tactic(auto, unfolding(swc_ecma_parser_reader::specs::Reader::items), using(swc_ecma_parser_reader::proofs::Loops::items_stop, swc_ecma_parser_reader::proofs::Loops::items_err, crate::proofs::Items::body_more, swc_ecma_parser_reader::proofs::Loops::stmt_shorter, std::proofs::lemmas::List::map_push))]
+pub fn body_items<
+    P: Source,
+    T: Trees,
+    S: Fn(&MakerOf<T>, &mut P, usize, Position) -> PResult<T::Stmt>,
+    E: Fn(&MakerOf<T>, &mut P, usize, Reading) -> PResult<Cover<T::Expr>>,
+    N: Fn(&MakerOf<T>, &mut P, usize, Part) -> PResult<T::Pat>,
+>(g: &Grammar<S, E, N>, t: &MakerOf<T>, p: &mut P, body: Body) -> PResult<Vec<T::Stmt>>
+    requires { Nests P.seen T.expr_of T.pat_of T.stmt_of g.now.depth (S.pre g.now.stmt) (S.post g.now.stmt) (E.pre g.now.expr) (E.post g.now.expr) (N.pre g.now.pat) (N.post g.now.pat) }
+    ensures { GivesAs (λ found. map T.stmt_of found.items) (rules.items (rules.stmt g.now.depth nested_item) (ends_of body) (directs_of body) (P.seen p.old)) result (P.seen p.new) }
+{
+    let mut found = Vec::new(t.alloc);
+    'items: while !ends(p, body) {
+        let stmt = (g.stmt)(t, p, g.depth, NESTED_ITEM)?;
+        direct::<P, T>(p, may_direct(body, found.is_empty()), &stmt);
+        pushed(p, &mut found, stmt)?;
+    }
+    Ok(found)
+}
+
+/// A block as a statement.
+#[tactic(auto, unfolding(swc_ecma_parser_reader::specs::Reader::block, swc_ecma_parser_reader::specs::Reader::block_from, swc_ecma_parser_grammar::specs::Looks::spanned))]
+pub fn block<
+    P: Source,
+    T: BuildsStmt,
+    S: Fn(&MakerOf<T>, &mut P, usize, Position) -> PResult<T::Stmt>,
+    E: Fn(&MakerOf<T>, &mut P, usize, Reading) -> PResult<Cover<T::Expr>>,
+    N: Fn(&MakerOf<T>, &mut P, usize, Part) -> PResult<T::Pat>,
+>(g: &Grammar<S, E, N>, t: &MakerOf<T>, p: &mut P) -> PResult<T::Stmt>
+    requires { Nests P.seen T.expr_of T.pat_of T.stmt_of g.now.depth (S.pre g.now.stmt) (S.post g.now.stmt) (E.pre g.now.expr) (E.post g.now.expr) (N.pre g.now.pat) (N.post g.now.pat) }
+    ensures { GivesAs T.stmt_of (rules.block (rules.stmt g.now.depth nested_item) (P.seen p.old)) result (P.seen p.new) }
+{
+    let start = p.span();
+    p.skip()?;
+    let body = body_items(g, t, p, Body::Block)?;
+    close(t.alloc, p)?;
+    let span = since(p, start);
+    grown(p, T::block(t.alloc, span, body))
+}
+
+/// A block that must stand here, as a part of another form.
+#[tactic(auto, unfolding(swc_ecma_parser_reader::specs::Reader::braced, swc_ecma_parser_reader::specs::Reader::block_from, swc_ecma_parser_grammar::specs::Looks::spanned))]
+pub fn braced<
+    P: Source,
+    T: BuildsBlock,
+    S: Fn(&MakerOf<T>, &mut P, usize, Position) -> PResult<T::Stmt>,
+    E: Fn(&MakerOf<T>, &mut P, usize, Reading) -> PResult<Cover<T::Expr>>,
+    N: Fn(&MakerOf<T>, &mut P, usize, Part) -> PResult<T::Pat>,
+>(g: &Grammar<S, E, N>, t: &MakerOf<T>, p: &mut P) -> PResult<T::Block>
+    requires { Nests P.seen T.expr_of T.pat_of T.stmt_of g.now.depth (S.pre g.now.stmt) (S.post g.now.stmt) (E.pre g.now.expr) (E.post g.now.expr) (N.pre g.now.pat) (N.post g.now.pat) }
+    ensures { GivesAs T.block_of (rules.braced (rules.stmt g.now.depth nested_item) false (P.seen p.old)) result (P.seen p.new) }
+{
+    let start = p.span();
+    p.expect(TokenKind::LBrace, "{")?;
+    let stmts = body_items(g, t, p, Body::Block)?;
+    close(t.alloc, p)?;
+    let span = since(p, start);
+    grown(p, T::body(t.alloc, span, stmts))
+}

@@ -1,0 +1,11 @@
+use Rattle.std.proofs.Common.{◌≡◌, length, map}
+use Rattle.swc_ecma_parser_branches.specs.Links.{link_of}
+use Rattle.swc_ecma_parser_branches.proofs.Links.{chain, enclosing}
+use Rattle.swc_ecma_parser_branches.proofs.branch.if_stmt.Given as goal
+
+-- the whole chain is what the links so far make of the rest
+abbrev pub invariant-links : goal.invariant-links
+invariant-links g l = chain l.g.depth (g.P.Source.seen l.fn.p) ≡ enclosing (map (link_of g.T.Trees.expr_of g.T.Trees.stmt_of) l.links.items) (chain l.g.depth (g.P.Source.seen l.p))
+
+abbrev pub decreases-links : goal.decreases-links
+decreases-links g l = length (g.P.Source.seen l.p).at.left

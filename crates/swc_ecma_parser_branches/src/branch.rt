@@ -1,0 +1,192 @@
+//! `if`: ECMA-262, section 14.6. A chain of `else if`, which no nesting limit counts, is read in a loop, and put together from its
+//! end in another.
+
+ghost use Rattle.std.specs.Prelude.{◌≡◌, ◌≢◌, Err, IfOk, IfErr, map};
+ghost use Rattle.swc_ecma_parser_branches.specs.Links.{around, closed_as, link_of};
+ghost use Rattle.swc_ecma_parser_error.specs.Kind as kinds;
+ghost use Rattle.swc_ecma_parser_error.specs.Kind.{fault_of, kind_of, IsOutOfMemory};
+ghost use Rattle.swc_ecma_parser_grammar.specs.language.Goals.{expression};
+ghost use Rattle.swc_ecma_parser_grammar.specs.language.Items.{sub_statement};
+ghost use Rattle.swc_ecma_parser_inner.specs.Nests.{Nests};
+ghost use Rattle.swc_ecma_parser_model.specs.Tree.{Tree};
+ghost use Rattle.swc_ecma_parser_reader.specs.Reader as rules;
+ghost use Rattle.swc_ecma_parser_reader.specs.State as reader;
+ghost use Rattle.swc_ecma_parser_reader.specs.State.{GivesAs};
+ghost use Rattle.swc_ecma_parser_trees.specs.Parts.{part_of};
+
+use std::alloc::{AllocError, Global};
+use swc_ecma_parser_common::{Atom, Boxed, Span};
+use swc_ecma_parser_error::{Error, PResult, SyntaxError};
+use swc_ecma_parser_grammar::{Class, Position};
+use swc_ecma_parser_inner::cover::{Cover, Reading, inside};
+use swc_ecma_parser_inner::grammar::{Grammar, Part};
+use swc_ecma_parser_inner::steps::{grown, pushed, since};
+use swc_ecma_parser_recovery::recovery::stays_refused;
+use swc_ecma_parser_source::Source;
+use swc_ecma_parser_statements::simple::SUB_STATEMENT;
+use swc_ecma_parser_token::TokenKind;
+use swc_ecma_parser_trees::{BuildsControl, MakerOf, Trees};
+
+/// An `if` up to its first statement.
+#[derive(Drop)]
+pub(crate) struct Link<X, S> {
+    /// The word `if`.
+    start: Span,
+    test: X,
+    cons: S,
+}
+
+/// The kind of fault that says that another is in a condition.
+fn in_condition(alloc: Global, inner: Error, word: Span) -> Result<SyntaxError, AllocError>
+    ensures { IfOk result (λ kind. kind_of kind ≡ kinds.WithLabel) }
+{
+    let note = Atom::new(alloc, "Tried to parse the condition for an if statement")?;
+    Ok(SyntaxError::WithLabel {
+        inner: Boxed::new(alloc, inner)?,
+        span: word,
+        note,
+    })
+}
+
+/// The refusal of a condition behind the word `if`. One for want of memory or depth stays as it is.
+fn labelled<P: Source>(alloc: Global, p: &mut P, error: Error, word: Span) -> Error
+    ensures memory { kind_of result.kind ≢ kinds.OutOfMemory → kind_of error.kind ≢ kinds.OutOfMemory }
+    ensures gives { kind_of result.kind ≢ kinds.OutOfMemory
+        → reader.labelled_as {A = Tree} (Err (fault_of error, P.seen p.old)) ≡ Err (fault_of result, P.seen p.new) }
+{
+    if stays_refused(p, &error) {
+        return error;
+    }
+    let span = error.span;
+    match in_condition(alloc, error, word) {
+        Ok(kind) => Error { span, kind },
+        Err(_) => p.out_of_memory(),
+    }
+}
+
+/// `( Expression )` behind the word `if`.
+#[tactic(auto, unfolding(swc_ecma_parser_reader::specs::Reader::condition, swc_ecma_parser_reader::specs::State::labelled, swc_ecma_parser_reader::specs::Expressions::inside))]
+fn condition<
+    P: Source,
+    T: Trees,
+    S: Fn(&MakerOf<T>, &mut P, usize, Position) -> PResult<T::Stmt>,
+    E: Fn(&MakerOf<T>, &mut P, usize, Reading) -> PResult<Cover<T::Expr>>,
+    N: Fn(&MakerOf<T>, &mut P, usize, Part) -> PResult<T::Pat>,
+>(g: &Grammar<S, E, N>, t: &MakerOf<T>, p: &mut P, word: Span) -> PResult<T::Expr>
+    requires { Nests P.seen T.expr_of T.pat_of T.stmt_of g.now.depth (S.pre g.now.stmt) (S.post g.now.stmt) (E.pre g.now.expr) (E.post g.now.expr) (N.pre g.now.pat) (N.post g.now.pat) }
+    ensures { GivesAs T.expr_of (rules.condition (rules.expr g.now.depth expression) (P.seen p.old)) result (P.seen p.new) }
+{
+    p.expect(TokenKind::LParen, "(")?;
+    let test = match inside(g, t, p, Class::Expression) {
+        Ok(test) => test,
+        Err(error) => return Err(labelled(t.alloc, p, error, word)),
+    };
+    p.expect(TokenKind::RParen, ")")?;
+    Ok(test)
+}
+
+/// An `if` up to its first statement.
+#[tactic(auto, unfolding(swc_ecma_parser_reader::specs::Reader::link, swc_ecma_parser_reader::specs::Reader::link_from))]
+fn next_link<
+    P: Source,
+    T: Trees,
+    S: Fn(&MakerOf<T>, &mut P, usize, Position) -> PResult<T::Stmt>,
+    E: Fn(&MakerOf<T>, &mut P, usize, Reading) -> PResult<Cover<T::Expr>>,
+    N: Fn(&MakerOf<T>, &mut P, usize, Part) -> PResult<T::Pat>,
+>(g: &Grammar<S, E, N>, t: &MakerOf<T>, p: &mut P) -> PResult<Link<T::Expr, T::Stmt>>
+    requires { Nests P.seen T.expr_of T.pat_of T.stmt_of g.now.depth (S.pre g.now.stmt) (S.post g.now.stmt) (E.pre g.now.expr) (E.post g.now.expr) (N.pre g.now.pat) (N.post g.now.pat) }
+    ensures { GivesAs (link_of T.expr_of T.stmt_of) (rules.link (rules.stmt g.now.depth sub_statement) (rules.expr g.now.depth expression) (P.seen p.old)) result (P.seen p.new) }
+{
+    let start = p.span();
+    p.skip()?;
+    let test = condition(g, t, p, start)?;
+    let cons = (g.stmt)(t, p, g.depth, SUB_STATEMENT)?;
+    Ok(Link { start, test, cons })
+}
+
+/// What stands behind an `else`, if there is one.
+#[tactic(auto, unfolding(swc_ecma_parser_reader::specs::Reader::alternative))]
+fn alternative<
+    P: Source,
+    T: Trees,
+    S: Fn(&MakerOf<T>, &mut P, usize, Position) -> PResult<T::Stmt>,
+    E: Fn(&MakerOf<T>, &mut P, usize, Reading) -> PResult<Cover<T::Expr>>,
+    N: Fn(&MakerOf<T>, &mut P, usize, Part) -> PResult<T::Pat>,
+>(g: &Grammar<S, E, N>, t: &MakerOf<T>, p: &mut P) -> PResult<Option<T::Stmt>>
+    requires { Nests P.seen T.expr_of T.pat_of T.stmt_of g.now.depth (S.pre g.now.stmt) (S.post g.now.stmt) (E.pre g.now.expr) (E.post g.now.expr) (N.pre g.now.pat) (N.post g.now.pat) }
+    ensures { GivesAs (part_of T.stmt_of) (rules.alternative (rules.stmt g.now.depth sub_statement) (P.seen p.old)) result (P.seen p.new) }
+{
+    if !p.sees(TokenKind::Else) {
+        return Ok(None);
+    }
+    p.skip()?;
+    let alt = (g.stmt)(t, p, g.depth, SUB_STATEMENT)?;
+    Ok(Some(alt))
+}
+
+/// Whether one more `if` of a chain stands behind a link.
+#[tactic(auto, unfolding(swc_ecma_parser_reader::specs::Reader::goes_on))]
+fn goes_on<P: Source>(p: &P) -> bool
+    ensures { result ≡ rules.goes_on (P.seen p.now).at }
+{
+    p.sees(TokenKind::Else) && p.next_sees(TokenKind::If)
+}
+
+/// An `if` up to what was read last, with what stands behind its `else`.
+fn closed<P: Source, T: BuildsControl>(
+    alloc: Global,
+    p: &mut P,
+    link: Link<T::Expr, T::Stmt>,
+    alt: Option<T::Stmt>,
+) -> PResult<T::Stmt>
+    ensures made { IfOk result (λ x. T.stmt_of x ≡ closed_as (P.seen p.old).at.last (link_of T.expr_of T.stmt_of link) (part_of T.stmt_of alt)) }
+    ensures state { IfOk result (λ x. P.seen p.new ≡ P.seen p.old) }
+    ensures err { IfErr result IsOutOfMemory }
+{
+    let Link { start, test, cons } = link;
+    let span = since(p, start);
+    grown(p, T::if_stmt(alloc, span, test, cons, alt))
+}
+
+/// A chain around what stands behind its last `else`.
+#[tactic(auto, using(crate::proofs::Links::around_push, std::proofs::lemmas::List::map_push))]
+fn enclosed<P: Source, T: BuildsControl>(
+    alloc: Global,
+    p: &mut P,
+    mut links: Vec<Link<T::Expr, T::Stmt>>,
+    last: T::Stmt,
+) -> PResult<T::Stmt>
+    ensures made { IfOk result (λ x. T.stmt_of x ≡ around (P.seen p.old).at.last (map (link_of T.expr_of T.stmt_of) links.items) (T.stmt_of last)) }
+    ensures state { IfOk result (λ x. P.seen p.new ≡ P.seen p.old) }
+    ensures err { IfErr result IsOutOfMemory }
+{
+    let mut stmt = last;
+    'links: while let Some(link) = links.pop() {
+        stmt = closed::<P, T>(alloc, p, link, Some(stmt))?;
+    }
+    Ok(stmt)
+}
+
+/// An `if` statement.
+pub fn if_stmt<
+    P: Source,
+    T: BuildsControl,
+    S: Fn(&MakerOf<T>, &mut P, usize, Position) -> PResult<T::Stmt>,
+    E: Fn(&MakerOf<T>, &mut P, usize, Reading) -> PResult<Cover<T::Expr>>,
+    N: Fn(&MakerOf<T>, &mut P, usize, Part) -> PResult<T::Pat>,
+>(g: &Grammar<S, E, N>, t: &MakerOf<T>, p: &mut P) -> PResult<T::Stmt>
+    requires { Nests P.seen T.expr_of T.pat_of T.stmt_of g.now.depth (S.pre g.now.stmt) (S.post g.now.stmt) (E.pre g.now.expr) (E.post g.now.expr) (N.pre g.now.pat) (N.post g.now.pat) }
+    ensures { GivesAs T.stmt_of (rules.if_stmt (rules.stmt g.now.depth sub_statement) (rules.expr g.now.depth expression) (P.seen p.old)) result (P.seen p.new) }
+{
+    let mut links = Vec::new(t.alloc);
+    'links: loop {
+        let link = next_link(g, t, p)?;
+        if !goes_on(p) {
+            let alt = alternative(g, t, p)?;
+            let last = closed::<P, T>(t.alloc, p, link, alt)?;
+            return enclosed::<P, T>(t.alloc, p, links, last);
+        }
+        p.skip()?;
+        pushed(p, &mut links, link)?;
+    }
+}

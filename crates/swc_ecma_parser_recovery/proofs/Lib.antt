@@ -1,0 +1,2 @@
+pub mod Dropped
+mod UpToEnd
