@@ -23,7 +23,7 @@ use Rattle.swc_ecma_parser_grammar.specs.Walk.{walk, env_of}
 use Rattle.swc_ecma_parser_reader.specs.State.{State, Outcome}
 use Rattle.swc_ecma_parser_reader.specs.Entry.{unmarked, SoundScript, script_walk}
 use Rattle.swc_ecma_parser_state.specs.Opened.{opened}
-use Rattle.swc_ecma_parser_spelled.specs.Completes.{CompletesScript}
+use Rattle.swc_ecma_parser_exactness.specs.Completes.{CompletesScript}
 use Rattle.ecma_report.specs.Spelled.{start_of, Spells}
 use Rattle.ecma_bench.specs.declared.fault.Fault.{Fault}
 use Rattle.ecma_bench.specs.declared.fault.Fault.TheVariants as fault

@@ -14,7 +14,7 @@ use Rattle.swc_ecma_parser_reader.specs.Entry.{unmarked}
 use Rattle.swc_ecma_parser_module_reader.specs.Modules.{module_code}
 use Rattle.swc_ecma_parser_module_reader.specs.Entry.{IsEntered}
 use Rattle.swc_ecma_parser_module_reader.proofs.Entered.{settled}
-use Rattle.swc_ecma_parser_spelled.specs.ModuleDecides.{DecidesModule}
+use Rattle.swc_ecma_parser_exactness.specs.ModuleDecides.{DecidesModule}
 use Rattle.ecma_report.specs.declared.answer.Verdict.TheVariants as verdict
 use Rattle.ecma_report.specs.Lines.{seen, answer_lines}
 use Rattle.ecma_report.specs.Spelled.{start_of, SpellsModule, outside, first_place}

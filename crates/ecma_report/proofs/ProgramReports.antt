@@ -14,7 +14,7 @@ use Rattle.swc_ecma_parser_reader.specs.Entry.{unmarked}
 use Rattle.swc_ecma_parser_module_reader.specs.Programs.{program_code}
 use Rattle.swc_ecma_parser_module_reader.specs.ProgramEntry.{ReadsProgram}
 use Rattle.swc_ecma_parser_module_reader.proofs.Entered.{none_noted}
-use Rattle.swc_ecma_parser_spelled.specs.ModuleDecides.{DecidesProgram}
+use Rattle.swc_ecma_parser_exactness.specs.ModuleDecides.{DecidesProgram}
 use Rattle.ecma_report.specs.declared.answer.Verdict.TheVariants as verdict
 use Rattle.ecma_report.specs.Lines.{seen, answer_lines}
 use Rattle.ecma_report.specs.Spelled.{start_of, SpellsProgram}

@@ -15,8 +15,8 @@ use Rattle.swc_ecma_parser_ast.specs.declared.script.Script.{Script}
 use Rattle.swc_ecma_parser_ast.specs.View.{view_script}
 use Rattle.swc_ecma_parser_grammar.specs.language.Programs as programs
 use Rattle.swc_ecma_parser_reader.specs.State.{State}
-use Rattle.swc_ecma_parser_spelled.specs.Decides.{DecidesScript}
-use Rattle.swc_ecma_parser_spelled.specs.Supports.{Ordered}
+use Rattle.swc_ecma_parser_exactness.specs.Decides.{DecidesScript}
+use Rattle.swc_ecma_parser_exactness.specs.Supports.{Ordered}
 use Rattle.swc_ecma_parser_state.specs.Opened.{opened}
 use Rattle.swc_ecma_parser_reader.specs.Entry.{unmarked}
 use Rattle.ecma_report.specs.declared.answer.Verdict.TheVariants as verdict

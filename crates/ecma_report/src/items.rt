@@ -9,7 +9,7 @@ ghost use Rattle.swc_ecma_parser_module_reader.specs.ItemEntry.{SoundItemAlone};
 ghost use Rattle.swc_ecma_parser_reader.specs.State.{State};
 ghost use Rattle.swc_ecma_parser_reader.specs.Entry.{unmarked};
 ghost use Rattle.ecma_report.specs.Lines.{answer_lines, seen};
-ghost use Rattle.swc_ecma_parser_spelled.specs.Completes.{CompletesItem};
+ghost use Rattle.swc_ecma_parser_exactness.specs.Completes.{CompletesItem};
 
 use crate::answer::discard;
 use crate::lines::Whole;

@@ -10,7 +10,7 @@ ghost use Rattle.swc_ecma_parser_module_reader.specs.Entry.{IsEntered, SoundModu
 ghost use Rattle.swc_ecma_parser_reader.specs.State.{State};
 ghost use Rattle.swc_ecma_parser_reader.specs.Entry.{unmarked};
 ghost use Rattle.ecma_report.specs.Lines.{form_name, item_line, item_lines, answer_lines, seen};
-ghost use Rattle.swc_ecma_parser_spelled.specs.Completes.{CompletesModule};
+ghost use Rattle.swc_ecma_parser_exactness.specs.Completes.{CompletesModule};
 
 use crate::answer::discard;
 use crate::lines::{Whole, kind_name, write_node};

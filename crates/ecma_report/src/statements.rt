@@ -8,7 +8,7 @@ ghost use Rattle.swc_ecma_parser_model.specs.Held.{Held};
 ghost use Rattle.swc_ecma_parser_reader.specs.State.{State};
 ghost use Rattle.swc_ecma_parser_reader.specs.Entry.{unmarked, SoundStatement};
 ghost use Rattle.ecma_report.specs.Lines.{statement_lines, seen};
-ghost use Rattle.swc_ecma_parser_spelled.specs.Completes.{CompletesStatement};
+ghost use Rattle.swc_ecma_parser_exactness.specs.Completes.{CompletesStatement};
 
 use crate::lines::lines_of_statement;
 use std::alloc::{AllocError, Global};

@@ -9,7 +9,7 @@ ghost use Rattle.swc_ecma_parser_model.specs.Held.{Held};
 ghost use Rattle.swc_ecma_parser_reader.specs.State.{State};
 ghost use Rattle.swc_ecma_parser_reader.specs.Entry.{unmarked, SoundScript};
 ghost use Rattle.ecma_report.specs.Lines.{answer_lines, seen};
-ghost use Rattle.swc_ecma_parser_spelled.specs.Completes.{CompletesScript};
+ghost use Rattle.swc_ecma_parser_exactness.specs.Completes.{CompletesScript};
 
 use crate::answer::discard;
 use crate::lines::{Whole, lines};

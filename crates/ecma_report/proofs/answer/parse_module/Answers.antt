@@ -1,7 +1,7 @@
 -- The report is that of the answer, and the parser began at the text.
 use Rattle.std.proofs.Common.{◌≡◌, refl, sym, ◌∙◌, subst}
 use Rattle.swc_ecma_parser_ast.specs.View.{view_module}
-use Rattle.swc_ecma_parser_spelled.specs.ModuleDecides.{DecidesModule}
+use Rattle.swc_ecma_parser_exactness.specs.ModuleDecides.{DecidesModule}
 use Rattle.ecma_report.specs.Lines.{seen}
 use Rattle.ecma_report.specs.Spelled.{start_of}
 use Rattle.ecma_report.proofs.ModuleReports.{clean_module_is_spelled, spelled_module_is_clean}

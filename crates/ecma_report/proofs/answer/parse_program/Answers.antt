@@ -2,7 +2,7 @@
 use Rattle.std.proofs.Common.{◌≡◌, refl, sym, ◌∙◌, subst}
 use Rattle.swc_ecma_parser_ast.specs.View.{view_program}
 use Rattle.swc_ecma_parser_reader.specs.Entry.{unmarked}
-use Rattle.swc_ecma_parser_spelled.specs.ModuleDecides.{DecidesProgram}
+use Rattle.swc_ecma_parser_exactness.specs.ModuleDecides.{DecidesProgram}
 use Rattle.ecma_report.specs.Lines.{seen}
 use Rattle.ecma_report.specs.Spelled.{start_of}
 use Rattle.ecma_report.proofs.ProgramReports.{clean_program_is_spelled, spelled_program_is_clean}

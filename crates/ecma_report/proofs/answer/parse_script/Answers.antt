@@ -2,7 +2,7 @@
 use Rattle.std.proofs.Common.{◌≡◌, refl, sym, ◌∙◌, subst}
 use Rattle.swc_ecma_parser_ast.specs.View.{view_script}
 use Rattle.swc_ecma_parser_reader.specs.Entry.{unmarked}
-use Rattle.swc_ecma_parser_spelled.specs.Decides.{DecidesScript}
+use Rattle.swc_ecma_parser_exactness.specs.Decides.{DecidesScript}
 use Rattle.ecma_report.specs.Lines.{seen}
 use Rattle.ecma_report.specs.Spelled.{start_of}
 use Rattle.ecma_report.proofs.Reported.{neither, clean_is_spelled, spelled_is_clean, clean_report, spelled_report, reported_with}

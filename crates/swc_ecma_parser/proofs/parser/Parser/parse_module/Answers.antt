@@ -1,7 +1,7 @@
 use Rattle.swc_ecma_parser_ast.specs.View.{view_module}
 use Rattle.swc_ecma_parser_module_reader.proofs.Answers as modules
-use Rattle.swc_ecma_parser_spelled.proofs.Completed.{module_completes}
-use Rattle.swc_ecma_parser_spelled.proofs.Decided.{module_decided}
+use Rattle.swc_ecma_parser_exactness.proofs.Completed.{module_completes}
+use Rattle.swc_ecma_parser_exactness.proofs.Decided.{module_decided}
 use Rattle.std.proofs.Common.{ap, ◌∙◌}
 use Rattle.swc_ecma_parser_forward.specs.Forward.{in_order}
 use Rattle.swc_ecma_parser_module_forward.proofs.Entries.{module_answers_forward}

@@ -1,8 +1,8 @@
 use Rattle.swc_ecma_parser_ast.specs.View.{view_module_item}
 use Rattle.swc_ecma_parser_reader.specs.Entry.{unmarked}
 use Rattle.swc_ecma_parser_module_reader.proofs.ItemEntries as items
-use Rattle.swc_ecma_parser_spelled.proofs.Completed.{item_completes}
-use Rattle.swc_ecma_parser_spelled.proofs.Decided.{item_decided}
+use Rattle.swc_ecma_parser_exactness.proofs.Completed.{item_completes}
+use Rattle.swc_ecma_parser_exactness.proofs.Decided.{item_decided}
 use Rattle.swc_ecma_parser_module_forward.proofs.Entries.{item_answers_forward}
 use Rattle.swc_ecma_parser.proofs.parser.Parser.parse_module_item.Goals as goal
 

@@ -2,8 +2,8 @@ use Rattle.swc_ecma_parser_ast.specs.View.{view_program}
 use Rattle.swc_ecma_parser_reader.specs.Entry.{unmarked}
 use Rattle.swc_ecma_parser_module_reader.proofs.Programs as programs
 use Rattle.swc_ecma_parser_module_reader.proofs.ProgramAnswers as answers
-use Rattle.swc_ecma_parser_spelled.proofs.Completed.{program_completes}
-use Rattle.swc_ecma_parser_spelled.proofs.Decided.{program_decided}
+use Rattle.swc_ecma_parser_exactness.proofs.Completed.{program_completes}
+use Rattle.swc_ecma_parser_exactness.proofs.Decided.{program_decided}
 use Rattle.swc_ecma_parser_module_forward.proofs.Entries.{program_answers_forward}
 use Rattle.swc_ecma_parser.proofs.parser.Parser.parse_program.Goals as goal
 

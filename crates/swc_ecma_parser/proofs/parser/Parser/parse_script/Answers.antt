@@ -3,10 +3,10 @@ use Rattle.swc_ecma_parser_ast.specs.View.{view_script}
 use Rattle.swc_ecma_parser_reader.specs.Entry.{unmarked}
 use Rattle.swc_ecma_parser_reader.proofs.Entries as entries
 use Rattle.swc_ecma_parser_reader.proofs.Keeps as keeps
-use Rattle.swc_ecma_parser_spelled.proofs.Completed.{script_completes}
-use Rattle.swc_ecma_parser_spelled.proofs.Decided.{script_decided}
-use Rattle.swc_ecma_parser_spelled.specs.Completes.{CompletesScript}
-use Rattle.swc_ecma_parser_spelled.specs.Decides.{DecidesScript}
+use Rattle.swc_ecma_parser_exactness.proofs.Completed.{script_completes}
+use Rattle.swc_ecma_parser_exactness.proofs.Decided.{script_decided}
+use Rattle.swc_ecma_parser_exactness.specs.Completes.{CompletesScript}
+use Rattle.swc_ecma_parser_exactness.specs.Decides.{DecidesScript}
 use Rattle.swc_ecma_parser_forward.proofs.Entries.{script_answers_forward}
 use Rattle.swc_ecma_parser.proofs.parser.Parser.parse_script.Goals as goal
 

@@ -3,8 +3,8 @@ use Rattle.swc_ecma_parser_ast.specs.View.{view_stmt}
 use Rattle.swc_ecma_parser_reader.specs.Entry.{unmarked}
 use Rattle.swc_ecma_parser_reader.proofs.Statements as statements
 use Rattle.swc_ecma_parser_reader.proofs.Keeps as keeps
-use Rattle.swc_ecma_parser_spelled.proofs.Completed.{statement_completes}
-use Rattle.swc_ecma_parser_spelled.proofs.Decided.{statement_decided}
+use Rattle.swc_ecma_parser_exactness.proofs.Completed.{statement_completes}
+use Rattle.swc_ecma_parser_exactness.proofs.Decided.{statement_decided}
 use Rattle.swc_ecma_parser_forward.proofs.Entries.{statement_answers_forward}
 use Rattle.swc_ecma_parser.proofs.parser.Parser.parse_stmt_list_item.Goals as goal
 

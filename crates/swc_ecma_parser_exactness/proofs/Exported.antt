@@ -25,10 +25,10 @@ use Rattle.swc_ecma_parser_grammar.proofs.language.progress.Expressions as progr
 use Rattle.swc_ecma_parser_grammar.specs.Supported.{all_supported}
 use Rattle.swc_ecma_parser_module_reader.specs.Supported.{on_one_side, supported_beside, supported_decorated}
 use Rattle.swc_ecma_parser_module_reader.specs.Decorated.{none_before}
-use Rattle.swc_ecma_parser_spelled.specs.Supports.{WholeGoal, Ordered, is_astride}
-use Rattle.swc_ecma_parser_spelled.proofs.Wholes.{both, EachWhole, all_whole, list_whole, each_whole, parameters_whole}
-use Rattle.swc_ecma_parser_spelled.proofs.Parts.{WholeParts, WholeClass, decorator_whole, decorators_list}
-use Rattle.swc_ecma_parser_spelled.proofs.Ordered.{OrderedPast, advanced, onward, begins_later, behind_word}
+use Rattle.swc_ecma_parser_exactness.specs.Supports.{WholeGoal, Ordered, is_astride}
+use Rattle.swc_ecma_parser_exactness.proofs.Wholes.{both, EachWhole, all_whole, list_whole, each_whole, parameters_whole}
+use Rattle.swc_ecma_parser_exactness.proofs.Parts.{WholeParts, WholeClass, decorator_whole, decorators_list}
+use Rattle.swc_ecma_parser_exactness.proofs.Ordered.{OrderedPast, advanced, onward, begins_later, behind_word}
 
 -- ---- where decorators stand
 

@@ -7,7 +7,7 @@ use Rattle.swc_ecma_parser_grammar.specs.language.Programs as programs
 use Rattle.swc_ecma_parser_grammar.specs.language.Programs.{ReadsEntry}
 use Rattle.swc_ecma_parser_module_reader.specs.ProgramEntry.{ReadsProgram}
 use Rattle.swc_ecma_parser_module_reader.specs.Supported.{OrderedFor}
-use Rattle.swc_ecma_parser_spelled.specs.Supports.{needs_order_in}
+use Rattle.swc_ecma_parser_exactness.specs.Supports.{needs_order_in}
 
 abbrev pub OneScript : Type 0
 OneScript = (limit : ℕ) (k : Code) (x y : Tree) (c d e : Place) → ReadsEntry limit programs.script k x c d → ReadsEntry limit programs.script k y c e → (x ≡ y) × (d ≡ e)

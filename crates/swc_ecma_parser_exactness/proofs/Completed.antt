@@ -18,10 +18,10 @@ use Rattle.swc_ecma_parser_module_reader.specs.Supported.{is_led, any_led, any_l
 use Rattle.swc_ecma_parser_module_reader.proofs.Answers as modules
 use Rattle.swc_ecma_parser_module_reader.proofs.ItemEntries as items
 use Rattle.swc_ecma_parser_module_reader.proofs.Programs as whole_programs
-use Rattle.swc_ecma_parser_spelled.specs.Supports.{is_split, needs_order, any_needs_order, needs_order_in}
-use Rattle.swc_ecma_parser_spelled.specs.Completes.{CompletesScript, CompletesStatement, CompletesModule, CompletesItem, CompletesProgram}
-use Rattle.swc_ecma_parser_spelled.proofs.Entries.{read_entry, read_program}
-use Rattle.swc_ecma_parser_spelled.proofs.Exported.{first_of_two, second_of_two}
+use Rattle.swc_ecma_parser_exactness.specs.Supports.{is_split, needs_order, any_needs_order, needs_order_in}
+use Rattle.swc_ecma_parser_exactness.specs.Completes.{CompletesScript, CompletesStatement, CompletesModule, CompletesItem, CompletesProgram}
+use Rattle.swc_ecma_parser_exactness.proofs.Entries.{read_entry, read_program}
+use Rattle.swc_ecma_parser_exactness.proofs.Exported.{first_of_two, second_of_two}
 
 -- ---- an export that begins behind decorators asks for order
 

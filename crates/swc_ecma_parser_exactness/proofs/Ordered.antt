@@ -11,7 +11,7 @@ use Rattle.swc_ecma_parser_grammar.specs.Looks.{first_kind, kind_at, first_span,
 use Rattle.swc_ecma_parser_grammar.specs.language.Laws.{Advances}
 use Rattle.swc_ecma_parser_grammar.proofs.Tests.{and_yes, and_both}
 use Rattle.swc_ecma_parser_grammar.proofs.language.progress.Steps.{Onward, stays, goes, is_some}
-use Rattle.swc_ecma_parser_spelled.specs.Supports.{Ordered}
+use Rattle.swc_ecma_parser_exactness.specs.Supports.{Ordered}
 
 -- tokens in order from a position on, and from no earlier one
 pub record OrderedPast (at : ℕ) (ts : List TokenAndSpan) : Type 0 where

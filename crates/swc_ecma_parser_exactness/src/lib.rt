@@ -1,8 +1,8 @@
-//! What the language reads is supported: proofs alone.
+//! What the reader gives is exactly what the language reads, so that each entry of the parser decides: proofs alone.
 #![tactic(auto)]
 
-ghost use Rattle.swc_ecma_parser_spelled.specs.Supports.{ReadIsSupported, ReadEntryIsSupported, ReadProgramIsSupported};
-ghost use Rattle.swc_ecma_parser_spelled.specs.Unique.{OneScript, OneModule, OneProgram};
+ghost use Rattle.swc_ecma_parser_exactness.specs.Supports.{ReadIsSupported, ReadEntryIsSupported, ReadProgramIsSupported};
+ghost use Rattle.swc_ecma_parser_exactness.specs.Unique.{OneScript, OneModule, OneProgram};
 
 /// A law: whatever the grammar of the whole language reads is supported, and so is what any entry reads of tokens that are in order
 /// where an export has decorators.

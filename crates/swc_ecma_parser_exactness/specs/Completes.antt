@@ -16,7 +16,7 @@ use Rattle.swc_ecma_parser_module_reader.specs.Entry.{module_walk, module_left}
 use Rattle.swc_ecma_parser_module_reader.specs.ItemEntry.{item_walk, GivesItem}
 use Rattle.swc_ecma_parser_module_reader.specs.ProgramEntry.{ReadsProgram, program_walk, GivesProgram}
 use Rattle.swc_ecma_parser_module_reader.specs.Supported.{OrderedFor}
-use Rattle.swc_ecma_parser_spelled.specs.Supports.{needs_order, needs_order_in}
+use Rattle.swc_ecma_parser_exactness.specs.Supports.{needs_order, needs_order_in}
 
 abbrev pub CompletesScript : {X : Type 0} → (X → Tree) → ℕ → State → Result X Error → State → Type 0
 CompletesScript view limit s result t =

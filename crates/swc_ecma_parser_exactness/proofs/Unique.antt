@@ -13,10 +13,10 @@ use Rattle.swc_ecma_parser_module_reader.specs.Programs.{program_code}
 use Rattle.swc_ecma_parser_module_reader.specs.Supported.{OrderedFor}
 use Rattle.swc_ecma_parser_module_reader.proofs.Unique as modules
 use Rattle.swc_ecma_parser_module_reader.proofs.UniquePrograms as whole_programs
-use Rattle.swc_ecma_parser_spelled.specs.Supports.{needs_order_in}
-use Rattle.swc_ecma_parser_spelled.specs.Unique.{OneScript, OneModule, OneProgram}
-use Rattle.swc_ecma_parser_spelled.proofs.Completed.{never, led_in}
-use Rattle.swc_ecma_parser_spelled.proofs.Entries.{read_entry, read_program}
+use Rattle.swc_ecma_parser_exactness.specs.Supports.{needs_order_in}
+use Rattle.swc_ecma_parser_exactness.specs.Unique.{OneScript, OneModule, OneProgram}
+use Rattle.swc_ecma_parser_exactness.proofs.Completed.{never, led_in}
+use Rattle.swc_ecma_parser_exactness.proofs.Entries.{read_entry, read_program}
 
 script_of : (limit : ℕ) (k : Code) (x : Tree) (c d : Place) → ReadsEntry limit programs.script k x c d → ReadsSupported limit k x c d
 script_of limit k x c d r = (r, read_entry limit programs.script k x c d 0 never r.0)

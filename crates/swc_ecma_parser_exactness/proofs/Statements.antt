@@ -19,9 +19,9 @@ use Rattle.swc_ecma_parser_grammar.specs.language.Statements as statements
 use Rattle.swc_ecma_parser_grammar.specs.language.Statements.{HeadRule, OperandRule, TargetRule, IfRule, ElseRule, CaseRule, CatchRule, FinallyRule, FormRule, StmtRule}
 use Rattle.swc_ecma_parser_grammar.proofs.Tests.{and_both}
 use Rattle.swc_ecma_parser_grammar.specs.Supported.{supported}
-use Rattle.swc_ecma_parser_spelled.specs.Supports.{Whole, WholeGoal}
-use Rattle.swc_ecma_parser_spelled.proofs.Wholes.{as_form, both, three, EachWhole, list_whole, each_whole, separated_whole}
-use Rattle.swc_ecma_parser_spelled.proofs.Parts.{name_supported, items_whole, block_whole, decorators_whole, function_whole, class_whole}
+use Rattle.swc_ecma_parser_exactness.specs.Supports.{Whole, WholeGoal}
+use Rattle.swc_ecma_parser_exactness.proofs.Wholes.{as_form, both, three, EachWhole, list_whole, each_whole, separated_whole}
+use Rattle.swc_ecma_parser_exactness.proofs.Parts.{name_supported, items_whole, block_whole, decorators_whole, function_whole, class_whole}
 
 -- the label of `break` and `continue`
 target_supported : {k : Code} {x : Tree} {c d : Place} → TargetRule k x c d → supported x ≡ true

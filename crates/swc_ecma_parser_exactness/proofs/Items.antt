@@ -23,11 +23,11 @@ use Rattle.swc_ecma_parser_grammar.specs.language.Laws.{Advances, begin, end}
 use Rattle.swc_ecma_parser_grammar.proofs.Tests.{and_both}
 use Rattle.swc_ecma_parser_grammar.specs.Supported.{supported}
 use Rattle.swc_ecma_parser_module_reader.specs.Supported.{supported_item}
-use Rattle.swc_ecma_parser_spelled.specs.Supports.{Whole, WholeGoal, Ordered, is_astride, needs_order}
-use Rattle.swc_ecma_parser_spelled.proofs.Wholes.{list_whole}
-use Rattle.swc_ecma_parser_spelled.proofs.Parts.{name_supported, function_parts, class_parts}
-use Rattle.swc_ecma_parser_spelled.proofs.Statements.{variables_whole, stmt_whole}
-use Rattle.swc_ecma_parser_spelled.proofs.Exported.{second_of_two, WholeFront, front_whole, class_decorated, function_decorated}
+use Rattle.swc_ecma_parser_exactness.specs.Supports.{Whole, WholeGoal, Ordered, is_astride, needs_order}
+use Rattle.swc_ecma_parser_exactness.proofs.Wholes.{list_whole}
+use Rattle.swc_ecma_parser_exactness.proofs.Parts.{name_supported, function_parts, class_parts}
+use Rattle.swc_ecma_parser_exactness.proofs.Statements.{variables_whole, stmt_whole}
+use Rattle.swc_ecma_parser_exactness.proofs.Exported.{second_of_two, WholeFront, front_whole, class_decorated, function_decorated}
 
 -- the form that an item is
 as_item : (x y : Tree) → x ≡ y → supported_item y ≡ true → supported_item x ≡ true

@@ -9,8 +9,8 @@ use Rattle.swc_ecma_parser_grammar.specs.language.Programs.{script_awaits, Spell
 use Rattle.swc_ecma_parser_reader.specs.Entry.{SoundScript, script_walk, script_left, SoundStatement, statement_entry, statement_walk, statement_left}
 use Rattle.swc_ecma_parser_reader.specs.State.{State, GivesAs, Outcome}
 use Rattle.swc_ecma_parser_reader.proofs.expressions.Covers.{same_answer}
-use Rattle.swc_ecma_parser_spelled.specs.Completes.{CompletesScript, CompletesStatement}
-use Rattle.swc_ecma_parser_spelled.specs.Decides.{IsAnswer, Decides, DecidesScript, DecidesStatement}
+use Rattle.swc_ecma_parser_exactness.specs.Completes.{CompletesScript, CompletesStatement}
+use Rattle.swc_ecma_parser_exactness.specs.Decides.{IsAnswer, Decides, DecidesScript, DecidesStatement}
 
 -- ---- lists of faults
 

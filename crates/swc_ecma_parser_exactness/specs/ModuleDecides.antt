@@ -11,7 +11,7 @@ use Rattle.swc_ecma_parser_grammar.specs.language.Programs as programs
 use Rattle.swc_ecma_parser_grammar.specs.language.Programs.{is_module_program, Spells}
 use Rattle.swc_ecma_parser_reader.specs.State.{State}
 use Rattle.swc_ecma_parser_module_reader.specs.ProgramEntry.{ReadsProgram, program_walk}
-use Rattle.swc_ecma_parser_spelled.specs.Decides.{IsAnswer, Decides}
+use Rattle.swc_ecma_parser_exactness.specs.Decides.{IsAnswer, Decides}
 
 -- This tree is the answer, read up to this place, with nothing recorded behind what was but what had been held back, where the tree
 -- makes module code.

@@ -9,7 +9,7 @@ use Rattle.swc_ecma_parser_grammar.specs.Reads.{ReadsSeparated}
 use Rattle.swc_ecma_parser_grammar.specs.language.Lists.{ReadsEach, ReadsListed, Elements, no_elements, hole, last_element, more_elements}
 use Rattle.swc_ecma_parser_grammar.proofs.Tests.{and_both}
 use Rattle.swc_ecma_parser_grammar.specs.Supported.{supported, all_supported, is_supported_key_in, is_supported_property_in}
-use Rattle.swc_ecma_parser_spelled.specs.Supports.{Whole}
+use Rattle.swc_ecma_parser_exactness.specs.Supports.{Whole}
 
 -- ---- trees
 

@@ -18,12 +18,12 @@ use Rattle.swc_ecma_parser_grammar.proofs.language.progress.Statements.{progress
 use Rattle.swc_ecma_parser_grammar.proofs.Tests.{and_both}
 use Rattle.swc_ecma_parser_grammar.specs.Supported.{supported}
 use Rattle.swc_ecma_parser_module_reader.specs.Supported.{supported_item, all_supported_items, supported_module, supported_program}
-use Rattle.swc_ecma_parser_spelled.specs.Supports.{Whole, WholeGoal, Ordered, needs_order, any_needs_order, needs_order_in, supported_entry, ordered_entry, ReadEntryIsSupported, ReadProgramIsSupported}
-use Rattle.swc_ecma_parser_spelled.proofs.Wholes.{list_whole}
-use Rattle.swc_ecma_parser_spelled.proofs.Parts.{items_whole}
-use Rattle.swc_ecma_parser_spelled.proofs.Ordered.{advanced, onward, from_outset}
-use Rattle.swc_ecma_parser_spelled.proofs.Exported.{first_of_two, second_of_two}
-use Rattle.swc_ecma_parser_spelled.proofs.Goals.{reads_whole}
+use Rattle.swc_ecma_parser_exactness.specs.Supports.{Whole, WholeGoal, Ordered, needs_order, any_needs_order, needs_order_in, supported_entry, ordered_entry, ReadEntryIsSupported, ReadProgramIsSupported}
+use Rattle.swc_ecma_parser_exactness.proofs.Wholes.{list_whole}
+use Rattle.swc_ecma_parser_exactness.proofs.Parts.{items_whole}
+use Rattle.swc_ecma_parser_exactness.proofs.Ordered.{advanced, onward, from_outset}
+use Rattle.swc_ecma_parser_exactness.proofs.Exported.{first_of_two, second_of_two}
+use Rattle.swc_ecma_parser_exactness.proofs.Goals.{reads_whole}
 
 -- ---- lists of items
 

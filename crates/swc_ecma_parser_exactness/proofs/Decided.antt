@@ -13,13 +13,13 @@ use Rattle.swc_ecma_parser_module_reader.specs.ProgramEntry.{AnswersProgram}
 use Rattle.swc_ecma_parser_module_reader.proofs.Answers as modules
 use Rattle.swc_ecma_parser_module_reader.proofs.ItemEntries as items
 use Rattle.swc_ecma_parser_module_reader.proofs.Programs as whole_programs
-use Rattle.swc_ecma_parser_spelled.specs.Supports.{Ordered}
-use Rattle.swc_ecma_parser_spelled.specs.Decides.{DecidesScript, DecidesStatement}
-use Rattle.swc_ecma_parser_spelled.specs.ModuleDecides.{DecidesModule, DecidesItem, DecidesProgram}
-use Rattle.swc_ecma_parser_spelled.proofs.Ordered.{from_outset}
-use Rattle.swc_ecma_parser_spelled.proofs.Completed.{script_completes, statement_completes, item_completes, program_completes, module_completes}
-use Rattle.swc_ecma_parser_spelled.proofs.Decides.{script_decides, statement_decides}
-use Rattle.swc_ecma_parser_spelled.proofs.ModuleDecides.{module_decides, item_decides, program_decides}
+use Rattle.swc_ecma_parser_exactness.specs.Supports.{Ordered}
+use Rattle.swc_ecma_parser_exactness.specs.Decides.{DecidesScript, DecidesStatement}
+use Rattle.swc_ecma_parser_exactness.specs.ModuleDecides.{DecidesModule, DecidesItem, DecidesProgram}
+use Rattle.swc_ecma_parser_exactness.proofs.Ordered.{from_outset}
+use Rattle.swc_ecma_parser_exactness.proofs.Completed.{script_completes, statement_completes, item_completes, program_completes, module_completes}
+use Rattle.swc_ecma_parser_exactness.proofs.Decides.{script_decides, statement_decides}
+use Rattle.swc_ecma_parser_exactness.proofs.ModuleDecides.{module_decides, item_decides, program_decides}
 
 module _ (X : Type 0) (view : X → Tree) (limit : ℕ) (s : State) (r : Result X Error) (t : State) where
   pub script_decided : AnswersScript view limit s r t → DecidesScript view limit s r t

@@ -14,9 +14,9 @@ use Rattle.swc_ecma_parser_reader.specs.State.{State}
 use Rattle.swc_ecma_parser_module_reader.specs.Entry.{SoundModule, module_walk, module_left}
 use Rattle.swc_ecma_parser_module_reader.specs.ItemEntry.{SoundItemAlone}
 use Rattle.swc_ecma_parser_module_reader.specs.ProgramEntry.{SoundProgram, ReadsProgram, program_walk}
-use Rattle.swc_ecma_parser_spelled.specs.Completes.{CompletesModule, CompletesItem, CompletesProgram}
-use Rattle.swc_ecma_parser_spelled.specs.ModuleDecides.{DecidesModule, DecidesItem, DecidesProgram}
-use Rattle.swc_ecma_parser_spelled.proofs.Decides.{none_behind, moved, decides, no_faults}
+use Rattle.swc_ecma_parser_exactness.specs.Completes.{CompletesModule, CompletesItem, CompletesProgram}
+use Rattle.swc_ecma_parser_exactness.specs.ModuleDecides.{DecidesModule, DecidesItem, DecidesProgram}
+use Rattle.swc_ecma_parser_exactness.proofs.Decides.{none_behind, moved, decides, no_faults}
 
 -- ---- lists of faults
 

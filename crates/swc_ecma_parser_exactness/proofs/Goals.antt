@@ -3,11 +3,11 @@ use Rattle.std.proofs.Common.{zero, suc}
 use Rattle.swc_ecma_parser_grammar.specs.language.Goals.{expr_goal, callee_goal, pattern_goal, element_goal, stmt_goal, member_goal, decorator_goal, using_goal, attributes_goal, item_goal}
 use Rattle.swc_ecma_parser_grammar.specs.language.Reads.{Reads}
 use Rattle.swc_ecma_parser_grammar.proofs.language.progress.Statements.{progress}
-use Rattle.swc_ecma_parser_spelled.specs.Supports.{ReadIsSupported}
-use Rattle.swc_ecma_parser_spelled.proofs.Parts.{member_whole}
-use Rattle.swc_ecma_parser_spelled.proofs.Expressions.{primary_whole, left_whole, pattern_whole, pattern_element_whole, expr_whole, decorated_whole}
-use Rattle.swc_ecma_parser_spelled.proofs.Statements.{using_name_whole, stmt_whole}
-use Rattle.swc_ecma_parser_spelled.proofs.Items.{item_whole}
+use Rattle.swc_ecma_parser_exactness.specs.Supports.{ReadIsSupported}
+use Rattle.swc_ecma_parser_exactness.proofs.Parts.{member_whole}
+use Rattle.swc_ecma_parser_exactness.proofs.Expressions.{primary_whole, left_whole, pattern_whole, pattern_element_whole, expr_whole, decorated_whole}
+use Rattle.swc_ecma_parser_exactness.proofs.Statements.{using_name_whole, stmt_whole}
+use Rattle.swc_ecma_parser_exactness.proofs.Items.{item_whole}
 
 pub reads_whole : ReadIsSupported
 reads_whole zero g h = absurd h
