@@ -22,6 +22,7 @@ use swc_ecma_parser_input::Tokens;
 use swc_ecma_parser_module_items::decorated::begins_decorators;
 use swc_ecma_parser_module_items::items::{item_behind, module_body, module_item};
 use swc_ecma_parser_module_items::programs::begins_module;
+use swc_ecma_parser_source::Source;
 use swc_ecma_parser_state::State;
 use swc_ecma_parser_trees::{
     BuildsExport, BuildsScript, BuildsStatements, BuildsVarDecl, Maker, MakerOf,

@@ -10,6 +10,7 @@ use swc_ecma_parser_error::PResult;
 use swc_ecma_parser_inner::steps::since;
 use swc_ecma_parser_input::{Context, Tokens};
 use swc_ecma_parser_module_items::programs::{items_from, statements};
+use swc_ecma_parser_source::Source;
 use swc_ecma_parser_state::State;
 use swc_ecma_parser_token::TokenKind;
 use swc_ecma_parser_trees::{BuildsExport, BuildsStatements, BuildsVarDecl, MakerOf};
