@@ -2,10 +2,8 @@
 //! (sections 11 to 16). What it promises stands on the functions of [`Parser`].
 #![tactic(auto)]
 
-mod entry;
 mod lexing;
 mod parser;
-mod program;
 
 pub use parser::Parser;
 pub use swc_ecma_parser_ast as ast;

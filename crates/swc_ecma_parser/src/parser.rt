@@ -22,12 +22,12 @@ ghost use Rattle.swc_ecma_parser_state.specs.Opened.{opened};
 ghost use Rattle.swc_ecma_parser_token.specs.declared.token.Token.TheVariants as token;
 ghost use Rattle.swc_ecma_parser_token.specs.declared.token.TokenAndSpan.{TokenAndSpan};
 
-use crate::entry::{item, module, program, script, statement};
 use std::alloc::Global;
 use std::marker::Model;
 use swc_ecma_parser_ast::{Module, ModuleItem, Program, Script, Stmt};
 use swc_ecma_parser_ast_trees::Ast;
 use swc_ecma_parser_common::Comment;
+use swc_ecma_parser_entries::entry::{item, module, program, script, statement};
 use swc_ecma_parser_error::{Error, PResult};
 use swc_ecma_parser_grammar::Position;
 use swc_ecma_parser_input::{CommentSource, Tokens};

@@ -1,6 +1,6 @@
 use Rattle.std.proofs.Common.{sym, ap, ◌∙◌}
 use Rattle.swc_ecma_parser_module_reader.specs.Items.{item_whole}
-use Rattle.swc_ecma_parser.proofs.entry.item.Goals as goal
+use Rattle.swc_ecma_parser_entries.proofs.entry.item.Goals as goal
 
 pub returns-in-Ok-clause-answers : goal.returns-in-Ok-clause-answers
 returns-in-Ok-clause-answers g c =

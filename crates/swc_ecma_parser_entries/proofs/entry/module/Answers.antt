@@ -2,7 +2,7 @@ use Rattle.std.proofs.Common.{subst}
 use Rattle.swc_ecma_parser_reader.specs.Entry.{unmarked}
 use Rattle.swc_ecma_parser_module_reader.specs.Entry.{IsEntered}
 use Rattle.swc_ecma_parser_module_reader.proofs.Entered.{module_answered, module_refused}
-use Rattle.swc_ecma_parser.proofs.entry.module.Goals as goal
+use Rattle.swc_ecma_parser_entries.proofs.entry.module.Goals as goal
 
 pub returns-in-Ok-clause-answers : goal.returns-in-Ok-clause-answers
 returns-in-Ok-clause-answers g c =

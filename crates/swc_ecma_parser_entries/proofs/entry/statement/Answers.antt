@@ -1,6 +1,6 @@
 use Rattle.std.proofs.Common.{sym, ap, ◌∙◌}
 use Rattle.swc_ecma_parser_reader.specs.Reader.{whole_stmt}
-use Rattle.swc_ecma_parser.proofs.entry.statement.Goals as goal
+use Rattle.swc_ecma_parser_entries.proofs.entry.statement.Goals as goal
 
 pub returns-in-Err-clause-answers : goal.returns-in-Err-clause-answers
 returns-in-Err-clause-answers g c = λ h. (

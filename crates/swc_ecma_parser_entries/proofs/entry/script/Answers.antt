@@ -4,7 +4,7 @@ use Rattle.swc_ecma_parser_reader.specs.State.{coded}
 use Rattle.swc_ecma_parser_reader.specs.Entry.{unmarked}
 use Rattle.swc_ecma_parser_reader.specs.Reader.{script_body}
 use Rattle.swc_ecma_parser_reader.proofs.Entries.{script_refused}
-use Rattle.swc_ecma_parser.proofs.entry.script.Goals as goal
+use Rattle.swc_ecma_parser_entries.proofs.entry.script.Goals as goal
 
 pub returns-in-Err-clause-answers : goal.returns-in-Err-clause-answers
 returns-in-Err-clause-answers g c = λ h. (

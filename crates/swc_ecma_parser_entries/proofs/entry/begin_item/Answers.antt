@@ -1,6 +1,6 @@
 use Rattle.std.proofs.Common.{[], refl, sym, ◌∙◌}
 use Rattle.swc_ecma_parser_module_reader.specs.Items.{begun_item}
-use Rattle.swc_ecma_parser.proofs.entry.begin_item.Goals as goal
+use Rattle.swc_ecma_parser_entries.proofs.entry.begin_item.Goals as goal
 
 -- a statement leaves the code as it is
 pub returns-then-not-begins_module : goal.returns-then-not-begins_module

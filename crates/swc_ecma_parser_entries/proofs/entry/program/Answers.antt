@@ -2,8 +2,8 @@ use Rattle.std.proofs.Common.{ap, ◌∙◌}
 use Rattle.swc_ecma_parser_reader.specs.State.{coded}
 use Rattle.swc_ecma_parser_reader.specs.Entry.{unmarked}
 use Rattle.swc_ecma_parser_module_reader.specs.Programs.{program_code}
-use Rattle.swc_ecma_parser.proofs.SetBack.{program_refused}
-use Rattle.swc_ecma_parser.proofs.entry.program.Goals as goal
+use Rattle.swc_ecma_parser_entries.proofs.SetBack.{program_refused}
+use Rattle.swc_ecma_parser_entries.proofs.entry.program.Goals as goal
 
 pub returns-in-Err-clause-answers : goal.returns-in-Err-clause-answers
 returns-in-Err-clause-answers g c =

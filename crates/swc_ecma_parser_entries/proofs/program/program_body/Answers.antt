@@ -12,7 +12,7 @@ use Rattle.swc_ecma_parser_module_items.specs.Front.{front_of}
 use Rattle.swc_ecma_parser_module_reader.proofs.EmptyPrograms.{nothing_before, none_mapped}
 use Rattle.swc_ecma_parser_module_reader.proofs.ProgramCode.{front_module}
 use Rattle.swc_ecma_parser_module_reader.proofs.ProgramLoops.{answers_first, answers_before, answers_script, answers_module, answers_behind}
-use Rattle.swc_ecma_parser.proofs.program.program_body.Goals as goal
+use Rattle.swc_ecma_parser_entries.proofs.program.program_body.Goals as goal
 
 pub returns-in_err-shebang-clause-answers : goal.returns-in_err-shebang-clause-answers
 returns-in_err-shebang-clause-answers g c =

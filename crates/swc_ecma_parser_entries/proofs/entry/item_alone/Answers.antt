@@ -1,7 +1,7 @@
 use Rattle.std.proofs.Common.{sym, ◌∙◌}
 use Rattle.std.proofs.lemmas.Result.{err_from_is_err_and}
-use Rattle.swc_ecma_parser.proofs.ItemAlone.{plain_alone, deep_alone, refused_alone, list_alone}
-use Rattle.swc_ecma_parser.proofs.entry.item_alone.Goals as goal
+use Rattle.swc_ecma_parser_entries.proofs.ItemAlone.{plain_alone, deep_alone, refused_alone, list_alone}
+use Rattle.swc_ecma_parser_entries.proofs.entry.item_alone.Goals as goal
 
 pub returns-then-not-begins_decorators : goal.returns-then-not-begins_decorators
 returns-then-not-begins_decorators g c =
