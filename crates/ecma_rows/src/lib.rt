@@ -16,9 +16,12 @@ mod decorators;
 #[cfg(test)]
 mod deep;
 #[cfg(test)]
+mod differences;
+#[cfg(test)]
 mod examples;
 #[cfg(test)]
 mod exports;
+#[cfg(test)]
 mod expressions;
 #[cfg(test)]
 mod functions;

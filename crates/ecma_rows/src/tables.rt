@@ -2,8 +2,8 @@
 
 use crate::report::report;
 use crate::{
-    arrows, awaits, classes, declarations, decorated, decorators, examples, exports, expressions,
-    functions, heads, methods, modules, programs, recoveries, rows, statements,
+    arrows, awaits, classes, declarations, decorated, decorators, differences, examples, exports,
+    expressions, functions, heads, methods, modules, programs, recoveries, rows, statements,
 };
 use ecma_report::Goal;
 use ecma_texts::{Asked, plainly};
@@ -25,13 +25,14 @@ enum Setting {
 }
 
 /// Tables of texts and what they parse to, each with the number of its rows.
-const TABLES: [(Goal, Setting, &[(&str, &str)]); 39] = [
+const TABLES: [(Goal, Setting, &[(&str, &str)]); 42] = [
     (Goal::Script, Setting::Default, &arrows::TABLES),
     (Goal::Script, Setting::Default, &awaits::TABLES),
     (Goal::Script, Setting::Default, &classes::TABLES),
     (Goal::Script, Setting::Default, &declarations::TABLES),
     (Goal::Script, Setting::Default, &decorated::UNSET_TABLES),
     (Goal::Script, Setting::Default, &decorators::UNSET_TABLES),
+    (Goal::Script, Setting::Default, &differences::TABLES),
     (Goal::Script, Setting::Default, &examples::TABLES),
     (Goal::Script, Setting::Default, &expressions::TABLES),
     (Goal::Script, Setting::Default, &functions::TABLES),
@@ -55,8 +56,14 @@ const TABLES: [(Goal, Setting, &[(&str, &str)]); 39] = [
         &decorated::BEFORE_TABLES,
     ),
     (Goal::Script, Setting::Resources, &declarations::SET_TABLES),
+    (
+        Goal::Script,
+        Setting::Resources,
+        &differences::RESOURCE_TABLES,
+    ),
     (Goal::Script, Setting::Resources, &heads::SET_TABLES),
     (Goal::Module, Setting::Default, &classes::MODULE_TABLES),
+    (Goal::Module, Setting::Default, &differences::MODULE_TABLES),
     (Goal::Module, Setting::Default, &examples::MODULE_TABLES),
     (Goal::Module, Setting::Default, &exports::UNSET_TABLES),
     (Goal::Module, Setting::Default, &modules::TABLES),
