@@ -346,15 +346,7 @@ impl<I: Tokens> Source for State<I> {
     }
 
     fn out_of_memory(&mut self) -> Error {
-        let last = self.last_span();
-        self.mark = Some(Mark::OutOfMemory);
-        Error {
-            span: Span {
-                lo: last.hi,
-                hi: last.hi,
-            },
-            kind: SyntaxError::OutOfMemory,
-        }
+        State::out_of_memory(self)
     }
 
     fn is_marked(&self) -> bool {

@@ -9,6 +9,7 @@ ghost use Rattle.swc_ecma_parser_model.specs.declared.leaves.Ident.{Ident};
 ghost use Rattle.swc_ecma_parser_reader.specs.Expressions as exprs;
 ghost use Rattle.swc_ecma_parser_reader.specs.State as reader;
 ghost use Rattle.swc_ecma_parser_reader.specs.State.{Gives};
+ghost use Rattle.swc_ecma_parser_reader.specs.declared.mark.Mark.TheVariants as mark;
 ghost use Rattle.swc_ecma_parser_state.specs.FirstError as first;
 ghost use Rattle.swc_ecma_parser_source.specs.Literals.{literal_tree};
 ghost use Rattle.swc_ecma_parser_state.specs.Taken as taken;
@@ -25,6 +26,22 @@ use swc_ecma_parser_source::{Literal, Source, Wanted, missing};
 use swc_ecma_parser_token::{Token, TokenAndSpan, Word};
 
 impl<I: Tokens> State<I> {
+    /// Marks that memory ran out, and says so at the end of what was read last.
+    pub(crate) fn out_of_memory(&mut self) -> Error
+        ensures err { IsOutOfMemory result }
+        ensures state { self.new ≡ reader.marked mark.OutOfMemory self.old }
+    {
+        let last = self.last_span();
+        self.mark = Some(Mark::OutOfMemory);
+        Error {
+            span: Span {
+                lo: last.hi,
+                hi: last.hi,
+            },
+            kind: SyntaxError::OutOfMemory,
+        }
+    }
+
     /// Takes the current token. Where the token behind the next one finds no memory, that is answered.
     pub(crate) fn take(&mut self) -> PResult<Option<TokenAndSpan>>
         ensures token { IfOk result (λ t. t ≡ place.first self.old.at.left) }
