@@ -8,6 +8,7 @@ ghost use Rattle.swc_ecma_parser_trees.specs.Parts.{part_of};
 
 use crate::made::Made;
 use std::alloc::{AllocError, Global};
+use swc_ecma_parser_common::Boxed;
 use swc_ecma_parser_ast::{
     BlockStmt, ClassMember, Constructor, ExprBox, KeyValuePatProp, Param, ParamOrTsParamProp, Pat,
     PatBox, PropName, Span, Stmt, StmtBox,
@@ -176,12 +177,13 @@ pub fn constructor(
 {
     let params = all::<ParamOrTsParamProp>(alloc, params);
     let (params, (key, body)) = beside(params, (key, body))?;
-    Ok(ClassMember::Constructor(Constructor {
+    let constructor = Constructor {
         span,
         key,
         params,
         body: Some(body),
-    }))
+    };
+    Ok(ClassMember::Constructor(Boxed::new(alloc, constructor)?))
 }
 
 /// A key with its pattern; here as `pattern_elements` is.

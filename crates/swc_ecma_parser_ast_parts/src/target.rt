@@ -154,7 +154,7 @@ fn property(
     ensures { IfOk result (λ x. as_property_at last (view_prop_or_spread prop) ≡ option_map view_object_pat_prop x) }
 {
     match prop {
-        PropOrSpread::Prop(x) => plain_property(alloc, x),
+        PropOrSpread::Prop(x) => plain_property(alloc, x.into_inner()),
         PropOrSpread::Spread(x) => {
             if last {
                 rest_property(alloc, x)

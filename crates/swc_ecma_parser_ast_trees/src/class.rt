@@ -3,6 +3,7 @@ ghost use Rattle.swc_ecma_parser_ast.specs.View.{view_block_stmt, view_class, vi
 ghost use Rattle.swc_ecma_parser_ast_parts.specs.View.{view_made};
 
 use crate::Ast;
+use swc_ecma_parser_common::Boxed;
 use std::alloc::{AllocError, Global};
 use swc_ecma_parser_ast::{
     AutoAccessor, BlockStmt, Class, ClassExpr, ClassMember, ClassMethod, ClassProp, Decorator,
@@ -19,7 +20,7 @@ impl BuildsClass for Ast {
 
     type Member = ClassMember;
 
-    type Class = Class;
+    type Class = Boxed<Class>;
 
     ghost member_of = { view_class_member };
 
@@ -42,34 +43,34 @@ impl BuildsClass for Ast {
         alloc: Global,
         span: Span,
         key: PropName,
-        function: Function,
+        function: Boxed<Function>,
         kind: MethodKind,
         is_static: bool,
     ) -> Result<ClassMember, AllocError> {
-        Ok(ClassMember::Method(ClassMethod {
+        Ok(ClassMember::Method(Boxed::new(alloc, ClassMethod {
             span,
             key,
             function,
             kind,
             is_static,
-        }))
+        })?))
     }
 
     fn private_method(
         alloc: Global,
         span: Span,
         key: PrivateName,
-        function: Function,
+        function: Boxed<Function>,
         kind: MethodKind,
         is_static: bool,
     ) -> Result<ClassMember, AllocError> {
-        Ok(ClassMember::PrivateMethod(PrivateMethod {
+        Ok(ClassMember::PrivateMethod(Boxed::new(alloc, PrivateMethod {
             span,
             key,
             function,
             kind,
             is_static,
-        }))
+        })?))
     }
 
     fn class_prop(
@@ -85,13 +86,13 @@ impl BuildsClass for Ast {
             (tree.listed (map view_decorator decorators.items))) }
     {
         let value = Made::optional(value);
-        Ok(ClassMember::ClassProp(ClassProp {
+        Ok(ClassMember::ClassProp(Boxed::new(alloc, ClassProp {
             span,
             key,
             value,
             is_static,
             decorators,
-        }))
+        })?))
     }
 
     fn private_prop(
@@ -107,13 +108,13 @@ impl BuildsClass for Ast {
             (tree.listed (map view_decorator decorators.items))) }
     {
         let value = Made::optional(value);
-        Ok(ClassMember::PrivateProp(PrivateProp {
+        Ok(ClassMember::PrivateProp(Boxed::new(alloc, PrivateProp {
             span,
             key,
             value,
             is_static,
             decorators,
-        }))
+        })?))
     }
 
     fn auto_accessor(
@@ -130,13 +131,13 @@ impl BuildsClass for Ast {
     {
         let value = Made::optional(value);
         let key = Key::Public(key);
-        Ok(ClassMember::AutoAccessor(AutoAccessor {
+        Ok(ClassMember::AutoAccessor(Boxed::new(alloc, AutoAccessor {
             span,
             key,
             value,
             is_static,
             decorators,
-        }))
+        })?))
     }
 
     fn private_auto_accessor(
@@ -153,13 +154,13 @@ impl BuildsClass for Ast {
     {
         let value = Made::optional(value);
         let key = Key::Private(key);
-        Ok(ClassMember::AutoAccessor(AutoAccessor {
+        Ok(ClassMember::AutoAccessor(Boxed::new(alloc, AutoAccessor {
             span,
             key,
             value,
             is_static,
             decorators,
-        }))
+        })?))
     }
 
     fn static_block(alloc: Global, span: Span, body: BlockStmt) -> Result<ClassMember, AllocError> {
@@ -176,25 +177,28 @@ impl BuildsClass for Ast {
         decorators: Vec<Decorator>,
         body: Vec<ClassMember>,
         super_class: Option<Made>,
-    ) -> Result<Class, AllocError>
+    ) -> Result<Boxed<Class>, AllocError>
         ensures { IfOk result (λ x. view_class x
             ≡ tree.class span (tree.listed (map view_decorator decorators.items))
             (tree.listed (map view_class_member body.items)) (parts.part_of view_made super_class)) }
     {
         let super_class = Made::optional(super_class);
-        Ok(Class {
-            span,
-            decorators,
-            body,
-            super_class,
-        })
+        Boxed::new(
+            alloc,
+            Class {
+                span,
+                decorators,
+                body,
+                super_class,
+            },
+        )
     }
 
     fn class_expr(
         alloc: Global,
         span: Span,
         name: Option<Ident>,
-        class: Class,
+        class: Boxed<Class>,
     ) -> Result<Made, AllocError> {
         let class = ClassExpr {
             span,
@@ -215,7 +219,7 @@ impl BuildsClass for Ast {
         }
     }
 
-    fn class_span(class: &Class) -> Span {
-        class.span
+    fn class_span(class: &Boxed<Class>) -> Span {
+        class.get().span
     }
 }

@@ -3,6 +3,7 @@ ghost use Rattle.swc_ecma_parser_ast.specs.View.{view_block_stmt, view_catch_cla
 ghost use Rattle.swc_ecma_parser_ast_parts.specs.View.{view_made};
 
 use crate::Ast;
+use swc_ecma_parser_common::Boxed;
 use std::alloc::{AllocError, Global};
 use swc_ecma_parser_ast::{
     BlockStmt, BreakStmt, CatchClause, ContinueStmt, Ident, IfStmt, LabeledStmt, Pat, ReturnStmt,
@@ -110,7 +111,7 @@ impl BuildsSwitch for Ast {
             ≡ tree.case span (parts.part_of view_made test) (tree.listed (map view_stmt cons.items))) }
     {
         let test = Made::optional(test);
-        let cons = StmtList::new(cons);
+        let cons = StmtList::new(alloc, cons)?;
         Ok(SwitchCase { span, test, cons })
     }
 }
@@ -133,12 +134,12 @@ impl BuildsTry for Ast {
         ensures { IfOk result (λ x. view_stmt x
             ≡ tree.try span (view_block_stmt block) (parts.part_of view_catch_clause handler) (parts.part_of view_block_stmt finalizer)) }
     {
-        Ok(Stmt::Try(TryStmt {
+        Ok(Stmt::Try(Boxed::new(alloc, TryStmt {
             span,
             block,
             handler,
             finalizer,
-        }))
+        })?))
     }
 
     fn catch(

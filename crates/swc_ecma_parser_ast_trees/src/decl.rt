@@ -2,6 +2,7 @@ ghost use Rattle.std.specs.Prelude.{◌≡◌, IfOk, map};
 ghost use Rattle.swc_ecma_parser_ast.specs.View.{view_decl, view_declarator};
 
 use crate::Ast;
+use swc_ecma_parser_common::Boxed;
 use std::alloc::{AllocError, Global};
 use swc_ecma_parser_ast::{
     Class, ClassDecl, Decl, FnDecl, Function, Ident, Span, Spanned, Stmt, UsingDecl, VarDecl,
@@ -14,7 +15,7 @@ impl BuildsDecl for Ast {
 
     ghost decl_of = { view_decl };
 
-    fn fn_decl(alloc: Global, name: Ident, function: Function) -> Result<Decl, AllocError> {
+    fn fn_decl(alloc: Global, name: Ident, function: Boxed<Function>) -> Result<Decl, AllocError> {
         Ok(Decl::Fn(FnDecl {
             ident: name,
             function,
@@ -31,7 +32,7 @@ impl BuildsDecl for Ast {
 }
 
 impl BuildsClassDecl for Ast {
-    fn class_decl(alloc: Global, name: Ident, class: Class) -> Result<Decl, AllocError> {
+    fn class_decl(alloc: Global, name: Ident, class: Boxed<Class>) -> Result<Decl, AllocError> {
         Ok(Decl::Class(ClassDecl { ident: name, class }))
     }
 }

@@ -4,6 +4,7 @@ ghost use Rattle.swc_ecma_parser_model.specs.Forms as forms;
 ghost use Rattle.swc_ecma_parser_model.specs.Kinds as kinds;
 
 use crate::Ast;
+use swc_ecma_parser_common::Boxed;
 use std::alloc::{AllocError, Global};
 use swc_ecma_parser_ast::{
     Class, ClassExpr, Decl, DefaultDecl, ExportAll, ExportDecl, ExportDefaultDecl,
@@ -98,7 +99,7 @@ impl BuildsExport for Ast {
         alloc: Global,
         span: Span,
         name: Option<Ident>,
-        function: Function,
+        function: Boxed<Function>,
     ) -> Result<DefaultDecl, AllocError> {
         Ok(DefaultDecl::Fn(FnExpr {
             span,
@@ -111,7 +112,7 @@ impl BuildsExport for Ast {
         alloc: Global,
         span: Span,
         name: Option<Ident>,
-        class: Class,
+        class: Boxed<Class>,
     ) -> Result<DefaultDecl, AllocError> {
         Ok(DefaultDecl::Class(ClassExpr {
             span,

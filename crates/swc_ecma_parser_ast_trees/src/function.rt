@@ -3,6 +3,7 @@ ghost use Rattle.swc_ecma_parser_ast.specs.View.{view_block_stmt, view_decorator
 ghost use Rattle.swc_ecma_parser_ast_parts.specs.View.{view_made};
 
 use crate::Ast;
+use swc_ecma_parser_common::Boxed;
 use std::alloc::{AllocError, Global};
 use swc_ecma_parser_ast::{
     ArrowExpr, BlockStmt, BlockStmtOrExpr, Decorator, Expr, FnExpr, Function, Ident, Param, Pat,
@@ -18,7 +19,7 @@ impl BuildsFunction for Ast {
 
     type Param = Param;
 
-    type Function = Function;
+    type Function = Boxed<Function>;
 
     ghost decorator_of = { view_decorator };
 
@@ -54,26 +55,29 @@ impl BuildsFunction for Ast {
         body: BlockStmt,
         is_async: bool,
         is_generator: bool,
-    ) -> Result<Function, AllocError>
+    ) -> Result<Boxed<Function>, AllocError>
         ensures { IfOk result (λ x. view_function x
             ≡ tree.function span (tree.listed (map view_decorator decorators.items))
             (tree.listed (map view_param params.items)) (view_block_stmt body) is_async is_generator) }
     {
-        Ok(Function {
-            span,
-            decorators,
-            params,
-            body: Some(body),
-            is_async,
-            is_generator,
-        })
+        Boxed::new(
+            alloc,
+            Function {
+                span,
+                decorators,
+                params,
+                body: Some(body),
+                is_async,
+                is_generator,
+            },
+        )
     }
 
     fn fn_expr(
         alloc: Global,
         span: Span,
         name: Option<Ident>,
-        function: Function,
+        function: Boxed<Function>,
     ) -> Result<Made, AllocError> {
         let function = FnExpr {
             span,
@@ -143,12 +147,12 @@ impl BuildsFunction for Ast {
         }
     }
 
-    fn function_span(function: &Function) -> Span {
-        function.span
+    fn function_span(function: &Boxed<Function>) -> Span {
+        function.get().span
     }
 
-    fn is_generator(function: &Function) -> bool {
-        function.is_generator
+    fn is_generator(function: &Boxed<Function>) -> bool {
+        function.get().is_generator
     }
 
     #[tactic(auto, using(crate::proofs::Kind::as_expr_no_block))]

@@ -3,6 +3,7 @@ ghost use Rattle.swc_ecma_parser_ast.specs.View.{view_declarator, view_for_head,
 ghost use Rattle.swc_ecma_parser_ast_parts.specs.View.{view_made};
 
 use crate::Ast;
+use swc_ecma_parser_common::Boxed;
 use std::alloc::{AllocError, Global};
 use swc_ecma_parser_ast::{
     Decl, DoWhileStmt, ForHead, ForInStmt, ForOfStmt, ForStmt, Pat, Span, Spanned, Stmt, StmtBox,
@@ -50,13 +51,13 @@ impl BuildsFor for Ast {
     {
         let others = (Made::optional(test), Made::optional(update));
         match beside(StmtBox::new(alloc, body), others) {
-            Ok((body, (test, update))) => Ok(Stmt::For(ForStmt {
+            Ok((body, (test, update))) => Ok(Stmt::For(Boxed::new(alloc, ForStmt {
                 span,
                 init,
                 test,
                 update,
                 body,
-            })),
+            })?)),
             Err(e) => {
                 discard_init(init);
                 Err(e)
@@ -87,12 +88,12 @@ impl BuildsFor for Ast {
         body: Stmt,
     ) -> Result<Stmt, AllocError> {
         match beside(StmtBox::new(alloc, body), right.into_handle()) {
-            Ok((body, right)) => Ok(Stmt::ForIn(ForInStmt {
+            Ok((body, right)) => Ok(Stmt::ForIn(Boxed::new(alloc, ForInStmt {
                 span,
                 left,
                 right,
                 body,
-            })),
+            })?)),
             Err(e) => {
                 discard_head(left);
                 Err(e)
@@ -109,13 +110,13 @@ impl BuildsFor for Ast {
         body: Stmt,
     ) -> Result<Stmt, AllocError> {
         match beside(StmtBox::new(alloc, body), right.into_handle()) {
-            Ok((body, right)) => Ok(Stmt::ForOf(ForOfStmt {
+            Ok((body, right)) => Ok(Stmt::ForOf(Boxed::new(alloc, ForOfStmt {
                 span,
                 is_await,
                 left,
                 right,
                 body,
-            })),
+            })?)),
             Err(e) => {
                 discard_head(left);
                 Err(e)

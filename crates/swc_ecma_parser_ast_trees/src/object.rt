@@ -3,6 +3,7 @@ ghost use Rattle.swc_ecma_parser_ast.specs.View.{view_prop_or_spread};
 ghost use Rattle.swc_ecma_parser_ast_parts.specs.View.{view_made};
 
 use crate::Ast;
+use swc_ecma_parser_common::Boxed;
 use std::alloc::{AllocError, Global};
 use swc_ecma_parser_ast::{
     AssignProp, BlockStmt, Expr, Function, GetterProp, Ident, KeyValueProp, MethodProp, ObjectLit,
@@ -33,7 +34,7 @@ impl BuildsObject for Ast {
     }
 
     fn shorthand_prop(alloc: Global, ident: Ident) -> Result<PropOrSpread, AllocError> {
-        Ok(PropOrSpread::Prop(Prop::Shorthand(ident)))
+        Ok(PropOrSpread::Prop(Boxed::new(alloc, Prop::Shorthand(ident))?))
     }
 
     fn key_value_prop(
@@ -44,7 +45,7 @@ impl BuildsObject for Ast {
     ) -> Result<PropOrSpread, AllocError> {
         let value = value.into_handle();
         let prop = Prop::KeyValue(KeyValueProp { span, key, value });
-        Ok(PropOrSpread::Prop(prop))
+        Ok(PropOrSpread::Prop(Boxed::new(alloc, prop)?))
     }
 
     fn assign_prop(
@@ -55,7 +56,7 @@ impl BuildsObject for Ast {
     ) -> Result<PropOrSpread, AllocError> {
         let value = value.into_handle();
         let prop = Prop::Assign(AssignProp { span, key, value });
-        Ok(PropOrSpread::Prop(prop))
+        Ok(PropOrSpread::Prop(Boxed::new(alloc, prop)?))
     }
 }
 
@@ -68,7 +69,7 @@ impl BuildsMethod for Ast {
     ) -> Result<PropOrSpread, AllocError> {
         let body = Some(body);
         let prop = Prop::Getter(GetterProp { span, key, body });
-        Ok(PropOrSpread::Prop(prop))
+        Ok(PropOrSpread::Prop(Boxed::new(alloc, prop)?))
     }
 
     fn setter_prop(
@@ -84,20 +85,20 @@ impl BuildsMethod for Ast {
             param,
             body: Some(body),
         });
-        Ok(PropOrSpread::Prop(prop))
+        Ok(PropOrSpread::Prop(Boxed::new(alloc, prop)?))
     }
 
     fn method_prop(
         alloc: Global,
         span: Span,
         key: PropName,
-        function: Function,
+        function: Boxed<Function>,
     ) -> Result<PropOrSpread, AllocError> {
         let prop = Prop::Method(MethodProp {
             span,
             key,
             function,
         });
-        Ok(PropOrSpread::Prop(prop))
+        Ok(PropOrSpread::Prop(Boxed::new(alloc, prop)?))
     }
 }

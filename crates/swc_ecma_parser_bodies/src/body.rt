@@ -69,7 +69,7 @@ fn missing_brace<P: Source>(alloc: Global, p: &mut P) -> PResult<SyntaxError>
 {
     let wanted = grown(p, Atom::new(alloc, "}"))?;
     let found = grown(p, Atom::new(alloc, "<eof>"))?;
-    Ok(SyntaxError::Expected(wanted, found))
+    grown(p, SyntaxError::expected(alloc, wanted, found))
 }
 
 /// The `}` of a block, or a fault where the list has ended.

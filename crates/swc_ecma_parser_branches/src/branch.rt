@@ -16,7 +16,7 @@ ghost use Rattle.swc_ecma_parser_trees.specs.Parts.{part_of};
 
 use std::alloc::{AllocError, Global};
 use swc_ecma_parser_common::{Atom, Boxed, Span};
-use swc_ecma_parser_error::{Error, PResult, SyntaxError};
+use swc_ecma_parser_error::{Error, Labelled, PResult, SyntaxError};
 use swc_ecma_parser_grammar::{Class, Position};
 use swc_ecma_parser_inner::cover::{Cover, Reading, inside};
 use swc_ecma_parser_inner::grammar::{Grammar, Part};
@@ -41,11 +41,16 @@ fn in_condition(alloc: Global, inner: Error, word: Span) -> Result<SyntaxError, 
     ensures { IfOk result (λ kind. kind_of kind ≡ kinds.WithLabel) }
 {
     let note = Atom::new(alloc, "Tried to parse the condition for an if statement")?;
-    Ok(SyntaxError::WithLabel {
-        inner: Boxed::new(alloc, inner)?,
-        span: word,
-        note,
-    })
+    Ok(SyntaxError::WithLabel(
+        Boxed::new(
+            alloc,
+            Labelled {
+                inner,
+                span: word,
+                note,
+            },
+        )?,
+    ))
 }
 
 /// The refusal of a condition behind the word `if`. One for want of memory or depth stays as it is.

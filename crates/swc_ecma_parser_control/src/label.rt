@@ -11,7 +11,8 @@ ghost use Rattle.swc_ecma_parser_reader.specs.Reader as rules;
 ghost use Rattle.swc_ecma_parser_reader.specs.State.{Gives, GivesAs};
 
 use crate::switch::in_breakable;
-use swc_ecma_parser_common::{Atom, Span};
+use std::alloc::Global;
+use swc_ecma_parser_common::{Atom, Boxed, Span};
 use swc_ecma_parser_error::{PResult, SyntaxError};
 use swc_ecma_parser_grammar::Position;
 use swc_ecma_parser_inner::cover::{Cover, Reading};
@@ -37,12 +38,13 @@ fn begins_label<P: Source>(p: &P) -> bool
 
 /// Records so many times that a label stands around already.
 #[tactic(auto, using(swc_ecma_parser_reader::proofs::Plain::told_none, swc_ecma_parser_reader::proofs::Plain::told_more, swc_ecma_parser_reader::proofs::Plain::told_err))]
-fn duplicate<P: Source>(p: &mut P, label: &Ident, times: usize) -> PResult<()>
+fn duplicate<P: Source>(alloc: Global, p: &mut P, label: &Ident, times: usize) -> PResult<()>
     ensures { Gives (rules.told (replicate times (duplicate label.now.span)) (P.seen p.old)) result (P.seen p.new) }
 {
     let mut left = times;
     'times: while left > 0 {
         let text = grown(p, label.sym.try_clone())?;
+        let text = grown(p, Boxed::new(alloc, text))?;
         p.fault(SyntaxError::DuplicateLabel(text), label.span)?;
         left -= 1;
     }
@@ -51,11 +53,11 @@ fn duplicate<P: Source>(p: &mut P, label: &Ident, times: usize) -> PResult<()>
 
 /// Records each equal label around.
 #[tactic(auto, using(swc_ecma_parser_reader::proofs::Plain::duplicates_counted))]
-fn duplicates<P: Source>(p: &mut P, label: &Ident) -> PResult<()>
+fn duplicates<P: Source>(alloc: Global, p: &mut P, label: &Ident) -> PResult<()>
     ensures { Gives (rules.told (own.duplicates (P.seen p.old).scope.labels (tree.ident label.now.span label.now.sym)) (P.seen p.old)) result (P.seen p.new) }
 {
     let times = p.count_labels(label.sym.as_str());
-    duplicate(p, label, times)
+    duplicate(alloc, p, label, times)
 }
 
 /// Records a function behind a label: that of strict code, and a generator.
@@ -122,7 +124,7 @@ fn labeled_stmt<
     let body = labelled_body(g, t, p, text)?;
     let span = since(p, start);
     labelled_function(p, is_function, is_starred, T::stmt_span(&body))?;
-    duplicates(p, &label)?;
+    duplicates(t.alloc, p, &label)?;
     grown(p, T::labeled(t.alloc, span, label, body))
 }
 

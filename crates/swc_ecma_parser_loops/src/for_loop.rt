@@ -9,7 +9,7 @@ ghost use Rattle.swc_ecma_parser_reader.specs.Reader as rules;
 ghost use Rattle.swc_ecma_parser_reader.specs.State.{Gives, GivesAs, pure};
 ghost use Rattle.swc_ecma_parser_trees.specs.Parts.{part_of};
 
-use crate::head::{Opening, as_init, as_left, head_of, head_opening, misdeclared};
+use crate::head::{Left, Opening, as_init, as_left, head_of, head_opening, misdeclared};
 use crate::simple::looped;
 use swc_ecma_parser_common::Span;
 use swc_ecma_parser_error::{PResult, SyntaxError};
@@ -40,8 +40,93 @@ fn head_part<
     Ok(Some(part))
 }
 
+/// The first part of three, with the `;` behind it.
+#[inline(never)]
+fn init_before<P: Source, T: BuildsFor>(
+    t: &MakerOf<T>,
+    p: &mut P,
+    first: Opening<T::Declarator, T::Expr, T::Pat>,
+) -> PResult<Option<T::ForInit>> {
+    let init = as_init(t, p, first)?;
+    p.expect(TokenKind::Semi, ";")?;
+    Ok(init)
+}
+
+/// What stands before `in` or `of`, with that word.
+#[inline(never)]
+fn left_before<P: Source, T: BuildsPattern + BuildsFor>(
+    t: &MakerOf<T>,
+    p: &mut P,
+    refused: bool,
+    first: Opening<T::Declarator, T::Expr, T::Pat>,
+) -> PResult<Left<T::Declarator, T::Pat>> {
+    let left = as_left(t, p, first)?;
+    misdeclared::<P, T>(p, refused, &left)?;
+    p.skip()?;
+    Ok(left)
+}
+
+/// The body of a loop, from the `)` before it on.
+fn body_behind<
+    P: Source,
+    T: Trees,
+    S: Fn(&MakerOf<T>, &mut P, usize, Position) -> PResult<T::Stmt>,
+    E: Fn(&MakerOf<T>, &mut P, usize, Reading) -> PResult<Cover<T::Expr>>,
+    N: Fn(&MakerOf<T>, &mut P, usize, Part) -> PResult<T::Pat>,
+>(g: &Grammar<S, E, N>, t: &MakerOf<T>, p: &mut P) -> PResult<T::Stmt> {
+    p.expect(TokenKind::RParen, ")")?;
+    looped(g, t, p)
+}
+
+/// The tree of a `for` of three parts.
+#[inline(never)]
+fn made_for<P: Source, T: BuildsFor>(
+    t: &MakerOf<T>,
+    p: &mut P,
+    start: Span,
+    init: Option<T::ForInit>,
+    test: Option<T::Expr>,
+    update: Option<T::Expr>,
+    body: T::Stmt,
+) -> PResult<T::Stmt> {
+    let span = since(p, start);
+    grown(p, T::for_stmt(t.alloc, span, init, test, update, body))
+}
+
+/// The tree of a `for` with `in`.
+#[inline(never)]
+fn made_for_in<P: Source, T: BuildsPattern + BuildsFor>(
+    t: &MakerOf<T>,
+    p: &mut P,
+    start: Span,
+    left: Left<T::Declarator, T::Pat>,
+    right: T::Expr,
+    body: T::Stmt,
+) -> PResult<T::Stmt> {
+    let span = since(p, start);
+    let head = head_of(t, p, left)?;
+    grown(p, T::for_in(t.alloc, span, head, right, body))
+}
+
+/// The tree of a `for` with `of`.
+#[inline(never)]
+fn made_for_of<P: Source, T: BuildsPattern + BuildsFor>(
+    t: &MakerOf<T>,
+    p: &mut P,
+    is_await: bool,
+    start: Span,
+    left: Left<T::Declarator, T::Pat>,
+    right: T::Expr,
+    body: T::Stmt,
+) -> PResult<T::Stmt> {
+    let span = since(p, start);
+    let head = head_of(t, p, left)?;
+    grown(p, T::for_of(t.alloc, span, is_await, head, right, body))
+}
+
 /// A `for` of three parts, from behind the first.
 #[tactic(auto, unfolding(swc_ecma_parser_reader::specs::Reader::for_parts))]
+#[inline(never)]
 fn for_parts<
     P: Source,
     T: BuildsFor,
@@ -58,19 +143,17 @@ fn for_parts<
     requires { Nests P.seen T.expr_of T.pat_of T.stmt_of g.now.depth (S.pre g.now.stmt) (S.post g.now.stmt) (E.pre g.now.expr) (E.post g.now.expr) (N.pre g.now.pat) (N.post g.now.pat) }
     ensures { GivesAs T.stmt_of (rules.for_parts (rules.stmt g.now.depth sub_statement) (rules.expr g.now.depth) start (opening_of T.declarator_of T.expr_of T.pat_of first) (P.seen p.old)) result (P.seen p.new) }
 {
-    let init = as_init(t, p, first)?;
-    p.expect(TokenKind::Semi, ";")?;
+    let init = init_before::<P, T>(t, p, first)?;
     let test = head_part(g, t, p, TokenKind::Semi)?;
     p.expect(TokenKind::Semi, ";")?;
     let update = head_part(g, t, p, TokenKind::RParen)?;
-    p.expect(TokenKind::RParen, ")")?;
-    let body = looped(g, t, p)?;
-    let span = since(p, start);
-    grown(p, T::for_stmt(t.alloc, span, init, test, update, body))
+    let body = body_behind(g, t, p)?;
+    made_for::<P, T>(t, p, start, init, test, update, body)
 }
 
 /// A `for` with `in`, from there on.
 #[tactic(auto, unfolding(swc_ecma_parser_reader::specs::Reader::for_in, swc_ecma_parser_reader::specs::Expressions::inside))]
+#[inline(never)]
 fn for_in<
     P: Source,
     T: BuildsPattern + BuildsFor,
@@ -88,20 +171,16 @@ fn for_in<
     requires bare { IsBare T.pat_of first }
     ensures { GivesAs T.stmt_of (rules.for_in (rules.stmt g.now.depth sub_statement) (rules.expr g.now.depth) start (opening_of T.declarator_of T.expr_of T.pat_of first) (P.seen p.old)) result (P.seen p.new) }
 {
-    let left = as_left(t, p, first)?;
     let refused = p.flags().strict;
-    misdeclared::<P, T>(p, refused, &left)?;
-    p.skip()?;
+    let left = left_before::<P, T>(t, p, refused, first)?;
     let right = inside(g, t, p, Class::Expression)?;
-    p.expect(TokenKind::RParen, ")")?;
-    let body = looped(g, t, p)?;
-    let span = since(p, start);
-    let head = head_of(t, p, left)?;
-    grown(p, T::for_in(t.alloc, span, head, right, body))
+    let body = body_behind(g, t, p)?;
+    made_for_in::<P, T>(t, p, start, left, right, body)
 }
 
 /// A `for` with `of`, from there on.
 #[tactic(auto, unfolding(swc_ecma_parser_reader::specs::Reader::for_of, swc_ecma_parser_reader::specs::Expressions::inside))]
+#[inline(never)]
 fn for_of<
     P: Source,
     T: BuildsPattern + BuildsFor,
@@ -120,15 +199,10 @@ fn for_of<
     requires bare { IsBare T.pat_of first }
     ensures { GivesAs T.stmt_of (rules.for_of (rules.stmt g.now.depth sub_statement) (rules.expr g.now.depth) is_await start (opening_of T.declarator_of T.expr_of T.pat_of first) (P.seen p.old)) result (P.seen p.new) }
 {
-    let left = as_left(t, p, first)?;
-    misdeclared::<P, T>(p, true, &left)?;
-    p.skip()?;
+    let left = left_before::<P, T>(t, p, true, first)?;
     let right = inside(g, t, p, Class::Assignment)?;
-    p.expect(TokenKind::RParen, ")")?;
-    let body = looped(g, t, p)?;
-    let span = since(p, start);
-    let head = head_of(t, p, left)?;
-    grown(p, T::for_of(t.alloc, span, is_await, head, right, body))
+    let body = body_behind(g, t, p)?;
+    made_for_of::<P, T>(t, p, is_await, start, left, right, body)
 }
 
 /// The word `await` behind `for`, if it stands there.
@@ -144,7 +218,17 @@ fn await_here<P: Source>(p: &mut P) -> PResult<Option<Span>>
     Ok(Some(word))
 }
 
+/// The words of a `for` up to its `(`, and where `await` is one of them.
+#[inline(never)]
+fn for_words<P: Source>(p: &mut P) -> PResult<Option<Span>> {
+    p.skip()?;
+    let word = await_here(p)?;
+    p.expect(TokenKind::LParen, "(")?;
+    Ok(word)
+}
+
 /// A loop without `of`, from behind its body: with `await` it is refused.
+#[inline(never)]
 fn unless_awaited<P: Source, T: Trees>(
     p: &mut P,
     word: Option<Span>,
@@ -156,6 +240,46 @@ fn unless_awaited<P: Source, T: Trees>(
         None => Ok(stmt),
         Some(word) => Err(p.reject(SyntaxError::AwaitForStmt, word)),
     }
+}
+
+/// A `for` with `in`, behind `for await`.
+#[inline(never)]
+fn awaited_in<
+    P: Source,
+    T: BuildsPattern + BuildsFor,
+    S: Fn(&MakerOf<T>, &mut P, usize, Position) -> PResult<T::Stmt>,
+    E: Fn(&MakerOf<T>, &mut P, usize, Reading) -> PResult<Cover<T::Expr>>,
+    N: Fn(&MakerOf<T>, &mut P, usize, Part) -> PResult<T::Pat>,
+>(
+    g: &Grammar<S, E, N>,
+    t: &MakerOf<T>,
+    p: &mut P,
+    start: Span,
+    word: Option<Span>,
+    first: Opening<T::Declarator, T::Expr, T::Pat>,
+) -> PResult<T::Stmt> {
+    let stmt = for_in(g, t, p, start, first)?;
+    unless_awaited::<P, T>(p, word, stmt)
+}
+
+/// A `for` of three parts, behind `for await`.
+#[inline(never)]
+fn awaited_parts<
+    P: Source,
+    T: BuildsPattern + BuildsFor,
+    S: Fn(&MakerOf<T>, &mut P, usize, Position) -> PResult<T::Stmt>,
+    E: Fn(&MakerOf<T>, &mut P, usize, Reading) -> PResult<Cover<T::Expr>>,
+    N: Fn(&MakerOf<T>, &mut P, usize, Part) -> PResult<T::Pat>,
+>(
+    g: &Grammar<S, E, N>,
+    t: &MakerOf<T>,
+    p: &mut P,
+    start: Span,
+    word: Option<Span>,
+    first: Opening<T::Declarator, T::Expr, T::Pat>,
+) -> PResult<T::Stmt> {
+    let stmt = for_parts(g, t, p, start, first)?;
+    unless_awaited::<P, T>(p, word, stmt)
 }
 
 /// A `for` statement, from behind its first part.
@@ -179,18 +303,23 @@ fn for_behind<
     ensures { GivesAs T.stmt_of (rules.for_behind (rules.stmt g.now.depth sub_statement) (rules.expr g.now.depth) start word (opening_of T.declarator_of T.expr_of T.pat_of first) (P.seen p.old)) result (P.seen p.new) }
 {
     if p.sees(TokenKind::In) {
-        let stmt = for_in(g, t, p, start, first)?;
-        return unless_awaited::<P, T>(p, word, stmt);
+        if word.is_none() {
+            return for_in(g, t, p, start, first);
+        }
+        return awaited_in(g, t, p, start, word, first);
     }
     if p.word_at("of") {
         return for_of(g, t, p, word.is_some(), start, first);
     }
-    let stmt = for_parts(g, t, p, start, first)?;
-    unless_awaited::<P, T>(p, word, stmt)
+    if word.is_none() {
+        return for_parts(g, t, p, start, first);
+    }
+    awaited_parts(g, t, p, start, word, first)
 }
 
 /// A `for` statement.
 #[tactic(auto, unfolding(swc_ecma_parser_reader::specs::Reader::for_stmt))]
+#[inline(never)]
 pub fn for_stmt<
     P: Source,
     T: BuildsPattern + BuildsFor,
@@ -202,9 +331,7 @@ pub fn for_stmt<
     ensures { GivesAs T.stmt_of (rules.for_stmt (rules.stmt g.now.depth sub_statement) (rules.expr g.now.depth) (rules.pattern g.now.depth) (rules.head_cover g.now.depth) (P.seen p.old)) result (P.seen p.new) }
 {
     let start = p.span();
-    p.skip()?;
-    let word = await_here(p)?;
-    p.expect(TokenKind::LParen, "(")?;
+    let word = for_words(p)?;
     let first = head_opening(g, t, p, word.is_some())?;
     for_behind(g, t, p, start, word, first)
 }

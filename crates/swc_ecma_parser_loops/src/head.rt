@@ -341,6 +341,7 @@ fn head_target<
 
 /// What a head begins with.
 #[tactic(auto, unfolding(swc_ecma_parser_reader::specs::Reader::opening))]
+#[inline(never)]
 pub(crate) fn head_opening<
     P: Source,
     T: BuildsPattern + BuildsVariables,

@@ -20,7 +20,7 @@ use crate::bodies::{Parameters, made_parameters, misdirected_body};
 use crate::keys::{MemberKey, is_constructor_key, is_constructor_name, key_span};
 use std::alloc::{AllocError, Global};
 use swc_ecma_parser_bodies::body::braced;
-use swc_ecma_parser_common::{Atom, Span};
+use swc_ecma_parser_common::{Atom, Boxed, Span};
 use swc_ecma_parser_error::{PResult, SyntaxError};
 use swc_ecma_parser_functions::function::{Manner, function_body, parameters_inside};
 use swc_ecma_parser_functions::methods::MethodForm;
@@ -267,7 +267,7 @@ fn static_constructor<P: Source>(alloc: Global, p: &mut P) -> PResult<SyntaxErro
     ensures err { IfErr result IsOutOfMemory }
 {
     let word = grown(p, Atom::new(alloc, "static"))?;
-    Ok(SyntaxError::TS1089(word))
+    Ok(SyntaxError::TS1089(grown(p, Boxed::new(alloc, word))?))
 }
 
 /// A constructor is not static.

@@ -16,7 +16,7 @@ ghost use Rattle.swc_ecma_parser_reader.specs.State.{Gives, GivesAs, loop};
 
 use crate::parts::{attributes, made_name, module_name, source};
 use std::alloc::{AllocError, Global};
-use swc_ecma_parser_common::{Atom, Span};
+use swc_ecma_parser_common::{Atom, Boxed, Span};
 use swc_ecma_parser_error::{PResult, SyntaxError};
 use swc_ecma_parser_inner::steps::{grown, pushed, since};
 use swc_ecma_parser_model::Ident;
@@ -125,6 +125,7 @@ fn foreign<P: Source>(alloc: Global, p: &mut P, text: &str, span: Span) -> PResu
     ensures { Gives (rules.told (own.fault kinds.ExportExpectFrom span ∷ []) (P.seen p.old)) result (P.seen p.new) }
 {
     let text = grown(p, Atom::new(alloc, text))?;
+    let text = grown(p, Boxed::new(alloc, text))?;
     p.fault(SyntaxError::ExportExpectFrom(text), span)
 }
 

@@ -78,22 +78,26 @@ pub fn missing(
 {
     let kind = match wanted {
         Wanted::Name => SyntaxError::ExpectedIdent,
-        Wanted::Expression => SyntaxError::Unexpected {
-            got: Atom::new(alloc, text_of(found))?,
-            expected: Atom::new(alloc, "an expression")?,
-        },
-        Wanted::StringLiteral => SyntaxError::Unexpected {
-            got: Atom::new(alloc, text_of(found))?,
-            expected: Atom::new(alloc, "a string literal")?,
-        },
-        Wanted::Member => SyntaxError::Unexpected {
-            got: Atom::new(alloc, text_of(found))?,
-            expected: Atom::new(alloc, "* for generator, private key, identifier or async")?,
-        },
-        Wanted::Token(spelling) => SyntaxError::Expected(
+        Wanted::Expression => SyntaxError::unexpected(
+            alloc,
+            Atom::new(alloc, "an expression")?,
+            Atom::new(alloc, text_of(found))?,
+        )?,
+        Wanted::StringLiteral => SyntaxError::unexpected(
+            alloc,
+            Atom::new(alloc, "a string literal")?,
+            Atom::new(alloc, text_of(found))?,
+        )?,
+        Wanted::Member => SyntaxError::unexpected(
+            alloc,
+            Atom::new(alloc, "* for generator, private key, identifier or async")?,
+            Atom::new(alloc, text_of(found))?,
+        )?,
+        Wanted::Token(spelling) => SyntaxError::expected(
+            alloc,
             Atom::new(alloc, spelling)?,
             Atom::new(alloc, text_of(found))?,
-        ),
+        )?,
         Wanted::EndOfExpression(expr) => SyntaxError::ExpectedSemiForExprStmt { expr },
     };
     Ok(kind)

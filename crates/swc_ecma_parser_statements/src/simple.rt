@@ -9,7 +9,7 @@ ghost use Rattle.swc_ecma_parser_reader.specs.State.{Gives, GivesAs};
 
 use crate::statement_end::stmt_end;
 use std::alloc::Global;
-use swc_ecma_parser_common::Atom;
+use swc_ecma_parser_common::{Atom, Boxed};
 use swc_ecma_parser_error::{PResult, SyntaxError};
 use swc_ecma_parser_grammar::{Class, Position};
 use swc_ecma_parser_inner::cover::{Cover, Reading, nested};
@@ -61,6 +61,7 @@ pub(crate) fn note_statement<P: Source, T: Trees>(
         return Ok(());
     }
     let word = grown(p, Atom::new(alloc, "interface"))?;
+    let word = grown(p, Boxed::new(alloc, word))?;
     p.module_fault(SyntaxError::InvalidIdentInStrict(word), T::expr_span(x))
 }
 
