@@ -120,7 +120,7 @@ impl BuildsStmt for Ast {
     fn block(alloc: Global, span: Span, stmts: Vec<Stmt>) -> Result<Stmt, AllocError>
         ensures { IfOk result (λ x. view_stmt x ≡ tree.block span (tree.listed (map view_stmt stmts.items))) }
     {
-        let stmts = StmtList::new(stmts);
+        let stmts = StmtList::new(alloc, stmts)?;
         Ok(Stmt::Block(BlockStmt { span, stmts }))
     }
 
