@@ -20,7 +20,7 @@ use Rattle.swc_ecma_parser_grammar.specs.language.Patterns.{binding_name_rule, r
 use Rattle.swc_ecma_parser_grammar.specs.language.Patterns.{object_rule as object_pattern_rule}
 use Rattle.swc_ecma_parser_grammar.specs.language.Expressions.{operand_rule, await_rule, single_rule, operators_rule, assignment_rule}
 use Rattle.swc_ecma_parser_grammar.specs.language.Declarations.{plain_rule, initialized_rule}
-use Rattle.swc_ecma_parser_grammar.specs.language.Statements.{if_rule, no_else_rule, else_rule, case_clause_rule, catch_rule, catch_parameter_rule, no_finally_rule, no_operand_rule, no_target_rule, function_rule, variables_rule, using_rule, block_rule, empty_rule, with_rule, return_rule, labeled_rule, break_rule, if_statement_rule, switch_rule, throw_rule, try_rule, expr_rule}
+use Rattle.swc_ecma_parser_grammar.specs.language.Statements.{if_rule, no_else_rule, else_rule, case_clause_rule, catch_rule, catch_parameter_rule, no_finally_rule, no_operand_rule, no_target_rule, function_rule, variables_rule, using_rule, block_rule, with_rule, return_rule, labeled_rule, break_rule, if_statement_rule, switch_rule, throw_rule, try_rule, expr_rule}
 use Rattle.swc_ecma_parser_grammar.specs.language.Programs.{Spells, script, stmt}
 use Rattle.swc_ecma_parser_grammar.proofs.Spelling.{at, t, below, named, keyword, equals, start, behind, plain, a_token, a_word, a_name, operand, value, name_value}
 use Rattle.swc_ecma_parser_grammar.proofs.SpellingItems.{sights, name_expression, id, bound, expr_stmt, block, script_of, whole_script}
