@@ -13,11 +13,11 @@ use Rattle.swc_ecma_parser_input.specs.Place.{Place, after}
 use Rattle.swc_ecma_parser_model.specs.declared.leaves.VarDeclKind.{VarDeclKind}
 use Rattle.swc_ecma_parser_model.specs.declared.leaves.VarDeclKind.TheVariants as decl
 use Rattle.swc_ecma_parser_model.specs.Tree as tree
-use Rattle.swc_ecma_parser_model.specs.Tree.{Tree, Trees, Text, none, also, trees, listed}
+use Rattle.swc_ecma_parser_model.specs.Tree.{Tree, Trees, Text, none, also, trees}
 use Rattle.swc_ecma_parser_model.specs.Directive.{is_use_strict, is_string_statement}
 use Rattle.swc_ecma_parser_model.specs.Forms.{is_ident, is_ident_named, is_binding_name, span_of, has_plain_params}
 use Rattle.swc_ecma_parser_grammar.specs.declared.position.Position.{Position}
-use Rattle.swc_ecma_parser_grammar.specs.Looks.{kind_at, sees, span_at, spanned}
+use Rattle.swc_ecma_parser_grammar.specs.Looks.{kind_at, breaks_at, sees, span_at, spanned}
 use Rattle.swc_ecma_parser_grammar.specs.Names.{Code}
 use Rattle.swc_ecma_parser_grammar.specs.Follows.{is_let_declaration, AwaitWord, no_await, await_word}
 use Rattle.swc_ecma_parser_grammar.specs.Variables.{begins_variables, is_var, is_const, needs_no_initializer}
@@ -196,29 +196,29 @@ module _ (Expr : Class → Code → Tree → Place → Place → Type 0) (Pat : 
   module _ (Stmt : Code → Position → Tree → Place → Place → Type 0) (Target : Code → Tree → Place → Place → Type 0) (Params : Code → List Tree → Place → Place → Type 0)
       (Named : Code → (name x : Tree) → Place → Place → Type 0) (at : Position) where
     -- from the word on, behind `await` or not
-    using_from_sound : (v : Bool) (c : Place) (s : State) → at.include_decl || (v && at.top_level) ≡ true → AwaitWord v c s.at → is_using_declaration s.code s.at ≡ true
+    using_from_sound : (v : Bool) (c : Place) (s : State) → at.include_decl || (v && at.top_level) ≡ true → AwaitWord v c s.at → v && breaks_at s.at ≡ false → is_using_declaration s.code s.at ≡ true
         → Meets (λ x t. Sound same (λ k l. walk (env_of k l) x) (notes_of x) (λ k _ d. StmtRule Stmt Expr Pat Target Params Named k at x c d) s t) (using_from (declarators expr pat false decl.Var) v (span_at c) s)
     unfolding using_from misusing spanned
-    using_from_sound v c s b a e = meets_then _ (within with_in (declarators expr pat false decl.Var) (moved s)) _
+    using_from_sound v c s b a l e = meets_then _ (within with_in (declarators expr pat false decl.Var) (moved s)) _
         (within_sound (λ xs k l. walks.walks (env_of k l) false (trees xs)) (λ xs. all_notes_of (trees xs)) (λ xs k. ReadsSeparated (Declared false decl.Var k) xs) with_in (λ k. refl)
         (declarators expr pat false decl.Var) (moved s) (declarators_sound false decl.Var (coded (with_in s.code) (moved s)))) (λ xs m p.
         let fs = using_faults m.code.setting.explicit_resource_management (spanned c m.at) xs in
-        meets_then _ (told fs m) _ (untold_sound fs (using_untabled m.code.setting.explicit_resource_management (spanned c m.at) xs) m) (λ _ t q.
+        meets_then _ (told fs m) _ (untold_sound fs (using_untabled m.code.setting.explicit_resource_management (spanned c m.at) xs) m) (λ _ u q.
+        meets_then _ (end faults.Expected u) _ (end_sound faults.Expected u) (λ _ t h.
         let r : Sound same (λ k l. walks.walks (env_of k l) false (trees xs)) (all_notes_of (trees xs)) (λ k i d. ReadsSeparated (Declared false decl.Var (with_in k)) xs i d × (d ≡ m.at)) (moved s) m = sound_as (moved s) m refl refl refl (λ w. (w, refl)) p in
         sound_after s t refl (ap is_error (using_stands s.code s.at e)) refl refl
-        (λ (i, (w, g), (z, y)). using_rule v xs s.at b a e (subst (λ d. ReadsSeparated (Declared false decl.Var (with_in s.code)) xs (after s.at) d) (sym y) w)
-        (ap (λ d. using_faults s.code.setting.explicit_resource_management (spanned c d) xs) (y ∙ g) ∙ ap (λ (k : Code). using_faults k.setting.explicit_resource_management (spanned c m.at) xs) (sym p.code) ∙ z)
-        (ap (λ d. tree.using (spanned c d) v (listed xs)) (sym (y ∙ g)))) (sound_more r q)))
+        (λ (j, (i, (w, g), (z, y)), o). using_rule v xs s.at m.at b a l e (subst (λ d. ReadsSeparated (Declared false decl.Var (with_in s.code)) xs (after s.at) d) g w)
+        (ap (λ (k : Code). using_faults k.setting.explicit_resource_management (spanned c m.at) xs) (sym p.code) ∙ z) (subst (λ d. Ends d t.at) (y ∙ g) o) refl) (sound_more (sound_more r q) h))))
 
     pub using_sound : (s : State) → at.include_decl ≡ true → is_using_declaration s.code s.at ≡ true
         → Meets (λ x t. SoundTree (λ k. StmtRule Stmt Expr Pat Target Params Named k at) s x t) (using_stmt (declarators expr pat false decl.Var) s)
     unfolding using_stmt
-    using_sound s b e = meets_as (using_from (declarators expr pat false decl.Var) false (span_at s.at) s) (using_from_sound false s.at s (rw b refl) (no_await refl refl) e) (λ x t p. sound_as s t refl refl refl (λ r. r) p)
+    using_sound s b e = meets_as (using_from (declarators expr pat false decl.Var) false (span_at s.at) s) (using_from_sound false s.at s (rw b refl) (no_await refl refl) refl e) (λ x t p. sound_as s t refl refl refl (λ r. r) p)
 
-    pub await_using_sound : (s : State) → at.include_decl || at.top_level ≡ true → kind_at s.at ≡ kind.Await → is_using_declaration s.code (after s.at) ≡ true
+    pub await_using_sound : (s : State) → at.include_decl || at.top_level ≡ true → kind_at s.at ≡ kind.Await → is_using_declaration s.code (after s.at) ≡ true → breaks_at (after s.at) ≡ false
         → Meets (λ x t. SoundTree (λ k. StmtRule Stmt Expr Pat Target Params Named k at) s x t) (await_using_stmt (declarators expr pat false decl.Var) s)
     unfolding await_using_stmt
-    await_using_sound s b a e = meets_as (using_from (declarators expr pat false decl.Var) true (span_at s.at) (moved s)) (using_from_sound true s.at (moved s) b (await_word refl a refl) e)
+    await_using_sound s b a e l = meets_as (using_from (declarators expr pat false decl.Var) true (span_at s.at) (moved s)) (using_from_sound true s.at (moved s) b (await_word refl a refl) l e)
         (λ x t p. sound_after s t a refl refl refl (λ r. r) p)
 
     -- before anything else
@@ -226,7 +226,7 @@ module _ (Expr : Class → Code → Tree → Place → Place → Type 0) (Pat : 
         → Meets (λ x t. SoundTree (λ k. StmtRule Stmt Expr Pat Target Params Named k at) s x t) (await_using_or (declarators expr pat false decl.Var) v rest at s)
     unfolding await_using_or
     first_sound v rest s r = meets_if _ (is_await_using_declaration at s.code s.at && v) _ _
-        (λ h. let (b, e, i) = declares_behind_await at s.code s.at (and_yes (is_await_using_declaration at s.code s.at) v h).0 in await_using_sound s b e i) (λ _. r)
+        (λ h. let (b, e, i, l) = declares_behind_await at s.code s.at (and_yes (is_await_using_declaration at s.code s.at) v h).0 in await_using_sound s b e i l) (λ _. r)
 
 -- ---- statements one behind another
 
