@@ -9,7 +9,7 @@ use Rattle.swc_ecma_parser_model.specs.Tree as tree
 use Rattle.swc_ecma_parser_model.specs.Tree.{Tree}
 use Rattle.swc_ecma_parser_grammar.specs.Names.{Code}
 use Rattle.swc_ecma_parser_grammar.specs.Notes.{notes}
-use Rattle.swc_ecma_parser_grammar.specs.Reads.{with_in, ReadsBlock}
+use Rattle.swc_ecma_parser_grammar.specs.Reads.{with_in, ReadsBraced}
 use Rattle.swc_ecma_parser_grammar.specs.ReadsSupported.{ReadsStmt, ReadsClass}
 use Rattle.swc_ecma_parser_grammar.specs.Supported.{supported_in, is_clean}
 use Rattle.swc_ecma_parser_grammar.specs.language.Contexts.{in_arrow}
@@ -27,23 +27,23 @@ use Rattle.swc_ecma_parser_grammar.proofs.StatementEntries.{stmt_unnoted, braced
 module _ (n : ℕ) (k : Code) (a : Bool) (x : Tree) (c d : Place) where
   -- the block of one, one level further in
   abbrev pub SmallBlock : Type 0
-  SmallBlock = ReadsBlock (ReadsStmt n) (with_in (in_arrow k a)) x c d
+  SmallBlock = ReadsBraced (ReadsStmt n) true (with_in (in_arrow k a)) x c d
 
   abbrev pub WholeBlock : Type 0
-  WholeBlock = BlockRule (Reads n) (with_in (in_arrow k a)) false x c d
+  WholeBlock = BlockRule (Reads n) (with_in (in_arrow k a)) true x c d
 
   pub block_widens : SmallBlock → WholeBlock
-  block_widens r = braced_widens n (stmt_widens n) false r
+  block_widens r = braced_widens n (stmt_widens n) true r
 
   pub block_supported : SmallBlock → supported_in k.flags.module x ≡ true
-  block_supported r = braced_supported n (stmt_supported n) false r
+  block_supported r = braced_supported n (stmt_supported n) true r
 
   -- in module code nothing in it is a fault of it
   pub block_unnoted : k.flags.module ≡ true → SmallBlock → notes x ≡ []
-  block_unnoted o r = braced_unnoted n (stmt_unnoted n) false o r
+  block_unnoted o r = braced_unnoted n (stmt_unnoted n) true o r
 
   pub block_narrows : WholeBlock → supported_in k.flags.module x ≡ true → (k.flags.module ≡ true → notes x ≡ []) → SmallBlock
-  block_narrows r h q = braced_narrows n (stmt_narrows n) false q r h
+  block_narrows r h q = braced_narrows n (stmt_narrows n) true q r h
 
   -- an expression that is one has no notes either
   pub body_unnoted : k.flags.module ≡ true → ReadsClass n assignment (in_arrow k a) x c d → notes x ≡ []
