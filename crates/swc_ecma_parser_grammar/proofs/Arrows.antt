@@ -1,22 +1,27 @@
 -- The body of an arrow function, as the whole language reads it and with the statements of the small relation; and what it is for
 -- an arrow function to be supported.
-use Rattle.std.proofs.Common.{◌≡◌, ℕ, Bool, true, false, List, [], refl, ap}
+use Rattle.std.proofs.Common.{◌≡◌, ℕ, zero, suc, Bool, true, false, List, [], refl, ap}
 use Rattle.std.specs.Prelude.{not, ◌&&◌, ◌||◌}
 use Rattle.swc_ecma_parser_error.specs.Kind.{Fault}
 use Rattle.swc_ecma_parser_common.specs.declared.span.Span.{Span}
 use Rattle.swc_ecma_parser_input.specs.Place.{Place}
 use Rattle.swc_ecma_parser_model.specs.Tree as tree
 use Rattle.swc_ecma_parser_model.specs.Tree.{Tree}
+use Rattle.swc_ecma_parser_model.specs.Kinds.{is_block}
 use Rattle.swc_ecma_parser_grammar.specs.Names.{Code}
 use Rattle.swc_ecma_parser_grammar.specs.Notes.{notes}
 use Rattle.swc_ecma_parser_grammar.specs.Reads.{with_in, ReadsBraced}
 use Rattle.swc_ecma_parser_grammar.specs.ReadsSupported.{ReadsStmt, ReadsClass}
 use Rattle.swc_ecma_parser_grammar.specs.Supported.{supported_in, is_clean}
 use Rattle.swc_ecma_parser_grammar.specs.language.Contexts.{in_arrow}
-use Rattle.swc_ecma_parser_grammar.specs.language.Goals.{assignment}
+use Rattle.swc_ecma_parser_grammar.specs.language.Goals.{assignment, expr_goal}
 use Rattle.swc_ecma_parser_grammar.specs.language.Items.{BlockRule}
 use Rattle.swc_ecma_parser_grammar.specs.language.Reads.{Reads}
+use Rattle.swc_ecma_parser_grammar.specs.Depth.{is_head_decl}
+use Rattle.swc_ecma_parser_grammar.specs.Walk.{Env, walk, walk_arrow_body}
 use Rattle.swc_ecma_parser_grammar.proofs.Tests.{and_yes, and_both}
+use Rattle.swc_ecma_parser_grammar.proofs.language.Asked.{or_left}
+use Rattle.swc_ecma_parser_grammar.proofs.language.Shapes.{expr_is}
 use Rattle.swc_ecma_parser_grammar.proofs.Unnoted.{clean_is, expr_unnoted}
 use Rattle.swc_ecma_parser_grammar.proofs.Widens.{stmt_supported, stmt_widens, braced_supported, braced_widens}
 use Rattle.swc_ecma_parser_grammar.proofs.Narrows.{stmt_narrows, braced_narrows}
@@ -48,6 +53,21 @@ module _ (n : ℕ) (k : Code) (a : Bool) (x : Tree) (c d : Place) where
   -- an expression that is one has no notes either
   pub body_unnoted : k.flags.module ≡ true → ReadsClass n assignment (in_arrow k a) x c d → notes x ≡ []
   body_unnoted o r = expr_unnoted n assignment (in_arrow k a) x c d o r.0 r.1
+
+-- ---- the walk of its body
+
+abbrev pub body_walk : Env → Tree → List Fault
+body_walk env x = walk_arrow_body env (walk env x) x
+
+-- what is no block is walked as an expression
+pub plain_walk : (env : Env) (x : Tree) → is_block x ≡ false → body_walk env x ≡ walk env x
+plain_walk env (tree.block s stmts) h = cc
+plain_walk env _ h = refl
+
+-- no expression is a block
+pub no_block : (n : ℕ) (k : Code) (x : Tree) (c d : Place) → Reads n (expr_goal assignment k x c d) → is_block x ≡ false
+no_block zero k x c d r = absurd r
+no_block (suc n) k x c d r = or_left (is_block x) (is_head_decl x) (expr_is (Reads n) assignment k x c d r)
 
 -- ---- what is supported
 
