@@ -12,7 +12,7 @@ use Rattle.swc_ecma_parser_model.specs.declared.leaves.VarDeclKind.{VarDeclKind}
 use Rattle.swc_ecma_parser_model.specs.declared.leaves.VarDeclKind.TheVariants as decl
 use Rattle.swc_ecma_parser_model.specs.Tree as tree
 use Rattle.swc_ecma_parser_model.specs.Tree.{Tree, listed}
-use Rattle.swc_ecma_parser_model.specs.Directive.{is_use_strict}
+use Rattle.swc_ecma_parser_model.specs.Directive.{is_string_statement, is_use_strict}
 use Rattle.swc_ecma_parser_model.specs.Forms.{is_absent, is_binding_name, is_ident, is_ident_named}
 use Rattle.swc_ecma_parser_grammar.specs.declared.position.Position.{Position}
 use Rattle.swc_ecma_parser_grammar.specs.Looks.{kind_at, breaks_at, sees, spanned}
@@ -69,13 +69,13 @@ ReadsSeparated Reads [] c d = ⊥
 ReadsSeparated Reads (x ∷ []) c d = Reads x c d × (sees kind.Comma d ≡ false)
 ReadsSeparated Reads (x ∷ y ∷ ys) c d = (m : Place) × Reads x c m × (kind_at m ≡ kind.Comma) × ReadsSeparated Reads (y ∷ ys) (after m) d
 
--- Directives, section 11.2.1: the first statement of a body that has directives can turn strict what follows it.
+-- Directives, section 11.2.1: each of the strings that stand first in a body with directives can turn strict what follows it.
 abbrev pub directed : Code → Bool → Tree → Code
 directed k directives x = if directives && is_use_strict x then in_strict k else k
 
 -- whether a statement behind this one can be a directive
 abbrev pub directs_on : Bool → Tree → Bool
-directs_on directives x = false
+directs_on directives x = directives && is_string_statement x
 
 -- statements one behind another, in a body with directives or without
 abbrev pub ReadsItems : (Code → Tree → Place → Place → Type 0) → Code → Bool → List Tree → Place → Place → Type 0

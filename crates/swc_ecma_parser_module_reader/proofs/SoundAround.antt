@@ -5,15 +5,13 @@ use Rattle.std.proofs.lemmas.List.{append_cancel_left}
 use Rattle.std.specs.Prelude.{not, ◌&&◌, ◌||◌}
 use Rattle.swc_ecma_parser_error.specs.Kind.{Fault}
 use Rattle.swc_ecma_parser_token.specs.declared.kind.TokenKind.TheVariants as kind
-use Rattle.swc_ecma_parser_input.specs.Place.{Place}
 use Rattle.swc_ecma_parser_model.specs.Tree.{Tree, listed, trees}
 use Rattle.swc_ecma_parser_grammar.specs.Looks.{sees}
-use Rattle.swc_ecma_parser_grammar.specs.Names.{Code}
 use Rattle.swc_ecma_parser_grammar.specs.Notes.{notes, all_notes}
 use Rattle.swc_ecma_parser_grammar.specs.Walk as walks
 use Rattle.swc_ecma_parser_grammar.specs.Walk.{Env, walk, env_of, walk_items, tabled, drops}
 use Rattle.swc_ecma_parser_grammar.specs.language.Contexts.{in_module}
-use Rattle.swc_ecma_parser_grammar.specs.language.Goals.{Goal}
+use Rattle.swc_ecma_parser_grammar.specs.language.Items.{directs_on}
 use Rattle.swc_ecma_parser_grammar.specs.language.ModuleItems.{ModuleItemsRule}
 use Rattle.swc_ecma_parser_grammar.specs.language.Noted.{has_meta, any_has_meta}
 use Rattle.swc_ecma_parser_grammar.specs.language.Reads.{Reads}
@@ -33,7 +31,7 @@ use Rattle.swc_ecma_parser_module_reader.specs.Modules.{begins_import, item_behi
 use Rattle.swc_ecma_parser_module_reader.specs.ProgramEntry.{any_module_decl}
 use Rattle.swc_ecma_parser_module_reader.specs.Programs.{begins_module, entered, first_behind, behind_front}
 use Rattle.swc_ecma_parser_module_reader.specs.Supported.{supported_item, all_supported_items}
-use Rattle.swc_ecma_parser_module_reader.proofs.ModuleCode.{IsModule, entered_code, behind_same, env_same, declared_code, declared_env}
+use Rattle.swc_ecma_parser_module_reader.proofs.ModuleCode.{IsModule, entered_code, declared_code, declared_env, undirected, undirected_walk}
 use Rattle.swc_ecma_parser_module_reader.proofs.ProgramItems.{Leads, LeadsPlainly, plainly_leads, around_walk, around_rule}
 use Rattle.swc_ecma_parser_module_reader.proofs.Sound.{items_behind}
 use Rattle.swc_ecma_parser_module_reader.proofs.SoundLed.{SoundLed, import_led, export_led}
@@ -88,16 +86,6 @@ plain_around n m recorded c ys t may off q leads = let w = around_walk m.code m.
 
 -- ---- behind decorators
 
--- in module code a directive changes nothing
-undirected : (In : Goal → Type 0) (k : Code) → IsModule k → (zs : List Tree) (b : Bool) (c d : Place) → ModuleItemsRule In k true zs b c d → ModuleItemsRule In k false zs b c d
-undirected In k o [] b c d r = r
-undirected In k o (z ∷ zs) b c d (i, others, q, qs, e) =
-    (i, others, q, subst (λ j. ModuleItemsRule In j false zs others i d) (behind_same k o true z ∙ sym (behind_same k o false z)) qs, e)
-
-undirected_walk : (env : Env) → env.strict ≡ true → (zs : List Tree) → walk_items env true (trees zs) ≡ walk_items env false (trees zs)
-undirected_walk env h [] = refl
-undirected_walk env h (z ∷ zs) = ap (λ v. walk env z ++ walk_items v false (trees zs)) (env_same env h true z ∙ sym (env_same env h false z))
-
 or_third : (a b d e : Bool) → ((a || b) || (d || e)) ≡ (a || ((b || d) || e))
 or_third true b d e = refl
 or_third false true d e = refl
@@ -125,9 +113,9 @@ module _ (n : ℕ) (m u : State) (v : Leading) (l : SoundLeading n m v u) (may :
     env = env_of m.code m.scope.labels
 
     -- the walk of the items behind it
-    rest_walk : walk_items (env_of i.code i.scope.labels) true (trees zs) ≡ walk_items (walks.behind_item (walks.directed env true x) x) false (trees zs)
-    rest_walk = undirected_walk (env_of i.code i.scope.labels) is_inner.1 zs
-        ∙ ap (λ z. walk_items z false (trees zs)) ((λ j. env_of (inner j) (p.scope j).labels) ∙ sym (declared_env env true x p.declared))
+    rest_walk : walk_items (env_of i.code i.scope.labels) true (trees zs) ≡ walk_items (walks.behind_item (walks.directed env true x) x) (directs_on true x) (trees zs)
+    rest_walk = undirected_walk (env_of i.code i.scope.labels) is_inner.1 zs true (directs_on true x)
+        ∙ ap (λ z. walk_items z (directs_on true x) (trees zs)) ((λ j. env_of (inner j) (p.scope j).labels) ∙ sym (declared_env env true x p.declared))
 
     first_list : p.behind ++ q.added ≡ [] → (p.behind ≡ []) × (q.added ≡ [])
     first_list g = nil-split p.behind q.added g
@@ -153,7 +141,8 @@ module _ (n : ℕ) (m u : State) (v : Leading) (l : SoundLeading n m v u) (may :
           i.at,
           b,
           r.0,
-          subst (λ j. ModuleItemsRule (Reads (suc n)) j false zs b i.at t.at) (inner ∙ sym (declared_code m.code true x p.declared)) (undirected (Reads (suc n)) i.code is_inner zs b i.at t.at z.reads),
+          subst (λ j. ModuleItemsRule (Reads (suc n)) j (directs_on true x) zs b i.at t.at) (inner ∙ sym (declared_code m.code true x p.declared))
+              (undirected (Reads (suc n)) i.code is_inner zs true (directs_on true x) b i.at t.at z.reads),
           ap (λ w. begins_here w || b) (sym p.declared),
         ),
         and_both (supported_item x) _ r.1 z.support,
@@ -165,7 +154,7 @@ module _ (n : ℕ) (m u : State) (v : Leading) (l : SoundLeading n m v u) (may :
           let c = same-between (error_tokens m.at.left) (error_tokens i.at.left) (error_tokens t.at.left) p.fewer q.fewer g in
           ap tabled (sym (append_assoc l.reads.added p.behind q.added)) ∙ tabled-append (l.reads.added ++ p.behind) q.added ∙ ap (λ z. z ++ tabled q.added) (p.walked c.0 a.0)
           ∙ ap (λ z. walk env x ++ z) (q.walked c.1 a.1 ∙ rest_walk);
-      clean = λ g. let a = split g in ap (λ z. z ++ walk_items (walks.behind_item (walks.directed env true x) x) false (trees zs)) (p.clean a.0) ∙ sym rest_walk ∙ q.clean a.1;
+      clean = λ g. let a = split g in ap (λ z. z ++ walk_items (walks.behind_item (walks.directed env true x) x) (directs_on true x) (trees zs)) (p.clean a.0) ∙ sym rest_walk ∙ q.clean a.1;
       fewer = fewer-then (error_tokens m.at.left) (error_tokens i.at.left) (error_tokens t.at.left) p.fewer q.fewer;
       remembers = λ h. p.remembers (q.remembers h);
       found = q.found ∙ ap (λ z. z || (any_has_meta (trees zs) || b)) p.found ∙ or_third m.notes.found_module_item (has_meta x) (any_has_meta (trees zs)) b;

@@ -247,9 +247,10 @@ module _ (n : ℕ) (below : Below n) (reads : (at : Position) (k : Code) (x : Tr
 
   -- ---- the block of an arrow function
 
-  arrow_block_reads : (a : Bool) (k : Code) (x : Tree) (c d : Place) → ReadsBlock (ReadsStmt n) (with_in (in_arrow k a)) x c d → ReadsEnclosed (function n (block_form a)) k x c d
+  arrow_block_reads : (a : Bool) (k : Code) (x : Tree) (c d : Place) → ReadsBraced (ReadsStmt n) true (with_in (in_arrow k a)) x c d → ReadsEnclosed (function n (block_form a)) k x c d
   unfolding function function_by arrow_block
-  arrow_block_reads a k x c d r w f h = rw (braced_reads (with_in (in_arrow k a)) x c d r (record w { labels = [] }) f h) refl
+  arrow_block_reads a k x c d r w f h =
+      rw (body_reads true (with_in (in_arrow k a)) x c d (record w { labels = [] }) f h r, behind_setting (with_in (in_arrow k a)) true r.items, r.is) refl
 
   -- ---- `switch`
 

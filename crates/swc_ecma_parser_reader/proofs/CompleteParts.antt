@@ -53,7 +53,7 @@ use Rattle.swc_ecma_parser_grammar.specs.Own.{break_faults, continue_faults, ret
 use Rattle.swc_ecma_parser_reader.proofs.expressions.CompleteKinds.{seen, named_here}
 use Rattle.swc_ecma_parser_reader.proofs.Below.{Below, expr_reads, pattern_reads}
 use Rattle.swc_ecma_parser_reader.proofs.Declarators.{declarator_begins}
-use Rattle.swc_ecma_parser_reader.proofs.Loops.{items_stop, items_more, declarators_done, declarators_more}
+use Rattle.swc_ecma_parser_reader.proofs.Loops.{items_stop, items_more, directs_push, declarators_done, declarators_more}
 use Rattle.swc_ecma_parser_grammar.proofs.SupportedBegins.{expr_opens}
 use Rattle.swc_ecma_parser_reader.proofs.Opens.{goes_open}
 use Rattle.swc_ecma_parser_grammar.proofs.Naming.{name_is_free}
@@ -244,7 +244,7 @@ declarators_nest zero k (x ∷ y ∷ ys) c d (m, initialized_rule p z i r e s g,
 -- the code behind statements: a directive may have turned it strict
 abbrev pub code_behind : Code → Bool → List Tree → Code
 code_behind k directives [] = k
-code_behind k directives (x ∷ xs) = code_behind (directed k directives x) false xs
+code_behind k directives (x ∷ xs) = code_behind (directed k directives x) (directs_on directives x) xs
 
 -- without directives it stays
 pub code_stays : (k : Code) (xs : List Tree) → code_behind k false xs ≡ k
@@ -258,12 +258,11 @@ in_strict_setting false k = refl
 
 pub behind_setting : (k : Code) (directives : Bool) (xs : List Tree) → (code_behind k directives xs).setting ≡ k.setting
 behind_setting k directives [] = refl
-behind_setting k directives (x ∷ xs) = behind_setting (directed k directives x) false xs ∙ in_strict_setting (directives && is_use_strict x) k
+behind_setting k directives (x ∷ xs) = behind_setting (directed k directives x) (directs_on directives x) xs ∙ in_strict_setting (directives && is_use_strict x) k
 
--- behind a first statement there is no directive
-pub directs_behind : (directives : Bool) (found : List Tree) (x : Tree) → directs directives (found ++ x ∷ []) ≡ false
-directs_behind directives [] x = refl
-directs_behind directives (y ∷ ys) x = refl
+-- whether a directive can stand behind one item more
+pub directs_behind : (directives : Bool) (found : List Tree) (x : Tree) (b : Bool) → directs directives found ≡ b → directs directives (found ++ x ∷ []) ≡ directs_on b x
+directs_behind directives found x b e = directs_push directives found x ∙ ap (λ o. directs_on o x) e
 
 -- the walk and the reader agree on what a directive turns strict
 pub strict_walk : (b : Bool) (k : Code) (labels : List Text) → env_of (cond b (in_strict k) k) labels ≡ cond b (record (env_of k labels) { strict = true }) (env_of k labels)
@@ -291,7 +290,7 @@ module _ (Inner : Code → Tree → Place → Place → Type 0) (inner : Reader 
       let one = reads k x c m r w f h (inr (no_error (directed k b x) (directs_on b x) xs m d more a)) in
       let first = items_more inner stops directives found (st c k w f h) x (st m k w (f ++ walk (env_of k w.labels) x) (h ⊕ notes_of x)) (goes k x c m r) one
       (shorter (st c k w f h) x (st m k w (f ++ walk (env_of k w.labels) x) (h ⊕ notes_of x)) one) in
-      let rest = many_items directives xs (found ++ x ∷ []) false (directed k b x) m d w (f ++ walk (env_of k w.labels) x) (h ⊕ notes_of x) (directs_behind directives found x) more e a in
+      let rest = many_items directives xs (found ++ x ∷ []) (directs_on b x) (directed k b x) m d w (f ++ walk (env_of k w.labels) x) (h ⊕ notes_of x) (directs_behind directives found x b p) more e a in
       let turn = rw p at first in
       turn ∙ rest ∙ rw (directed_walk k b x w.labels) (simp (append_assoc, or_assoc) refl)
 

@@ -582,8 +582,8 @@ module _ (inner : Reader Tree) (h : (s : State) → Falls 1 (length s.at.left) (
   arrow_block_falls : (w : Bool) (s : State) → Falls 1 (length s.at.left) (arrow_block inner params w s)
   unfolding arrow_block
   arrow_block_falls w s = let t = coded (with_in (in_arrow s.code w)) s in
-      falls_coded 1 (length s.at.left) (enclosed (braced inner false) t) _ _
-      (falls_found 1 (length s.at.left) (braced inner false (unlabelled t)) _ _ (λ _ u. refl) (braced_takes inner h false (unlabelled t)))
+      falls_coded 1 (length s.at.left) (enclosed (braced inner true) t) _ _
+      (falls_found 1 (length s.at.left) (braced inner true (unlabelled t)) _ _ (λ _ u. refl) (braced_takes inner h true (unlabelled t)))
 
   method_falls : (pat inner_class : Reader Tree) (form : MethodForm) (start : Span) (x : Tree) (s : State) → Falls 0 (length s.at.left) (function_by inner params pat inner_class (property_form form start x) s)
   unfolding function_by plain_method

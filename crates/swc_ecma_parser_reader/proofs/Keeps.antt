@@ -211,8 +211,8 @@ module _ (inner : Reader Tree) (below : Passes inner) where
     -- the block of an arrow function
     arrow_block_keeps : (w : Bool) → Passes (arrow_block inner params w)
     unfolding arrow_block
-    arrow_block_keeps w b s f = let t = coded (with_in (in_arrow s.code w)) s in answers_then (Kept b) _ (enclosed (braced inner false) t) _
-        (answers_then (Kept b) _ (braced inner false (unlabelled t)) _ (braces_keep false b (unlabelled t) f) (λ x u k. k))
+    arrow_block_keeps w b s f = let t = coded (with_in (in_arrow s.code w)) s in answers_then (Kept b) _ (enclosed (braced inner true) t) _
+        (answers_then (Kept b) _ (braced inner true (unlabelled t)) _ (braces_keep true b (unlabelled t) f) (λ x u k. k))
         (λ x u k. flagged_kept b s u f k)
 
     -- a function as a part of an expression

@@ -271,8 +271,8 @@ module _ (inner : Reader Tree) (n : ℕ) (below : StmtLevels n inner) where
     -- the block of an arrow function
     arrow_block_shallow : (w : Bool) → StmtLevels n (arrow_block inner params w)
     unfolding arrow_block
-    arrow_block_shallow w i s h f = let t = coded (with_in (in_arrow s.code w)) s in answers_then (Kept i) _ (enclosed (braced inner false) t) _
-        (answers_then (Kept i) _ (braced inner false (unlabelled t)) _ (braces_shallow false i (unlabelled t) h f) (λ x u k. k))
+    arrow_block_shallow w i s h f = let t = coded (with_in (in_arrow s.code w)) s in answers_then (Kept i) _ (enclosed (braced inner true) t) _
+        (answers_then (Kept i) _ (braced inner true (unlabelled t)) _ (braces_shallow true i (unlabelled t) h f) (λ x u k. k))
         (λ x u k. k)
 
 module _ (inner : Position → Reader Tree) (inner_expr : Class → Reader Tree) (inner_pat : Reader Tree) (inner_head : Reader Cover) (inner_params : Reader (List Tree)) (inner_member : Reader Tree) (inner_operators : Span → Tree → Reader Tree) (n : ℕ)

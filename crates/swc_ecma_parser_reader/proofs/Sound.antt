@@ -26,6 +26,7 @@ use Rattle.swc_ecma_parser_model.specs.declared.leaves.VarDeclKind.TheVariants a
 use Rattle.swc_ecma_parser_grammar.specs.Variables.{begins_variables, is_var}
 use Rattle.swc_ecma_parser_reader.proofs.expressions.CompleteKinds.{seen}
 use Rattle.swc_ecma_parser_reader.proofs.expressions.Loops.{cover_shorter}
+use Rattle.swc_ecma_parser_reader.proofs.expressions.NoBlocks.{no_block_read}
 use Rattle.swc_ecma_parser_reader.proofs.expressions.Covers.{met}
 use Rattle.swc_ecma_parser_reader.proofs.expressions.Groups.{ReadsParts}
 use Rattle.swc_ecma_parser_reader.proofs.expressions.GroupLevels.{tied_at, begins_at as part_begins}
@@ -610,7 +611,7 @@ module _ (n : ℕ) (b : Sounds n) where
   }
 
   -- functions as parts of expressions are those of the whole language
-  functions : FunctionsSound n (function n)
+  functions : FunctionsSound n (expr n) (function n)
   unfolding function function_by
   functions = record {
     expressions = λ s e. meets_as (function n expression_form s)
@@ -620,6 +621,7 @@ module _ (n : ℕ) (b : Sounds n) where
     methods = methods;
     parameters = b.patterns;
     names = names n;
+    no_blocks = no_block_read n;
     blocks = λ w s. meets_as (function n (block_form w) s)
         (arrow_block_sound (ReadsStmt n) (ReadsParams n) (stmt n nested_item) (b.stmts nested_item) (reader.parameters n) params w s)
         (λ x t p. sound_as s t refl refl refl
@@ -706,7 +708,7 @@ pub function_sound : (n : ℕ) (s : State) → begins_function s.at ≡ true →
 function_sound n = (functions n (all_sound n)).expressions
 
 -- what a part of an expression holds that is none
-pub functions_sound : (n : ℕ) → FunctionsSound n (function n)
+pub functions_sound : (n : ℕ) → FunctionsSound n (expr n) (function n)
 functions_sound n = functions n (all_sound n)
 
 -- a statement is in the grammar within as many levels

@@ -230,24 +230,10 @@ module _ (Expr : Class → Code → Tree → Place → Place → Type 0) (Pat : 
 
 -- ---- statements one behind another
 
--- the code behind these statements, and whether the next can be a directive
+-- the code behind these statements
 abbrev pub code_after : Code → Bool → List Tree → Code
 code_after k directives [] = k
 code_after k directives (x ∷ xs) = code_after (directed k directives x) (directs_on directives x) xs
-
-abbrev pub directs_after : Bool → List Tree → Bool
-directs_after directives [] = directives
-directs_after directives (x ∷ xs) = directs_after (directs_on directives x) xs
-
--- behind the first statement no directive stands
-never_directs : (xs : List Tree) → directs_after false xs ≡ false
-never_directs [] = refl
-never_directs (x ∷ xs) = never_directs xs
-
--- the reader's test for directives is that of the grammar
-pub directs_agrees : (directives : Bool) (xs : List Tree) → directs directives xs ≡ directs_after directives xs
-directs_agrees directives [] = refl
-directs_agrees directives (x ∷ xs) = sym (never_directs xs)
 
 -- a block's statements change no code
 pub code_stays : (k : Code) (xs : List Tree) → code_after k false xs ≡ k
@@ -273,7 +259,7 @@ code_module k directives [] = refl
 code_module k directives (x ∷ xs) = code_module (directed k directives x) (directs_on directives x) xs ∙ in_strict_module (directives && is_use_strict x) k
 
 -- the code behind one statement more
-pub code_push : (k : Code) (directives : Bool) (xs : List Tree) (x : Tree) → directed (code_after k directives xs) (directs_after directives xs) x ≡ code_after k directives (xs ++ x ∷ [])
+pub code_push : (k : Code) (directives : Bool) (xs : List Tree) (x : Tree) → directed (code_after k directives xs) (directs directives xs) x ≡ code_after k directives (xs ++ x ∷ [])
 code_push k directives [] x = refl
 code_push k directives (y ∷ ys) x = code_push (directed k directives y) (directs_on directives y) ys x
 
@@ -291,10 +277,11 @@ pub items_walk_push : (k : Code) (labels : List Text) (directives : Bool) (xs : 
 items_walk_push k labels directives [] x = sym (append-nil (walk (env_of k labels) x))
 items_walk_push k labels directives (y ∷ ys) x =
     let j : Code = directed k directives y in
+    let b : Bool = directs_on directives y in
     let e : env_of j labels ≡ walks.directed (env_of k labels) directives y = directed_env k labels directives y in
-    append_assoc (walk (env_of k labels) y) (walks.walks (walks.directed (env_of k labels) directives y) false (trees ys)) (walk (env_of (code_after j false ys) labels) x)
-    ∙ ap (λ z. walk (env_of k labels) y ++ z) (subst (λ v. walks.walks v false (trees ys) ++ walk (env_of (code_after j false ys) labels) x ≡ walks.walks v false (trees (ys ++ x ∷ []))) e
-    (items_walk_push j labels false ys x))
+    append_assoc (walk (env_of k labels) y) (walks.walks (walks.directed (env_of k labels) directives y) b (trees ys)) (walk (env_of (code_after j b ys) labels) x)
+    ∙ ap (λ z. walk (env_of k labels) y ++ z) (subst (λ v. walks.walks v b (trees ys) ++ walk (env_of (code_after j b ys) labels) x ≡ walks.walks v b (trees (ys ++ x ∷ []))) e
+    (items_walk_push j labels b ys x))
 
 module _ (Reads : Code → Tree → Place → Place → Type 0) where
   -- one more behind those read
@@ -319,7 +306,7 @@ module _ (Reads : Code → Tree → Place → Place → Type 0) where
     items_turn_sound s xs t p = meets_if _ (stops t.at) _ _ (λ e. (p, e)) (λ _. meets_then _ (stmt t) _ (sound t) (λ x u q.
         let r = sound_then p q in
         let e : directed u.code (directs directives xs) x ≡ code_after s.code directives (xs ++ x ∷ []) =
-        ap (λ j. directed j (directs directives xs) x) r.code ∙ ap (λ b. directed (code_after s.code directives xs) b x) (directs_agrees directives xs) ∙ code_push s.code directives xs x in
+        ap (λ j. directed j (directs directives xs) x) r.code ∙ code_push s.code directives xs x in
         sound_coded s u (directed u.code (directs directives xs) x) e
         (sound_as {g = λ k. code_after k directives xs} s u refl (items_walk_push s.code s.scope.labels directives xs x) (notes_push xs x)
         (λ (i, a, b). items_push s.code directives xs x s.at i u.at a b) r)))
