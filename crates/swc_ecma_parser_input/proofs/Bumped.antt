@@ -6,6 +6,7 @@ use Rattle.swc_ecma_parser_token.specs.declared.token.TokenAndSpan.{TokenAndSpan
 use Rattle.swc_ecma_parser_input.specs.TokenSource.{TokenSource, Draws, DrawsFrom}
 use Rattle.swc_ecma_parser_input.specs.Place.{Place, first, second, after, lacks_memory, outset}
 use Rattle.swc_ecma_parser_input.specs.Buffered.{Buffered, placed, opened}
+use Rattle.swc_ecma_parser_input.specs.Drawn.{StandsFor, Drawn}
 use Rattle.swc_ecma_parser_input.specs.View.{before, Filled}
 
 draws_length : (old : List TokenAndSpan) (r : Option TokenAndSpan) (new : List TokenAndSpan) →
@@ -56,6 +57,25 @@ bumped_length last None (Some n) r l0 l1 f e d = absurd (cc)
 bumped_length last None None r [] l1 f e d = draws_length [] r l1 d
 bumped_length last None None r (x ∷ l0) l1 f e d = absurd (cc)
 
+-- what is drawn stands for what was left
+drawn_same : (ts : List TokenAndSpan) → Drawn ts ts
+drawn_same [] = refl
+drawn_same (t ∷ ts) = (record { span = refl; had_line_break = refl; same = λ h. refl }, drawn_same ts)
+
+drawn_as : (old : List TokenAndSpan) (r : Option TokenAndSpan) (new : List TokenAndSpan) → DrawsFrom old r new → Drawn old (before r new)
+drawn_as old None new d = rw (d.0, d.1) refl
+drawn_as old (Some t) new d = rw d.list (record { span = d.span; had_line_break = d.had_line_break; same = d.same }, drawn_same new)
+
+bumped_drawn : (last : Span) (cur next r : Option TokenAndSpan) (l0 l1 : List TokenAndSpan) →
+    Filled cur (before next l0) → Filled next l0 → DrawsFrom l0 r l1 →
+    Drawn (after (record { last = last; left = before cur (before next l0) })).left (before next (before r l1))
+unfolding after
+bumped_drawn last (Some t) (Some n) r l0 l1 f e d = (record { span = refl; had_line_break = refl; same = λ h. refl }, drawn_as l0 r l1 d)
+bumped_drawn last (Some t) None r l0 l1 f e d = drawn_as l0 r l1 d
+bumped_drawn last None (Some n) r l0 l1 f e d = absurd (cc)
+bumped_drawn last None None r [] l1 f e d = drawn_as [] r l1 d
+bumped_drawn last None None r (x ∷ l0) l1 f e d = absurd (cc)
+
 abbrev pub last_of : Option TokenAndSpan → Span → Span
 last_of None last = last
 last_of (Some t) last = t.span
@@ -81,6 +101,7 @@ pub record Bumped (old new : Buffered) : Type 0 where
   pub kept : new ≡ record old { place = record (after old.place) { left = new.place.left } }
   pub left : lacks_memory (second new.place.left) ≡ false → new.place.left ≡ (after old.place).left
   pub len : length new.place.left ≡ length (after old.place).left
+  pub drawn : Drawn (after old.place).left new.place.left
 
 bumped_at : (last : Span) (cur next drawn : Option TokenAndSpan) (s s' : TokenSource) →
     Filled cur (before next s.left) → Filled next s.left → Draws s drawn s' →
@@ -94,6 +115,7 @@ bumped_at last cur next drawn s s' f e d = record {
       ap put (bumped_last last cur next s.left f e) ∙ placed_kept (at (after q).last) (placed q s) q s s' drawn refl d;
   left = bumped_left last cur next drawn s.left s'.left f e d.draws;
   len = bumped_length last cur next drawn s.left s'.left f e d.draws;
+  drawn = bumped_drawn last cur next drawn s.left s'.left f e d.draws;
 }
 
 pub bumped_place : (old new : Buffered) → Bumped old new → lacks_memory (second new.place.left) ≡ false →

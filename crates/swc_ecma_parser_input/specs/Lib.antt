@@ -5,3 +5,4 @@ pub mod Buffered
 pub mod Faults
 pub mod View
 pub mod Captured
+pub mod Drawn

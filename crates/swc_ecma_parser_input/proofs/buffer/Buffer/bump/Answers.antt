@@ -38,6 +38,9 @@ returns-in-Some-clause-kept g c = (in_some g (goal.at.returns-in-Some-clause-kep
 pub returns-in-Some-clause-len : goal.returns-in-Some-clause-len
 returns-in-Some-clause-len g c = (in_some g (goal.at.returns-in-Some-clause-len g c).In-Some).len
 
+pub returns-in-Some-clause-drawn : goal.returns-in-Some-clause-drawn
+returns-in-Some-clause-drawn g c = (in_some g (goal.at.returns-in-Some-clause-drawn g c).In-Some).drawn
+
 pub returns-in_default-clause-place : goal.returns-in_default-clause-place
 returns-in_default-clause-place g c = bumped_place _ _ (in_none g c)
 
@@ -46,3 +49,6 @@ returns-in_default-clause-kept g c = (in_none g c).kept
 
 pub returns-in_default-clause-len : goal.returns-in_default-clause-len
 returns-in_default-clause-len g c = (in_none g c).len
+
+pub returns-in_default-clause-drawn : goal.returns-in_default-clause-drawn
+returns-in_default-clause-drawn g c = (in_none g c).drawn
