@@ -7,13 +7,14 @@ ghost use Rattle.swc_ecma_parser_error.specs.Kind.{fault_of, faults_of, kind_of,
 ghost use Rattle.swc_ecma_parser_error.specs.declared.error.Error.{Error};
 ghost use Rattle.swc_ecma_parser_forward.specs.Forward.{in_order, AnswersForward};
 ghost use Rattle.swc_ecma_parser_input.specs.Place as place;
+ghost use Rattle.swc_ecma_parser_input.specs.Setting.{setting_of};
 ghost use Rattle.swc_ecma_parser_module_reader.specs.Entry.{IsEntered, SoundModule};
 ghost use Rattle.swc_ecma_parser_module_reader.specs.ItemEntry.{SoundItemAlone};
 ghost use Rattle.swc_ecma_parser_module_reader.specs.ProgramEntry.{SoundProgram};
 ghost use Rattle.swc_ecma_parser_reader.specs.Notes.{held_of};
 ghost use Rattle.swc_ecma_parser_reader.specs.State as reader;
 ghost use Rattle.swc_ecma_parser_reader.specs.Entry.{unmarked, SoundScript, SoundStatement, IsRestored, Stays};
-ghost use Rattle.swc_ecma_parser_reader.specs.Calls.{Leaves, MemoryLasts, TellsMark};
+ghost use Rattle.swc_ecma_parser_reader.specs.Calls.{Leaves, MemoryLasts, TellsMark, lacks_ahead};
 ghost use Rattle.swc_ecma_parser_reader.specs.Limits.{has_too_deep_token};
 ghost use Rattle.swc_ecma_parser_exactness.specs.Completes.{CompletesScript, CompletesModule, CompletesProgram, CompletesItem, CompletesStatement};
 ghost use Rattle.swc_ecma_parser_exactness.specs.Decides.{DecidesScript, DecidesStatement};
@@ -111,6 +112,9 @@ impl<I: Tokens> Parser<I> {
         // Of tokens in order, whatever is recorded: no span of an answer starts after its end, and what is left is in order.
         ensures forward { in_order self.old.state.at ≡ true → AnswersForward view_script result self.new.state.at }
 
+        // Where memory ran out for one of the two tokens that are read ahead, that is the answer.
+        ensures ahead { lacks_ahead self.old.state.at ≡ true → IsErrAnd result (λ e. kind_of e.kind ≡ kinds.OutOfMemory) }
+
         // Memory ran out for no token that an answer read, and for neither of the two that are read ahead of it.
         ensures memory { IfOk result (λ x. MemoryLasts self.old.state.at self.new.state.at) }
 
@@ -169,6 +173,9 @@ impl<I: Tokens> Parser<I> {
 
         // Of tokens in order, whatever is recorded: no span of an answer starts after its end, and what is left is in order.
         ensures forward { in_order self.old.state.at ≡ true → AnswersForward view_module result self.new.state.at }
+
+        // Where memory ran out for one of the two tokens that are read ahead, that is the answer.
+        ensures ahead { lacks_ahead self.old.state.at ≡ true → IsErrAnd result (λ e. kind_of e.kind ≡ kinds.OutOfMemory) }
 
         // Memory ran out for no token that an answer read, and for neither of the two that are read ahead of it.
         ensures memory { IfOk result (λ x. MemoryLasts self.old.state.at self.new.state.at) }
@@ -230,6 +237,9 @@ impl<I: Tokens> Parser<I> {
         // Of tokens in order, whatever is recorded: no span of an answer starts after its end, and what is left is in order.
         ensures forward { in_order self.old.state.at ≡ true → AnswersForward view_program result self.new.state.at }
 
+        // Where memory ran out for one of the two tokens that are read ahead, that is the answer.
+        ensures ahead { lacks_ahead self.old.state.at ≡ true → IsErrAnd result (λ e. kind_of e.kind ≡ kinds.OutOfMemory) }
+
         // Memory ran out for no token that an answer read, and for neither of the two that are read ahead of it.
         ensures memory { IfOk result (λ x. MemoryLasts self.old.state.at self.new.state.at) }
 
@@ -290,6 +300,9 @@ impl<I: Tokens> Parser<I> {
         // Of tokens in order, whatever is recorded: no span of an answer starts after its end, and what is left is in order.
         ensures forward { in_order self.old.state.at ≡ true → AnswersForward view_module_item result self.new.state.at }
 
+        // Where memory ran out for one of the two tokens that are read ahead, that is the answer.
+        ensures ahead { lacks_ahead self.old.state.at ≡ true → IsErrAnd result (λ e. kind_of e.kind ≡ kinds.OutOfMemory) }
+
         // Memory ran out for no token that an answer read, and for neither of the two that are read ahead of it.
         ensures memory { IfOk result (λ x. MemoryLasts self.old.state.at self.new.state.at) }
 
@@ -345,6 +358,9 @@ impl<I: Tokens> Parser<I> {
 
         // Of tokens in order, whatever is recorded: no span of an answer starts after its end, and what is left is in order.
         ensures forward { in_order self.old.state.at ≡ true → AnswersForward view_stmt result self.new.state.at }
+
+        // Where memory ran out for one of the two tokens that are read ahead, that is the answer.
+        ensures ahead { lacks_ahead self.old.state.at ≡ true → IsErrAnd result (λ e. kind_of e.kind ≡ kinds.OutOfMemory) }
 
         // Memory ran out for no token that an answer read, and for neither of the two that are read ahead of it.
         ensures memory { IfOk result (λ x. MemoryLasts self.old.state.at self.new.state.at) }
@@ -404,6 +420,9 @@ impl<I: Tokens> Parser<I> {
 
         // Of tokens in order, whatever is recorded: no span of an answer starts after its end, and what is left is in order.
         ensures forward { in_order self.old.state.at ≡ true → AnswersForward view_stmt result self.new.state.at }
+
+        // Where memory ran out for one of the two tokens that are read ahead, that is the answer.
+        ensures ahead { lacks_ahead self.old.state.at ≡ true → IsErrAnd result (λ e. kind_of e.kind ≡ kinds.OutOfMemory) }
 
         // Memory ran out for no token that an answer read, and for neither of the two that are read ahead of it.
         ensures memory { IfOk result (λ x. MemoryLasts self.old.state.at self.new.state.at) }
@@ -468,10 +487,11 @@ impl<I: Tokens> Parser<I> {
         errors
     }
 
-    /// An equal parser over an equal source, or a fault of kind `OutOfMemory`.
+    /// An equal parser over an equal source, or a fault of kind `OutOfMemory` at the end of what was read last.
     pub fn try_clone(&self) -> PResult<Parser<I>>
         ensures ok { IfOk result (λ it. it ≡ self.now) }
         ensures err { IfErr result IsOutOfMemory }
+        ensures place { IfErr result (λ e. e.span ≡ reader.end_of self.now.state.at.last) }
     {
         let state = self.state.as_ref().unwrap().try_clone()?;
         Ok(Parser {
@@ -483,6 +503,7 @@ impl<I: Tokens> Parser<I> {
 
     /// The source as the calls left it, without the tokens that were read ahead: at most two. It takes no memory.
     pub fn into_input(self) -> I
+        ensures syntax { setting_of (I.seen result).syntax ≡ self.state.code.setting }
         ensures left { (I.seen result).left ≡ drop 2 self.state.at.left }
         ensures context { (I.seen result).context ≡ self.state.code.flags }
         ensures faults { faults_of (I.seen result).recorded ≡ self.state.faults }

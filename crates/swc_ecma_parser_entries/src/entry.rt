@@ -1,16 +1,17 @@
 //! What every entry does around its rules: the context is set and set back, and what a call met is answered.
 
-ghost use Rattle.std.specs.Prelude.{◌≡◌, ◌≢◌, List, map, None, [], IfErr, IsErrAnd, IsOk, OnErr};
+ghost use Rattle.std.specs.Prelude.{◌≡◌, ◌≢◌, true, List, map, Some, None, [], IfErr, IsErrAnd, IsOk, OnErr};
 ghost use Rattle.swc_ecma_parser_error.specs.Kind.{Eof, Fault, OutOfMemory, fault_of, kind_of};
 ghost use Rattle.swc_ecma_parser_module_reader.specs.Entry.{IsEntered, AnswersModule};
 ghost use Rattle.swc_ecma_parser_grammar.specs.Notes.{as_note};
 ghost use Rattle.swc_ecma_parser_module_reader.specs.ItemEntry.{AnswersItem};
 ghost use Rattle.swc_ecma_parser_module_reader.specs.Items.{begun_item, held_at, item_whole};
 ghost use Rattle.swc_ecma_parser_module_reader.specs.ProgramEntry.{AnswersProgram};
-ghost use Rattle.swc_ecma_parser_reader.specs.Calls.{Leaves, Says};
+ghost use Rattle.swc_ecma_parser_reader.specs.Calls.{Leaves, Says, lacks_ahead};
 ghost use Rattle.swc_ecma_parser_reader.specs.State as reader;
 ghost use Rattle.swc_ecma_parser_reader.specs.State.{GivesAs};
 ghost use Rattle.swc_ecma_parser_reader.specs.Entry.{unmarked, AnswersScript, AnswersStatement, IsRestored, IsSetBack};
+ghost use Rattle.swc_ecma_parser_reader.specs.declared.mark.Mark.TheVariants as mark;
 ghost use Rattle.swc_ecma_parser_state.specs.Opened.{begun};
 
 use crate::program::program_body;
@@ -46,6 +47,7 @@ fn refused<O: Origin, I: Tokens>(
     ensures noted { result.0.notes.found_module_item ≡ found_module_item }
     ensures leaves { Leaves O.start result.0 }
     ensures says { Says result.0.scope.mark (kind_of result.1.kind) }
+    ensures memory { call.scope.mark ≡ Some mark.OutOfMemory → kind_of result.1.kind ≡ OutOfMemory }
 {
     let mut call = call;
     call.restore(outer, found_module_item);
@@ -61,6 +63,7 @@ fn script_in<O: Origin, I: Tokens, T: BuildsStatements + BuildsScript>(
 ) -> PResult<T::Script>
     ensures answers { (s : reader.State) → call.old ≡ begun s → AnswersScript T.script_of limit (unmarked s) result call.new }
     ensures outright { (s : reader.State) → call.old ≡ begun s → s.at.left ≡ [] → IsOk result }
+    ensures ahead { (s : reader.State) → call.old ≡ begun s → lacks_ahead s.at ≡ true → IsErrAnd result (λ e. call.new.scope.mark ≡ Some mark.OutOfMemory) }
 {
     if call.is_marked() {
         return Err(call.lost());
@@ -87,6 +90,7 @@ fn script_from<O: Origin, I: Tokens, T: BuildsStatements + BuildsScript>(
     ensures refused { OnErr result.1 (IsRestored state result.0) }
     ensures leaves { Leaves O.start result.0 }
     ensures says { IfErr result.1 (λ e. Says result.0.scope.mark (kind_of e.kind)) }
+    ensures ahead { lacks_ahead state.at ≡ true → IsErrAnd result.1 (λ e. kind_of e.kind ≡ OutOfMemory) }
 {
     let outer = state.flags();
     let found_module_item = state.found_module_item();
@@ -111,6 +115,7 @@ pub fn script<I: Tokens, T: BuildsStatements + BuildsScript>(
     ensures refused { OnErr result.1 (IsRestored state result.0) }
     ensures leaves { Leaves state result.0 }
     ensures says { IfErr result.1 (λ e. Says result.0.scope.mark (kind_of e.kind)) }
+    ensures ahead { lacks_ahead state.at ≡ true → IsErrAnd result.1 (λ e. kind_of e.kind ≡ OutOfMemory) }
 {
     script_from::<Brand, I, T>(alloc, state, limit)
 }
@@ -123,6 +128,7 @@ fn module_in<O: Origin, I: Tokens, T: BuildsStatements + BuildsExport + BuildsVa
 ) -> PResult<T::Module>
     ensures answers { (s : reader.State) → call.old ≡ begun s → (u : reader.State) × IsEntered (unmarked s) u × AnswersModule T.module_of limit u result call.new }
     ensures outright { (s : reader.State) → call.old ≡ begun s → s.at.left ≡ [] → IsOk result }
+    ensures ahead { (s : reader.State) → call.old ≡ begun s → lacks_ahead s.at ≡ true → IsErrAnd result (λ e. call.new.scope.mark ≡ Some mark.OutOfMemory) }
 {
     let is_lost = call.is_marked();
     call.enter_module();
@@ -147,6 +153,7 @@ fn module_from<O: Origin, I: Tokens, T: BuildsStatements + BuildsExport + Builds
     ensures refused { OnErr result.1 (IsRestored state result.0) }
     ensures leaves { Leaves O.start result.0 }
     ensures says { IfErr result.1 (λ e. Says result.0.scope.mark (kind_of e.kind)) }
+    ensures ahead { lacks_ahead state.at ≡ true → IsErrAnd result.1 (λ e. kind_of e.kind ≡ OutOfMemory) }
 {
     let outer = state.flags();
     let found_module_item = state.found_module_item();
@@ -171,6 +178,7 @@ pub fn module<I: Tokens, T: BuildsStatements + BuildsExport + BuildsVarDecl>(
     ensures refused { OnErr result.1 (IsRestored state result.0) }
     ensures leaves { Leaves state result.0 }
     ensures says { IfErr result.1 (λ e. Says result.0.scope.mark (kind_of e.kind)) }
+    ensures ahead { lacks_ahead state.at ≡ true → IsErrAnd result.1 (λ e. kind_of e.kind ≡ OutOfMemory) }
 {
     module_from::<Brand, I, T>(alloc, state, limit)
 }
@@ -184,6 +192,7 @@ fn program_in<O: Origin, I: Tokens, T: BuildsStatements + BuildsExport + BuildsV
 ) -> PResult<T::Program>
     ensures answers { (s : reader.State) → call.old ≡ begun s → outer ≡ s.code.flags → AnswersProgram T.program_of limit (unmarked s) result call.new }
     ensures outright { (s : reader.State) → call.old ≡ begun s → s.at.left ≡ [] → IsOk result }
+    ensures ahead { (s : reader.State) → call.old ≡ begun s → lacks_ahead s.at ≡ true → IsErrAnd result (λ e. call.new.scope.mark ≡ Some mark.OutOfMemory) }
 {
     if call.is_marked() {
         return Err(call.lost());
@@ -207,6 +216,7 @@ fn program_from<O: Origin, I: Tokens, T: BuildsStatements + BuildsExport + Build
     ensures refused { OnErr result.1 (IsRestored state result.0) }
     ensures leaves { Leaves O.start result.0 }
     ensures says { IfErr result.1 (λ e. Says result.0.scope.mark (kind_of e.kind)) }
+    ensures ahead { lacks_ahead state.at ≡ true → IsErrAnd result.1 (λ e. kind_of e.kind ≡ OutOfMemory) }
 {
     let outer = state.flags();
     let found_module_item = state.found_module_item();
@@ -231,6 +241,7 @@ pub fn program<I: Tokens, T: BuildsStatements + BuildsExport + BuildsVarDecl>(
     ensures refused { OnErr result.1 (IsRestored state result.0) }
     ensures leaves { Leaves state result.0 }
     ensures says { IfErr result.1 (λ e. Says result.0.scope.mark (kind_of e.kind)) }
+    ensures ahead { lacks_ahead state.at ≡ true → IsErrAnd result.1 (λ e. kind_of e.kind ≡ OutOfMemory) }
 {
     program_from::<Brand, I, T>(alloc, state, limit)
 }
@@ -274,6 +285,7 @@ fn item_in<O: Origin, I: Tokens, T: BuildsStatements + BuildsExport + BuildsVarD
     ensures answers { (s : reader.State) → call.old ≡ begun s → AnswersItem T.item_of limit (unmarked s) result call.new }
     ensures at_end { (s : reader.State) → call.old ≡ begun s → s.at.left ≡ []
         → (call.new.scope.mark ≡ None) × IsErrAnd result (λ e. fault_of e ≡ reader.fault_at (reader.end_of s.at.last) Eof) }
+    ensures ahead { (s : reader.State) → call.old ≡ begun s → lacks_ahead s.at ≡ true → IsErrAnd result (λ e. call.new.scope.mark ≡ Some mark.OutOfMemory) }
 {
     if call.is_marked() {
         return Err(call.lost());
@@ -299,6 +311,7 @@ fn item_from<O: Origin, I: Tokens, T: BuildsStatements + BuildsExport + BuildsVa
     ensures refused { OnErr result.1 (IsRestored state result.0) }
     ensures leaves { Leaves O.start result.0 }
     ensures says { IfErr result.1 (λ e. Says result.0.scope.mark (kind_of e.kind)) }
+    ensures ahead { lacks_ahead state.at ≡ true → IsErrAnd result.1 (λ e. kind_of e.kind ≡ OutOfMemory) }
 {
     let outer = state.flags();
     let found_module_item = state.found_module_item();
@@ -323,6 +336,7 @@ pub fn item<I: Tokens, T: BuildsStatements + BuildsExport + BuildsVarDecl>(
     ensures refused { OnErr result.1 (IsRestored state result.0) }
     ensures leaves { Leaves state result.0 }
     ensures says { IfErr result.1 (λ e. Says result.0.scope.mark (kind_of e.kind)) }
+    ensures ahead { lacks_ahead state.at ≡ true → IsErrAnd result.1 (λ e. kind_of e.kind ≡ OutOfMemory) }
 {
     item_from::<Brand, I, T>(alloc, state, limit)
 }
@@ -337,6 +351,7 @@ fn statement_in<O: Origin, I: Tokens, T: BuildsStatements>(
     ensures answers { (s : reader.State) → call.old ≡ begun s → AnswersStatement T.stmt_of limit at.include_decl at.top_level (unmarked s) result call.new }
     ensures at_end { (s : reader.State) → call.old ≡ begun s → s.at.left ≡ []
         → (call.new.scope.mark ≡ None) × IsErrAnd result (λ e. fault_of e ≡ reader.fault_at (reader.end_of s.at.last) Eof) }
+    ensures ahead { (s : reader.State) → call.old ≡ begun s → lacks_ahead s.at ≡ true → IsErrAnd result (λ e. call.new.scope.mark ≡ Some mark.OutOfMemory) }
 {
     if call.is_marked() {
         return Err(call.lost());
@@ -363,6 +378,7 @@ fn statement_from<O: Origin, I: Tokens, T: BuildsStatements>(
     ensures refused { OnErr result.1 (IsRestored state result.0) }
     ensures leaves { Leaves O.start result.0 }
     ensures says { IfErr result.1 (λ e. Says result.0.scope.mark (kind_of e.kind)) }
+    ensures ahead { lacks_ahead state.at ≡ true → IsErrAnd result.1 (λ e. kind_of e.kind ≡ OutOfMemory) }
 {
     let outer = state.flags();
     let found_module_item = state.found_module_item();
@@ -388,6 +404,7 @@ pub fn statement<I: Tokens, T: BuildsStatements>(
     ensures refused { OnErr result.1 (IsRestored state result.0) }
     ensures leaves { Leaves state result.0 }
     ensures says { IfErr result.1 (λ e. Says result.0.scope.mark (kind_of e.kind)) }
+    ensures ahead { lacks_ahead state.at ≡ true → IsErrAnd result.1 (λ e. kind_of e.kind ≡ OutOfMemory) }
 {
     statement_from::<Brand, I, T>(alloc, state, limit, at)
 }

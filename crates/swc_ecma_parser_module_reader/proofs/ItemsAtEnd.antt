@@ -15,6 +15,8 @@ no_sign_end : same_kind kind.End kind.At ≡ false
 unfolding same_kind
 no_sign_end = refl
 
-pub item_at_end : (n : ℕ) (recorded : List Fault) (s : State) → s.at.left ≡ [] → item_whole n recorded s ≡ Err (fault_at (end_of s.at.last) faults.Eof, s)
+pub item_at_end : (n : ℕ) (recorded : List Fault) (s : State) → s.at.left ≡ []
+    → (u : State) × (item_whole n recorded s ≡ Err (fault_at (end_of s.at.last) faults.Eof, u)) × (u.at ≡ s.at) × (u.faults ≡ s.faults)
 item_at_end n recorded s h =
-    whole_stated n recorded s (none_at_end s.at h) (no_list_at s.code s.at kind.End (ended s.at h) no_sign_end) ∙ ap (with_held []) (whole_at_end n true true s h)
+    let p = whole_at_end n true true s h in
+    (p.0, whole_stated n recorded s (none_at_end s.at h) (no_list_at s.code s.at kind.End (ended s.at h) no_sign_end) ∙ ap (with_held []) p.1, p.2, p.3)

@@ -97,7 +97,7 @@ module _ (s : State) (k : EsSyntax) where
   more_behind : (before recorded behind fs gs : List Fault) → fs ≡ s.faults ++ (before ++ recorded ++ behind) → fs ++ gs ≡ s.faults ++ (before ++ recorded ++ (behind ++ gs))
   more_behind before recorded behind fs gs h =
       ap (λ z. z ++ gs) h ∙ append_assoc s.faults (before ++ recorded ++ behind) gs
-      ∙ ap (λ z. s.faults ++ z) (append_assoc before (recorded ++ behind) gs ∙ ap (λ z. before ++ z) (append_assoc recorded behind gs))
+      ∙ ap (λ z. s.faults ++ z) (append_assoc (before ++ recorded) behind gs)
 
   held_recorded : (fs gs hs : List Fault) → HeldBack s fs hs → HeldBack s (fs ++ gs) hs
   held_recorded fs gs hs (stays_held h) = stays_held h
@@ -137,7 +137,7 @@ module _ (s : State) (k : EsSyntax) where
   -- module code begins: what was held back is recorded
   held_released : (fs gs hs : List Fault) → map as_note gs ≡ hs → IsLater s.faults fs → HeldBack s fs hs → HeldBack s (fs ++ gs) []
   held_released fs gs hs e f (stays_held h) =
-      was_recorded f.0 gs [] (ap (λ z. z ++ gs) f.1 ∙ append_assoc s.faults f.0 gs ∙ ap (λ z. s.faults ++ (f.0 ++ z)) (sym (append-nil gs))) (h.0, e ∙ h.1)
+      was_recorded f.0 gs [] (ap (λ z. z ++ gs) f.1 ∙ append_assoc s.faults f.0 gs ∙ ap (λ z. s.faults ++ z) (sym (append-nil (f.0 ++ gs)))) (h.0, e ∙ h.1)
   held_released fs gs hs e f (was_recorded before recorded behind h g) = was_recorded before recorded (behind ++ gs) (more_behind before recorded behind fs gs h) g
 
   pub left_released : (c : Place) (fs gs hs : List Fault) (m : Option Mark) → map as_note gs ≡ hs → Left s c fs k m hs → Left s c (fs ++ gs) k m []
@@ -206,12 +206,11 @@ drawn_length (t ∷ ts) [] h = absurd h
 drawn_length (t ∷ ts) (u ∷ us) h = ap suc (drawn_length ts us h.1)
 
 -- two lists that end with as many tokens have the same before these
-same_front : (as bs cs ds : List TokenAndSpan) → as ++ cs ≡ bs ++ ds → length cs ≡ length ds → as ≡ bs
-same_front [] [] cs ds e l = refl
-same_front [] (b ∷ bs) cs ds e l = let n = ap length e in let k = length-append bs ds in absurd (omega arith)
-same_front (a ∷ as) [] cs ds e l = let n = ap length e in let k = length-append as cs in absurd (omega arith)
-same_front (a ∷ as) (b ∷ bs) cs ds e l =
-    let f : a ≡ b = cc in let g : as ++ cs ≡ bs ++ ds = cc in rw f (ap (λ z. b ∷ z) (same_front as bs cs ds g l))
+same_front : (ts us vs ws : List TokenAndSpan) → ts ++ vs ≡ us ++ ws → length vs ≡ length ws → ts ≡ us
+same_front [] [] vs ws e l = refl
+same_front [] (u ∷ us) vs ws e l = let n = ap length e in let k = length-append us ws in absurd (omega arith)
+same_front (t ∷ ts) [] vs ws e l = let n = ap length e in let k = length-append ts vs in absurd (omega arith)
+same_front (t ∷ ts) (u ∷ us) vs ws e l = let f : t ≡ u = cc in let g : ts ++ vs ≡ us ++ ws = cc in rw f (ap (λ z. u ∷ z) (same_front ts us vs ws g l))
 
 -- where nothing is marked, and no token is put back
 pub memory_lasts : (s t : State) → t.scope.mark ≡ None → IsBehind s t → Leaves s t → MemoryLasts s.at t.at

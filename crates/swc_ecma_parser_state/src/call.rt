@@ -1,6 +1,6 @@
 //! What a call does around its rules: its code is set, a refusal is told, and the state is set right again.
 
-ghost use Rattle.std.specs.Prelude.{◌≡◌, ◌≢◌, ◌++◌, false, List, [], Some, map};
+ghost use Rattle.std.specs.Prelude.{◌≡◌, ◌≢◌, ◌++◌, false, List, [], Some, None, map};
 ghost use Rattle.swc_ecma_parser_error.specs.Kind.{Fault, OutOfMemory, fault_of, kind_of, IsOutOfMemory};
 ghost use Rattle.swc_ecma_parser_grammar.specs.Entries.{script_code};
 ghost use Rattle.swc_ecma_parser_grammar.specs.Notes.{as_note};
@@ -75,6 +75,8 @@ impl<O: Origin, I: Tokens> Call<O, I> {
     /// The refusal of the call: what is marked is what it says.
     pub fn told(&mut self, error: Error) -> Error
         ensures says { Says self.new.scope.mark (kind_of result.kind) }
+        ensures plain { self.old.scope.mark ≡ None → result ≡ error }
+        ensures memory { self.old.scope.mark ≡ Some mark.OutOfMemory → kind_of result.kind ≡ OutOfMemory }
         ensures same { kind_of result.kind ≢ OutOfMemory → fault_of result ≡ fault_of error }
         ensures state { kind_of result.kind ≢ OutOfMemory → self.new ≡ self.old }
         ensures rest { self.new ≡ record self.old { scope = self.new.scope } }
@@ -177,7 +179,8 @@ impl<O: Origin, I: Tokens> Call<O, I> {
 
 /// That memory ran out, at the end of what was read last.
 pub(crate) fn no_memory(last: Span) -> Error
-    ensures { IsOutOfMemory result }
+    ensures kind { IsOutOfMemory result }
+    ensures place { result.span ≡ reader.end_of last }
 {
     Error {
         span: Span {

@@ -3,9 +3,12 @@
 ghost use Rattle.std.specs.Prelude.{◌≡◌, ◌||◌, false, [], length, drop, IfOk, IfErr};
 ghost use Rattle.swc_ecma_parser_error.specs.Kind.{faults_of, IsOutOfMemory};
 ghost use Rattle.swc_ecma_parser_input.specs.Place as place;
+ghost use Rattle.swc_ecma_parser_input.specs.Setting.{setting_of};
 ghost use Rattle.swc_ecma_parser_reader.specs.Notes.{held_of};
+ghost use Rattle.swc_ecma_parser_reader.specs.State.{end_of};
 ghost use Rattle.swc_ecma_parser_state.specs.Opened.{opened, begun};
 
+use crate::call::no_memory;
 use crate::state::{Call, Origin, State};
 use std::alloc::{AllocError, Global};
 use std::marker::PhantomData;
@@ -76,13 +79,18 @@ impl<I: Tokens> State<I> {
         self.buffer.take_errors()
     }
 
-    /// An equal state over an equal source, or a fault of kind `OutOfMemory`.
+    /// An equal state over an equal source, or a fault of kind `OutOfMemory` at the end of what was read last.
     pub fn try_clone(&self) -> PResult<State<I>>
         ensures ok { IfOk result (λ it. it ≡ self.now) }
         ensures err { IfErr result IsOutOfMemory }
+        ensures place { IfErr result (λ e. e.span ≡ end_of self.now.at.last) }
     {
-        let buffer = self.buffer.try_clone()?;
-        let labels = copied(&self.labels)?;
+        let Ok(buffer) = self.buffer.try_clone() else {
+            return Err(no_memory(self.buffer.last_span()));
+        };
+        let Ok(labels) = copied(&self.labels) else {
+            return Err(no_memory(self.buffer.last_span()));
+        };
         Ok(State {
             buffer,
             labels,
@@ -93,6 +101,7 @@ impl<I: Tokens> State<I> {
 
     /// The source, without the tokens that were read ahead: at most two.
     pub fn into_input(self) -> I
+        ensures syntax { setting_of (I.seen result).syntax ≡ self.code.setting }
         ensures left { (I.seen result).left ≡ drop 2 self.at.left }
         ensures context { (I.seen result).context ≡ self.code.flags }
         ensures faults { faults_of (I.seen result).recorded ≡ self.faults }
