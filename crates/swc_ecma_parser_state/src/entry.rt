@@ -121,22 +121,22 @@ impl<I: Tokens> State<I> {
         requires { O.start ≡ self }
         ensures { result ≡ begun self }
     {
+        let mark = if self.lacks_memory() {
+            Some(Mark::OutOfMemory)
+        } else {
+            None
+        };
         let State {
             buffer,
             labels,
             found_module_item,
             mark: _,
         } = self;
-        let lacks = buffer.cur_is_out_of_memory() || buffer.is_out_of_memory();
         Call {
             buffer,
             labels,
             found_module_item,
-            mark: if lacks {
-                Some(Mark::OutOfMemory)
-            } else {
-                None
-            },
+            mark,
             origin: PhantomData,
         }
     }
