@@ -5,6 +5,7 @@ use Rattle.swc_ecma_parser_token.specs.declared.token.TokenAndSpan.{TokenAndSpan
 use Rattle.swc_ecma_parser_input.specs.TokenSource.{TokenSource, Draws, DrawsFrom}
 use Rattle.swc_ecma_parser_input.specs.Place.{Place, first, second, after, lacks_memory}
 use Rattle.swc_ecma_parser_input.specs.Buffered.{Buffered, placed}
+use Rattle.swc_ecma_parser_input.specs.Drawn.{StandsFor, Drawn}
 use Rattle.swc_ecma_parser_input.specs.Ringed.{rest}
 use Rattle.swc_ecma_parser_input.specs.View.{IsFull}
 
@@ -58,6 +59,25 @@ bumped_first (a ∷ []) ended l0 (Some t) l1 f d =
     let e = all_held (a ∷ []) ended l0 f (omega arith) in let g = d.list in absurd (cc)
 bumped_first (a ∷ b ∷ ts) ended l0 drawn l1 f d = refl
 
+-- what is drawn stands for what was left
+drawn_same : (ts : List TokenAndSpan) → Drawn ts ts
+drawn_same [] = refl
+drawn_same (t ∷ ts) = (record { span = refl; had_line_break = refl; same = λ h. refl }, drawn_same ts)
+
+drawn_as : (old : List TokenAndSpan) (r : Option TokenAndSpan) (new : List TokenAndSpan) → DrawsFrom old r new → Drawn old (option_to_list r ++ new)
+drawn_as old None new d = rw (d.0, d.1) refl
+drawn_as old (Some t) new d = rw d.list (record { span = d.span; had_line_break = d.had_line_break; same = d.same }, drawn_same new)
+
+bumped_drawn : (last : Span) (r : List TokenAndSpan) (ended : Bool) (l0 : List TokenAndSpan) (drawn : Option TokenAndSpan) (l1 : List TokenAndSpan) →
+    IsFull r ended l0 → DrawsFrom l0 drawn l1 →
+    Drawn (after (record { last = last; left = r ++ l0 })).left ((rest r ++ option_to_list drawn) ++ l1)
+unfolding after
+bumped_drawn last [] ended [] drawn l1 f d = drawn_as [] drawn l1 d
+bumped_drawn last [] ended (x ∷ l0) drawn l1 f d = let e = all_held [] ended (x ∷ l0) f (omega arith) in absurd (cc)
+bumped_drawn last (a ∷ []) ended l0 drawn l1 f d = drawn_as l0 drawn l1 d
+bumped_drawn last (a ∷ b ∷ []) ended l0 drawn l1 f d = (record { span = refl; had_line_break = refl; same = λ h. refl }, drawn_as l0 drawn l1 d)
+bumped_drawn last (a ∷ b ∷ c ∷ ts) ended l0 drawn l1 f d = let k = f.fits in absurd (omega arith)
+
 abbrev pub last_of : Option TokenAndSpan → Span → Span
 last_of None last = last
 last_of (Some t) last = t.span
@@ -70,7 +90,7 @@ bumped_last last [] ended (x ∷ l0) f = let e = all_held [] ended (x ∷ l0) f 
 bumped_last last (t ∷ ts) ended l0 f = refl
 
 -- a place at which a source is, and another after a token was drawn
-placed_kept : (p : Place) (b : Buffered) (q : Place) (s s' : TokenSource) (drawn : Option TokenAndSpan) →
+pub placed_kept : (p : Place) (b : Buffered) (q : Place) (s s' : TokenSource) (drawn : Option TokenAndSpan) →
     placed q s ≡ b → Draws s drawn s' → placed p s' ≡ record b { place = p }
 placed_kept p b q s s' drawn e d =
     let f : placed p s' ≡ record (placed q s) { place = p } = ap (placed p) d.rest in
@@ -82,6 +102,7 @@ pub record Bumped (old new : Buffered) : Type 0 where
   pub left : lacks_memory (second new.place.left) ≡ false → new.place.left ≡ (after old.place).left
   pub cur : first new.place.left ≡ second old.place.left
   pub len : length new.place.left ≡ length (after old.place).left
+  pub drawn : Drawn (after old.place).left new.place.left
 
 bumped_at : (last : Span) (r : List TokenAndSpan) (ended : Bool) (drawn : Option TokenAndSpan) (s s' : TokenSource) →
     IsFull r ended s.left → Draws s drawn s' →
@@ -96,6 +117,7 @@ bumped_at last r ended drawn s s' f d = record {
   left = bumped_left last r ended s.left drawn s'.left f d.draws;
   cur = bumped_first r ended s.left drawn s'.left f d.draws;
   len = bumped_length last r ended s.left drawn s'.left f d.draws;
+  drawn = bumped_drawn last r ended s.left drawn s'.left f d.draws;
 }
 
 pub bumped_place : (old new : Buffered) → Bumped old new → lacks_memory (second new.place.left) ≡ false →

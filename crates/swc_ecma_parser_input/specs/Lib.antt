@@ -6,3 +6,4 @@ pub mod Faults
 pub mod Ringed
 pub mod View
 pub mod Captured
+pub mod Drawn

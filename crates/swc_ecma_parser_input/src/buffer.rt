@@ -3,6 +3,7 @@
 ghost use Rattle.std.specs.Prelude.{◌≡◌, [], length, true, false, is_none, option_copied, IfOk, IfErr, OnOk};
 ghost use Rattle.swc_ecma_parser_error.specs.Kind.{IsOutOfMemory};
 ghost use Rattle.swc_ecma_parser_input.specs.Buffered as buffered;
+ghost use Rattle.swc_ecma_parser_input.specs.Drawn as behind;
 ghost use Rattle.swc_ecma_parser_input.specs.Place as place;
 ghost use Rattle.swc_ecma_parser_input.specs.Place.{first, second};
 ghost use Rattle.swc_ecma_parser_input.specs.TokenSource as source;
@@ -99,6 +100,7 @@ impl<I: Tokens> Buffer<I> {
         ensures kept { self.new ≡ record self.old { place = record (place.after self.old.place) { left = self.new.place.left } } }
         ensures cur { first self.new.place.left ≡ second self.old.place.left }
         ensures len { length self.new.place.left ≡ length (place.after self.old.place).left }
+        ensures drawn { behind.Drawn (place.after self.old.place).left self.new.place.left }
     {
         let drawn = draw(&mut self.input, &mut self.has_ended);
         let taken = self.ring.turn(drawn);

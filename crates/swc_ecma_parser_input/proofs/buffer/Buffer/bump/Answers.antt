@@ -23,3 +23,6 @@ returns-in-Some-clause-cur g c = (in_some g (goal.at.returns-in-Some-clause-cur 
 
 pub returns-in-Some-clause-len : goal.returns-in-Some-clause-len
 returns-in-Some-clause-len g c = (in_some g (goal.at.returns-in-Some-clause-len g c).In-Some).len
+
+pub returns-in-Some-clause-drawn : goal.returns-in-Some-clause-drawn
+returns-in-Some-clause-drawn g c = (in_some g (goal.at.returns-in-Some-clause-drawn g c).In-Some).drawn

@@ -2,7 +2,7 @@ use Rattle.swc_ecma_parser_state.proofs.Contexts.{context_is}
 use Rattle.std.proofs.Common.{◌++◌, ◌∙◌, ap}
 use Rattle.swc_ecma_parser_error.specs.Kind.{faults_of}
 use Rattle.swc_ecma_parser_state.proofs.Contexts.{recorded_stay}
-use Rattle.swc_ecma_parser_state.proofs.state.State.restore.Goals as goal
+use Rattle.swc_ecma_parser_state.proofs.state.Call.restore.Goals as goal
 
 pub returns-clause-flags : goal.returns-clause-flags
 returns-clause-flags g c = rw (c.set_ctx.ensures, context_is)

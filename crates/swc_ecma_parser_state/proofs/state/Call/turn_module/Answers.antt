@@ -1,6 +1,6 @@
 use Rattle.std.proofs.Common.{◌++◌, ◌∙◌, ap}
 use Rattle.swc_ecma_parser_state.proofs.Contexts.{released_faults}
-use Rattle.swc_ecma_parser_state.proofs.state.State.enter_module.Goals as goal
+use Rattle.swc_ecma_parser_state.proofs.state.Call.turn_module.Goals as goal
 
 pub returns-clause-faults : goal.returns-clause-faults
 returns-clause-faults g c =
