@@ -29,19 +29,19 @@ use Rattle.swc_ecma_parser_exactness.specs.Walked.{whole_module_walk}
 -- no error token where none is counted
 none_stands : (ts : List TokenAndSpan) → error_tokens ts ≡ 0 → has_error_token ts ≡ false
 none_stands [] h = refl
-none_stands (t ∷ ts) h = by_kind (same_kind (token_kind t.token) kind.Error) h
+none_stands (t ∷ ts) h = by_kind (same_kind (token_kind t.token) kind.Error) (λ g. none_stands ts g) h
   where
-    by_kind : (b : Bool) → cond b (suc (error_tokens ts)) (error_tokens ts) ≡ 0 → (b || has_error_token ts) ≡ false
-    by_kind true g = cc
-    by_kind false g = none_stands ts g
+    by_kind : (b : Bool) → (error_tokens ts ≡ 0 → has_error_token ts ≡ false) → cond b (suc (error_tokens ts)) (error_tokens ts) ≡ 0 → (b || has_error_token ts) ≡ false
+    by_kind true f g = cc
+    by_kind false f g = f g
 
 drops-append : (es fs : List Fault) → drops (es ++ fs) ≡ (drops es || drops fs)
 drops-append [] fs = refl
-drops-append (e ∷ es) fs = by_kind (is_dropping e.kind)
+drops-append (e ∷ es) fs = by_kind (is_dropping e.kind) (drops-append es fs)
   where
-    by_kind : (b : Bool) → cond b true (drops (es ++ fs)) ≡ (cond b true (drops es) || drops fs)
-    by_kind true = refl
-    by_kind false = drops-append es fs
+    by_kind : (b : Bool) → drops (es ++ fs) ≡ (drops es || drops fs) → cond b true (drops (es ++ fs)) ≡ (cond b true (drops es) || drops fs)
+    by_kind true h = refl
+    by_kind false h = h
 
 neither : (a b : Bool) → (a || b) ≡ false → (a ≡ false) × (b ≡ false)
 neither true b h = absurd (true≢false h)
@@ -54,11 +54,11 @@ none_of false b h g = g
 -- what is noted has the kind of the fault
 none_noted : (fs : List Fault) → tabled (map as_note fs) ≡ [] → tabled fs ≡ []
 none_noted [] h = refl
-none_noted (f ∷ fs) h = by_kind (is_tabled f.kind) h
+none_noted (f ∷ fs) h = by_kind (is_tabled f.kind) (λ g. none_noted fs g) h
   where
-    by_kind : (b : Bool) → cond b (as_note f ∷ tabled (map as_note fs)) (tabled (map as_note fs)) ≡ [] → cond b (f ∷ tabled fs) (tabled fs) ≡ []
-    by_kind true g = cc
-    by_kind false g = none_noted fs g
+    by_kind : (b : Bool) → (tabled (map as_note fs) ≡ [] → tabled fs ≡ []) → cond b (as_note f ∷ tabled (map as_note fs)) (tabled (map as_note fs)) ≡ [] → cond b (f ∷ tabled fs) (tabled fs) ≡ []
+    by_kind true k g = cc
+    by_kind false k g = k g
 
 empty_notes : (fs : List Fault) → map as_note fs ≡ [] → fs ≡ []
 empty_notes [] h = refl
@@ -77,7 +77,7 @@ between before recorded behind held e h d =
     let none : tabled recorded ≡ [] = none_noted recorded (ap tabled e ∙ h) in (
       drops-append before behind ∙ none_of (drops before) (drops behind) q.0 p.1,
       tabled-append (before ++ recorded) behind ∙ ap (λ z. z ++ tabled behind) (tabled-append before recorded ∙ ap (λ z. tabled before ++ z) none ∙ append-nil (tabled before))
-      ∙ sym (tabled-append before behind),
+          ∙ sym (tabled-append before behind),
     )
 
 -- the same were added
