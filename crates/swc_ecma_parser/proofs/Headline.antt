@@ -71,6 +71,6 @@ module _ {X : Type 0} (view : X → Tree) (s t : State) (fs : List Fault) (taken
     released_clean (Ok y) h l x = (
       λ p. (t.at, (h l x t.at).0 (p.0, refl, [], sym (none_if (makes_module x) s.notes.held_back held), sym taken ∙ p.1 ∙ sym none ∙ sym (append-nil s.faults))),
       λ q. let a = (h l x q.0).1 q.1 in
-      let k = none_noted a.2 (a.3 ∙ none_if (makes_module x) s.notes.held_back held) in (a.0, taken ∙ a.4 ∙ ap (λ z. s.faults ++ z) k ∙ append-nil s.faults ∙ none),
+          let k = none_noted a.2 (a.3 ∙ none_if (makes_module x) s.notes.held_back held) in (a.0, taken ∙ a.4 ∙ ap (λ z. s.faults ++ z) k ∙ append-nil s.faults ∙ none),
     )
     released_clean (Err e) h l x = (λ p. absurd p, λ q. (h l x q.0).1 q.1)

@@ -13,11 +13,7 @@ use swc_ecma_parser_input::Tokens;
 
 /// A script. Unless memory ran out, a tree is answered with nothing recorded exactly where the source's tokens spell it within
 /// the limit; so at most one is spelled.
-pub fn read_script<I: Tokens>(
-    alloc: Global,
-    input: I,
-    limit: u32,
-) -> (PResult<Script>, Vec<Error>)
+pub fn read_script<I: Tokens>(alloc: Global, input: I, limit: u32) -> (PResult<Script>, Vec<Error>)
     ensures { Headline view_script programs.script limit (I.seen input) result.0 (faults_of result.1.items) }
 {
     let mut parser = Parser::new_from_limited(alloc, input, limit);
@@ -27,11 +23,7 @@ pub fn read_script<I: Tokens>(
 }
 
 /// The same of a module.
-pub fn read_module<I: Tokens>(
-    alloc: Global,
-    input: I,
-    limit: u32,
-) -> (PResult<Module>, Vec<Error>)
+pub fn read_module<I: Tokens>(alloc: Global, input: I, limit: u32) -> (PResult<Module>, Vec<Error>)
     ensures { Headline view_module programs.«module» limit (I.seen input) result.0 (faults_of result.1.items) }
 {
     let mut parser = Parser::new_from_limited(alloc, input, limit);

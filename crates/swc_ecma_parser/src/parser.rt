@@ -9,17 +9,18 @@ ghost use Rattle.swc_ecma_parser_forward.specs.Forward.{in_order, AnswersForward
 ghost use Rattle.swc_ecma_parser_input.specs.Place as place;
 ghost use Rattle.swc_ecma_parser_input.specs.Setting.{setting_of};
 ghost use Rattle.swc_ecma_parser_module_reader.specs.Entry.{IsEntered, SoundModule};
-ghost use Rattle.swc_ecma_parser_module_reader.specs.ItemEntry.{SoundItemAlone};
-ghost use Rattle.swc_ecma_parser_module_reader.specs.ProgramEntry.{SoundProgram};
+ghost use Rattle.swc_ecma_parser_module_reader.specs.ItemEntry.{SoundItemAlone, item_walk};
+ghost use Rattle.swc_ecma_parser_module_reader.specs.ProgramEntry.{SoundProgram, program_walk};
 ghost use Rattle.swc_ecma_parser_reader.specs.Notes.{held_of};
 ghost use Rattle.swc_ecma_parser_reader.specs.State as reader;
-ghost use Rattle.swc_ecma_parser_reader.specs.Entry.{unmarked, SoundScript, SoundStatement, IsRestored, Stays};
+ghost use Rattle.swc_ecma_parser_reader.specs.Entry.{unmarked, SoundScript, SoundStatement, IsRestored, Stays, script_walk, statement_walk};
 ghost use Rattle.swc_ecma_parser_reader.specs.Calls.{Leaves, MemoryLasts, TellsMark, lacks_ahead};
 ghost use Rattle.swc_ecma_parser_reader.specs.Limits.{has_too_deep_token};
 ghost use Rattle.swc_ecma_parser_exactness.specs.Completes.{CompletesScript, CompletesModule, CompletesProgram, CompletesItem, CompletesStatement};
 ghost use Rattle.swc_ecma_parser_exactness.specs.Decides.{DecidesScript, DecidesStatement};
 ghost use Rattle.swc_ecma_parser_exactness.specs.ModuleDecides.{DecidesModule, DecidesItem, DecidesProgram};
 ghost use Rattle.swc_ecma_parser_exactness.specs.Supports.{Ordered};
+ghost use Rattle.swc_ecma_parser_exactness.specs.Walked.{Walked, whole_module_walk};
 ghost use Rattle.swc_ecma_parser_state.specs.Opened.{opened};
 ghost use Rattle.swc_ecma_parser_token.specs.declared.token.Token.TheVariants as token;
 ghost use Rattle.swc_ecma_parser_token.specs.declared.token.TokenAndSpan.{TokenAndSpan};
@@ -109,6 +110,10 @@ impl<I: Tokens> Parser<I> {
         // spell it within the limit.
         ensures decides { DecidesScript view_script self.old.limit (unmarked self.old.state) result self.new.state }
 
+        // Where nothing had been held back, no error token was read and nothing was dropped: the faults of the walk's kinds among
+        // those that the call added are the walk.
+        ensures walk { Walked view_script (script_walk self.old.state) self.old.state result self.new.state }
+
         // Of tokens in order, whatever is recorded: no span of an answer starts after its end, and what is left is in order.
         ensures forward { in_order self.old.state.at ≡ true → AnswersForward view_script result self.new.state.at }
 
@@ -170,6 +175,10 @@ impl<I: Tokens> Parser<I> {
         // whole list spells it within the limit.
         ensures decides { (from : ℕ) → Ordered from self.old.state.at → (u : reader.State) × IsEntered (unmarked self.old.state) u
             × DecidesModule view_module self.old.limit u result self.new.state }
+
+        // Where nothing had been held back, no error token was read and nothing was dropped: the faults of the walk's kinds among
+        // those that the call added are the walk.
+        ensures walk { Walked view_module (whole_module_walk self.old.state) self.old.state result self.new.state }
 
         // Of tokens in order, whatever is recorded: no span of an answer starts after its end, and what is left is in order.
         ensures forward { in_order self.old.state.at ≡ true → AnswersForward view_module result self.new.state.at }
@@ -234,6 +243,10 @@ impl<I: Tokens> Parser<I> {
         // had been held back, exactly where the tokens up to there spell it within the limit.
         ensures decides { (from : ℕ) → Ordered from self.old.state.at → DecidesProgram view_program self.old.limit (unmarked self.old.state) result self.new.state }
 
+        // Where nothing had been held back, no error token was read and nothing was dropped: the faults of the walk's kinds among
+        // those that the call added are the walk.
+        ensures walk { Walked view_program (program_walk self.old.state) self.old.state result self.new.state }
+
         // Of tokens in order, whatever is recorded: no span of an answer starts after its end, and what is left is in order.
         ensures forward { in_order self.old.state.at ≡ true → AnswersForward view_program result self.new.state.at }
 
@@ -297,6 +310,10 @@ impl<I: Tokens> Parser<I> {
         // had been held back, exactly where the tokens up to there spell it within the limit.
         ensures decides { (from : ℕ) → Ordered from self.old.state.at → DecidesItem view_module_item self.old.limit (unmarked self.old.state) result self.new.state }
 
+        // Where nothing had been held back, no error token was read and nothing was dropped: the faults of the walk's kinds among
+        // those that the call added are the walk.
+        ensures walk { Walked view_module_item (item_walk self.old.state) self.old.state result self.new.state }
+
         // Of tokens in order, whatever is recorded: no span of an answer starts after its end, and what is left is in order.
         ensures forward { in_order self.old.state.at ≡ true → AnswersForward view_module_item result self.new.state.at }
 
@@ -355,6 +372,10 @@ impl<I: Tokens> Parser<I> {
         // Unless memory ran out: a tree is the answer, read up to a place with nothing recorded, exactly where the tokens up to there
         // spell it within the limit.
         ensures decides { DecidesStatement view_stmt self.old.limit false top_level (unmarked self.old.state) result self.new.state }
+
+        // Where nothing had been held back, no error token was read and nothing was dropped: the faults of the walk's kinds among
+        // those that the call added are the walk.
+        ensures walk { Walked view_stmt (statement_walk self.old.state) self.old.state result self.new.state }
 
         // Of tokens in order, whatever is recorded: no span of an answer starts after its end, and what is left is in order.
         ensures forward { in_order self.old.state.at ≡ true → AnswersForward view_stmt result self.new.state.at }
@@ -417,6 +438,10 @@ impl<I: Tokens> Parser<I> {
         // Unless memory ran out: a tree is the answer, read up to a place with nothing recorded, exactly where the tokens up to there
         // spell it within the limit.
         ensures decides { DecidesStatement view_stmt self.old.limit true top_level (unmarked self.old.state) result self.new.state }
+
+        // Where nothing had been held back, no error token was read and nothing was dropped: the faults of the walk's kinds among
+        // those that the call added are the walk.
+        ensures walk { Walked view_stmt (statement_walk self.old.state) self.old.state result self.new.state }
 
         // Of tokens in order, whatever is recorded: no span of an answer starts after its end, and what is left is in order.
         ensures forward { in_order self.old.state.at ≡ true → AnswersForward view_stmt result self.new.state.at }

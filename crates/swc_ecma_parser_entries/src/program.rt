@@ -25,12 +25,11 @@ fn is_script<O: Origin, I: Tokens>(state: &Call<O, I>) -> bool
 
 /// A program, whose items may stand so many levels deep, in code that can become a module's. A script leaves the context `outer`
 /// behind it, which stood before; a module leaves module code.
-pub(crate) fn program_body<O: Origin, I: Tokens, T: BuildsStatements + BuildsExport + BuildsVarDecl>(
-    t: &MakerOf<T>,
-    state: &mut Call<O, I>,
-    limit: usize,
-    outer: Context,
-) -> PResult<T::Program>
+pub(crate) fn program_body<
+    O: Origin,
+    I: Tokens,
+    T: BuildsStatements + BuildsExport + BuildsVarDecl,
+>(t: &MakerOf<T>, state: &mut Call<O, I>, limit: usize, outer: Context) -> PResult<T::Program>
     ensures answers { (s : reader.State) → outer ≡ s.code.flags → state.old ≡ reader.coded (program_code s.code) s
         → AnswersProgram T.program_of limit s result state.new }
     ensures outright { state.old.at.left ≡ [] → IsOk result }

@@ -18,7 +18,8 @@ use Rattle.swc_ecma_parser_grammar.specs.language.Reads.{Reads}
 use Rattle.swc_ecma_parser_grammar.proofs.Tests.{and_both}
 use Rattle.swc_ecma_parser_grammar.proofs.Unnoted.{joined}
 use Rattle.swc_ecma_parser_reader.specs.Decorators.{Leading, has_any}
-use Rattle.swc_ecma_parser_reader.specs.Entry.{error_tokens, IsLater}
+use Rattle.swc_ecma_parser_reader.specs.Entry.{error_tokens}
+use Rattle.swc_ecma_parser_reader.proofs.Behind.{IsHeld}
 use Rattle.swc_ecma_parser_reader.specs.Limits.{has_out_of_memory_token}
 use Rattle.swc_ecma_parser_reader.specs.Notes.{Notes, notes_of, all_notes_with}
 use Rattle.swc_ecma_parser_reader.specs.Reader.{items_turn, at_end}
@@ -47,6 +48,7 @@ pub record SoundAround (n : ℕ) (m : State) (recorded entering : List Fault) (c
   pub faults : t.faults ≡ m.faults ++ (list ++ recorded ++ behind)
   pub held : List Fault
   pub held_as : entering ≡ m.notes.held_back ++ held
+  pub untabled : tabled held ≡ []
   pub reads : list ++ behind ≡ [] → ModuleItemsRule (Reads n) m.code true ys c m.at t.at × (all_supported_items (trees ys) ≡ true)
   pub quiet : list ++ behind ≡ [] → held ≡ [] → all_notes (trees ys) ≡ []
   pub walked : error_tokens m.at.left ≡ error_tokens t.at.left → drops (list ++ behind) ≡ false → tabled (list ++ behind) ≡ walk_items (env_of m.code m.scope.labels) true (trees ys)
@@ -73,6 +75,7 @@ plain_around n m recorded c ys t may off q leads = let w = around_walk m.code m.
   faults = q.faults ∙ append_assoc m.faults recorded q.added;
   held = [];
   held_as = sym (append-nil m.notes.held_back);
+  untabled = refl;
   reads = λ g. let r = q.reads g in (around_rule n m.code ys c m.at t.at leads off may r.reads, r.support);
   quiet = λ g h. (q.reads g).unnoted;
   walked = λ g d. q.walked g d ∙ w;
@@ -102,7 +105,7 @@ module _ (n : ℕ) (m u : State) (v : Leading) (l : SoundLeading n m v u) (may :
   enters = ap module_code l.reads.code ∙ entered_code m.code may
 
   module _ (x : Tree) (i : State) (p : SoundLed n m l.reads.added (notes_of (listed v.found)) e x i) (b : Bool) (zs : List Tree) (t : State) (q : SoundBehind (suc n) i b zs t)
-      (held : IsLater m.notes.held_back u.notes.held_back) where
+      (held : IsHeld m.notes.held_back u.notes.held_back) where
     inner : i.code ≡ in_module m.code
     inner = p.code ∙ enters
 
@@ -136,6 +139,7 @@ module _ (n : ℕ) (m u : State) (v : Leading) (l : SoundLeading n m v u) (may :
       faults = q.faults ∙ ap (λ z. z ++ q.added) (p.faults ∙ ap (λ z. (z ++ recorded) ++ p.behind) l.reads.faults) ∙ three m.faults l.reads.added recorded p.behind q.added;
       held = held.0;
       held_as = held.1;
+      untabled = held.2;
       reads = λ g. let a = split g in let r = p.reads a.0 in let z = q.reads a.1 in (
         (
           i.at,
@@ -179,7 +183,7 @@ module _ (n : ℕ) (m u : State) (v : Leading) (l : SoundLeading n m v u) (may :
         (λ h. meets_if _ (sees kind.Export e.at) _ _ (λ g. export_led n m u v l (module_code u.code) (u.faults ++ recorded) (record u.notes { held_back = [] }) enters refl any g)
         (λ g. absurd (true≢false (sym (neither (begins_import e.at) (sees kind.Export e.at) begins h) ∙ g))))
 
-    pub behind_list : IsLater m.notes.held_back u.notes.held_back
+    pub behind_list : IsHeld m.notes.held_back u.notes.held_back
         → Meets (λ ys t. (b : Bool) × SoundAround (suc n) m recorded u.notes.held_back b ys t × (any_module_decl (trees ys) ≡ true) × (at_end t.at ≡ true)) (behind_front (suc n) v e)
     unfolding behind_front first_behind
     behind_list held = meets_if _ (has_any v.found) _ _

@@ -307,7 +307,7 @@ module _ (inner : Position → Reader Tree) (inner_expr : Class → Reader Tree)
   expr_stmt_keeps = answers_then _ _ (within with_in (inner_expr expression) s) _ whole_keeps (λ x t k.
       answers_then _ _ (no_label x t) _ (answers_if (Kept b) _ (is_ident x && sees kind.Colon t.at) _ _ (λ _. wanted_keeps _ faults.Unexpected b t k) (λ _. k)) (λ _ u j.
       answers_then _ _ (note_statement x u) _ (answers_if (Kept b) _ (is_ident_named (codes "interface") x) _ _
-      (λ _. module_fault_keeps b (fault_at (span_of x) faults.InvalidIdentInStrict) u j) (λ _. j)) (λ _ v g.
+      (λ _. module_fault_keeps b (fault_at (span_of x) faults.InvalidIdentInStrict) u refl j) (λ _. j)) (λ _ v g.
       answers_then _ _ (stmt_end inner_operators (span_at s.at) x v) _ (stmt_end_keeps inner_operators below_operators (span_at s.at) x b v g) (λ _ w z. z))))
 
   expr_stmt_at_keeps : Answers (Kept b) (Lost b) (expr_stmt_at (inner_expr expression) inner_operators at s)

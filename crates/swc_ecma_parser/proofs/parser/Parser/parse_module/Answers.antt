@@ -6,8 +6,9 @@ use Rattle.swc_ecma_parser_exactness.proofs.Completed.{module_completes}
 use Rattle.swc_ecma_parser_exactness.proofs.Decided.{module_decided}
 use Rattle.swc_ecma_parser_forward.specs.Forward.{in_order}
 use Rattle.swc_ecma_parser_module_forward.proofs.Entries.{module_answers_forward}
+use Rattle.swc_ecma_parser_exactness.proofs.Walked.{module_walked}
 use Rattle.swc_ecma_parser_forward.proofs.Leaves.{leaves_in_order}
-use Rattle.swc_ecma_parser.proofs.Kept.{kept_is, lasts, tells, scope_told}
+use Rattle.swc_ecma_parser.proofs.Kept.{kept_is, lasts, tells, scope_told, walked_told}
 use Rattle.swc_ecma_parser.proofs.parser.Parser.parse_module.Goals as goal
 
 pub returns-clause-sound : goal.returns-clause-sound
@@ -36,6 +37,9 @@ returns-clause-memory g c = let (u, i, h) = c.module.ensures.answers in rw (← 
 
 pub returns-clause-mark : goal.returns-clause-mark
 returns-clause-mark g c = let (u, i, h) = c.module.ensures.answers in rw (← (kept_is _ _ _ _ (sym c.take-state.ensures.value ∙ c.unwrap-state.ensures) c.self.view_is)) (tells _ c.unwrap-state.result c.module.result.1 c.module.result.0 (scope_told c.module.result.1 c.module.result.0 (modules.sound _ view_module c.self.inside.limit c.unwrap-state.result u i c.module.result.1 c.module.result.0 h) (λ x p. ap (λ z. z.mark) (p.scope ∙ i.scope))) c.module.ensures.says)
+
+pub returns-clause-walk : goal.returns-clause-walk
+returns-clause-walk g c = let (u, i, h) = c.module.ensures.answers in rw (← (kept_is _ _ _ _ (sym c.take-state.ensures.value ∙ c.unwrap-state.ensures) c.self.view_is)) (walked_told view_module _ c.unwrap-state.result c.module.result.0 c.module.result.1 (modules.sound _ view_module c.self.inside.limit c.unwrap-state.result u i c.module.result.1 c.module.result.0 h) (λ x p added is none counts kept. module_walked c.self.inside.limit (unmarked c.unwrap-state.result) (view_module x) c.module.result.0 added is counts kept none u i p))
 
 pub returns-clause-leaves : goal.returns-clause-leaves
 returns-clause-leaves g c = rw (← (kept_is _ _ _ _ (sym c.take-state.ensures.value ∙ c.unwrap-state.ensures) c.self.view_is)) (c.module.ensures.leaves)

@@ -5,8 +5,9 @@ use Rattle.swc_ecma_parser_module_reader.proofs.ItemEntries as items
 use Rattle.swc_ecma_parser_exactness.proofs.Completed.{item_completes}
 use Rattle.swc_ecma_parser_exactness.proofs.Decided.{item_decided}
 use Rattle.swc_ecma_parser_module_forward.proofs.Entries.{item_answers_forward}
+use Rattle.swc_ecma_parser_exactness.proofs.Walked.{item_walked}
 use Rattle.swc_ecma_parser_forward.proofs.Leaves.{leaves_in_order}
-use Rattle.swc_ecma_parser.proofs.Kept.{kept_is, lasts, tells, scope_told}
+use Rattle.swc_ecma_parser.proofs.Kept.{kept_is, lasts, tells, scope_told, walked_told}
 use Rattle.swc_ecma_parser.proofs.parser.Parser.parse_module_item.Goals as goal
 
 pub returns-clause-sound : goal.returns-clause-sound
@@ -35,6 +36,9 @@ returns-clause-memory g c = rw (← (kept_is _ _ _ _ (sym c.take-state.ensures.v
 
 pub returns-clause-mark : goal.returns-clause-mark
 returns-clause-mark g c = rw (← (kept_is _ _ _ _ (sym c.take-state.ensures.value ∙ c.unwrap-state.ensures) c.self.view_is)) (tells _ c.unwrap-state.result c.item.result.1 c.item.result.0 (scope_told c.item.result.1 c.item.result.0 (items.sound _ view_module_item c.self.inside.limit (unmarked c.unwrap-state.result) c.item.result.1 c.item.result.0 c.item.ensures.answers) (λ x p. ap (λ z. z.mark) p.scope)) c.item.ensures.says)
+
+pub returns-clause-walk : goal.returns-clause-walk
+returns-clause-walk g c = rw (← (kept_is _ _ _ _ (sym c.take-state.ensures.value ∙ c.unwrap-state.ensures) c.self.view_is)) (walked_told view_module_item _ c.unwrap-state.result c.item.result.0 c.item.result.1 (items.sound _ view_module_item c.self.inside.limit (unmarked c.unwrap-state.result) c.item.result.1 c.item.result.0 c.item.ensures.answers) (λ x p added is none counts kept. item_walked c.self.inside.limit (unmarked c.unwrap-state.result) (view_module_item x) c.item.result.0 added is counts kept none p))
 
 pub returns-clause-leaves : goal.returns-clause-leaves
 returns-clause-leaves g c = rw (← (kept_is _ _ _ _ (sym c.take-state.ensures.value ∙ c.unwrap-state.ensures) c.self.view_is)) (c.item.ensures.leaves)

@@ -6,8 +6,9 @@ use Rattle.swc_ecma_parser_module_reader.proofs.ProgramAnswers as answers
 use Rattle.swc_ecma_parser_exactness.proofs.Completed.{program_completes}
 use Rattle.swc_ecma_parser_exactness.proofs.Decided.{program_decided}
 use Rattle.swc_ecma_parser_module_forward.proofs.Entries.{program_answers_forward}
+use Rattle.swc_ecma_parser_exactness.proofs.Walked.{program_walked}
 use Rattle.swc_ecma_parser_forward.proofs.Leaves.{leaves_in_order}
-use Rattle.swc_ecma_parser.proofs.Kept.{kept_is, lasts, tells, scope_told}
+use Rattle.swc_ecma_parser.proofs.Kept.{kept_is, lasts, tells, scope_told, walked_told}
 use Rattle.swc_ecma_parser.proofs.parser.Parser.parse_program.Goals as goal
 
 pub returns-clause-sound : goal.returns-clause-sound
@@ -36,6 +37,9 @@ returns-clause-memory g c = rw (← (kept_is _ _ _ _ (sym c.take-state.ensures.v
 
 pub returns-clause-mark : goal.returns-clause-mark
 returns-clause-mark g c = rw (← (kept_is _ _ _ _ (sym c.take-state.ensures.value ∙ c.unwrap-state.ensures) c.self.view_is)) (tells _ c.unwrap-state.result c.program.result.1 c.program.result.0 (scope_told c.program.result.1 c.program.result.0 (programs.sound _ view_program c.self.inside.limit (unmarked c.unwrap-state.result) c.program.result.1 c.program.result.0 c.program.ensures.answers) (λ x p. ap (λ z. z.mark) p.scope)) c.program.ensures.says)
+
+pub returns-clause-walk : goal.returns-clause-walk
+returns-clause-walk g c = rw (← (kept_is _ _ _ _ (sym c.take-state.ensures.value ∙ c.unwrap-state.ensures) c.self.view_is)) (walked_told view_program _ c.unwrap-state.result c.program.result.0 c.program.result.1 (programs.sound _ view_program c.self.inside.limit (unmarked c.unwrap-state.result) c.program.result.1 c.program.result.0 c.program.ensures.answers) (λ x p added is none counts kept. program_walked c.self.inside.limit (unmarked c.unwrap-state.result) (view_program x) c.program.result.0 added is counts kept none p))
 
 pub returns-clause-leaves : goal.returns-clause-leaves
 returns-clause-leaves g c = rw (← (kept_is _ _ _ _ (sym c.take-state.ensures.value ∙ c.unwrap-state.ensures) c.self.view_is)) (c.program.ensures.leaves)

@@ -6,8 +6,9 @@ use Rattle.swc_ecma_parser_reader.proofs.Keeps as keeps
 use Rattle.swc_ecma_parser_exactness.proofs.Completed.{script_completes}
 use Rattle.swc_ecma_parser_exactness.proofs.Decided.{script_decided}
 use Rattle.swc_ecma_parser_forward.proofs.Entries.{script_answers_forward}
+use Rattle.swc_ecma_parser_exactness.proofs.Walked.{script_walked}
 use Rattle.swc_ecma_parser_forward.proofs.Leaves.{leaves_in_order}
-use Rattle.swc_ecma_parser.proofs.Kept.{kept_is, lasts, tells, scope_told}
+use Rattle.swc_ecma_parser.proofs.Kept.{kept_is, lasts, tells, scope_told, walked_told}
 use Rattle.swc_ecma_parser.proofs.parser.Parser.parse_script.Goals as goal
 
 pub returns-clause-sound : goal.returns-clause-sound
@@ -36,6 +37,9 @@ returns-clause-memory g c = rw (← (kept_is _ _ _ _ (sym c.take-state.ensures.v
 
 pub returns-clause-mark : goal.returns-clause-mark
 returns-clause-mark g c = rw (← (kept_is _ _ _ _ (sym c.take-state.ensures.value ∙ c.unwrap-state.ensures) c.self.view_is)) (tells _ c.unwrap-state.result c.script.result.1 c.script.result.0 (scope_told c.script.result.1 c.script.result.0 (entries.entry_sound _ view_script c.self.inside.limit (unmarked c.unwrap-state.result) c.script.result.1 c.script.result.0 c.script.ensures.answers) (λ x p. ap (λ z. z.mark) p.scope)) c.script.ensures.says)
+
+pub returns-clause-walk : goal.returns-clause-walk
+returns-clause-walk g c = rw (← (kept_is _ _ _ _ (sym c.take-state.ensures.value ∙ c.unwrap-state.ensures) c.self.view_is)) (walked_told view_script _ c.unwrap-state.result c.script.result.0 c.script.result.1 (entries.entry_sound _ view_script c.self.inside.limit (unmarked c.unwrap-state.result) c.script.result.1 c.script.result.0 c.script.ensures.answers) (λ x p added is none counts kept. script_walked c.self.inside.limit (unmarked c.unwrap-state.result) (view_script x) c.script.result.0 added is counts kept p))
 
 pub returns-clause-leaves : goal.returns-clause-leaves
 returns-clause-leaves g c = rw (← (kept_is _ _ _ _ (sym c.take-state.ensures.value ∙ c.unwrap-state.ensures) c.self.view_is)) (c.script.ensures.leaves)

@@ -6,8 +6,9 @@ use Rattle.swc_ecma_parser_reader.proofs.Keeps as keeps
 use Rattle.swc_ecma_parser_exactness.proofs.Completed.{statement_completes}
 use Rattle.swc_ecma_parser_exactness.proofs.Decided.{statement_decided}
 use Rattle.swc_ecma_parser_forward.proofs.Entries.{statement_answers_forward}
+use Rattle.swc_ecma_parser_exactness.proofs.Walked.{statement_walked}
 use Rattle.swc_ecma_parser_forward.proofs.Leaves.{leaves_in_order}
-use Rattle.swc_ecma_parser.proofs.Kept.{kept_is, lasts, tells, scope_told}
+use Rattle.swc_ecma_parser.proofs.Kept.{kept_is, lasts, tells, scope_told, walked_told}
 use Rattle.swc_ecma_parser.proofs.parser.Parser.parse_stmt_list_item.Goals as goal
 
 pub returns-clause-sound : goal.returns-clause-sound
@@ -36,6 +37,9 @@ returns-clause-memory g c = rw (← (kept_is _ _ _ _ (sym c.take-state.ensures.v
 
 pub returns-clause-mark : goal.returns-clause-mark
 returns-clause-mark g c = rw (← (kept_is _ _ _ _ (sym c.take-state.ensures.value ∙ c.unwrap-state.ensures) c.self.view_is)) (tells _ c.unwrap-state.result c.statement.result.1 c.statement.result.0 (scope_told c.statement.result.1 c.statement.result.0 (statements.statement_sound _ view_stmt c.self.inside.limit true c.args.top_level (unmarked c.unwrap-state.result) c.statement.result.1 c.statement.result.0 c.statement.ensures.answers) (λ x p. ap (λ z. z.mark) p.scope)) c.statement.ensures.says)
+
+pub returns-clause-walk : goal.returns-clause-walk
+returns-clause-walk g c = rw (← (kept_is _ _ _ _ (sym c.take-state.ensures.value ∙ c.unwrap-state.ensures) c.self.view_is)) (walked_told view_stmt _ c.unwrap-state.result c.statement.result.0 c.statement.result.1 (statements.statement_sound _ view_stmt c.self.inside.limit true c.args.top_level (unmarked c.unwrap-state.result) c.statement.result.1 c.statement.result.0 c.statement.ensures.answers) (λ x p added is none counts kept. statement_walked c.self.inside.limit (unmarked c.unwrap-state.result) (view_stmt x) c.statement.result.0 added is counts kept true c.args.top_level p))
 
 pub returns-clause-leaves : goal.returns-clause-leaves
 returns-clause-leaves g c = rw (← (kept_is _ _ _ _ (sym c.take-state.ensures.value ∙ c.unwrap-state.ensures) c.self.view_is)) (c.statement.ensures.leaves)
