@@ -4,7 +4,11 @@
 use swc_ecma_parser_ast::{Expr, Key, Node, Pat, Stmt};
 
 const _: () = prove!(size_of::<Node>() == 16);
+
 const _: () = prove!(size_of::<Expr>() == 80);
+
 const _: () = prove!(size_of::<Pat>() == 48);
+
 const _: () = prove!(size_of::<Stmt>() == 72);
+
 const _: () = prove!(size_of::<Key>() == 72);
