@@ -120,7 +120,8 @@ export {}; interface → refused 11..20 Unexpected
 export {}; var public → refused 15..21 ExpectedIdent
 export var let → refused 11..14 ExpectedIdent
 'use strict'; const a; var public; export {} → fault 20..21 ConstDeclarationsRequireInitialization, refused 27..33 ExpectedIdent
-#!a¶'use strict'; var public; export {} → refused 22..28 ExpectedIdent";
+#!a¶'use strict'; var public; export {} → refused 22..28 ExpectedIdent
+'a'; 'use strict'; var public; export {} → refused 23..29 ExpectedIdent";
 
 /// Each table, and how many rows it has.
 pub const TABLES: [(&str, &str); 6] = [
@@ -129,7 +130,7 @@ pub const TABLES: [(&str, &str); 6] = [
     (METAS, "26 rows"),
     (DECLARATIONS, "21 rows"),
     (HELD_BACK, "12 rows"),
-    (STRICT, "20 rows"),
+    (STRICT, "21 rows"),
 ];
 
 /// Rows, each within so many levels.
