@@ -17,8 +17,8 @@ pub returns-clause-answers : goal.returns-clause-answers
 returns-clause-answers g c = λ s is.
     let e = begun_unmarked s c.args.call.now is (sym c.is_marked.ensures ∙ c.if-is_marked.false) in
     let (recorded, gives) = c.item_alone-read.ensures in
-    item_read g.T.BuildsItem.item_of c.args.limit _ (unmarked s) recorded _
-    (subst (λ z. GivesAs (λ x. (g.T.BuildsItem.item_of x, map as_note recorded)) (item_whole c.args.limit recorded z) _ _) e gives)
+    item_read g.T.BuildsItem.item_of c.args.limit c.item_alone-read.new.call (unmarked s) recorded c.item_alone-read.result
+    (subst (λ z. GivesAs (λ x. (g.T.BuildsItem.item_of x, map as_note recorded)) (item_whole c.args.limit recorded z) c.item_alone-read.result c.item_alone-read.new.call) e gives)
 
 pub returns-clause-at_end : goal.returns-clause-at_end
 returns-clause-at_end g c = λ s is l.

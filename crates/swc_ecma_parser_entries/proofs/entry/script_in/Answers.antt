@@ -27,4 +27,4 @@ returns-clause-answers g c = λ s is.
     let enters = c.enter_script.ensures ∙ ap (λ z. coded (script_code z.code) z) e in
     let left = c.leave_script.ensures ∙ ap (λ f. coded (record u.code { flags = f }) u) (c.flags-inner.ensures ∙ ap (λ z. z.code.flags) enters) in
     ap (λ z. and_then (script_body c.args.limit z) (λ x t. Ok (x, flagged (script_code s.code) t))) (sym enters)
-    ∙ ap (λ o. and_then o (λ x t. Ok (x, flagged (script_code s.code) t))) c.in_ok-script.ensures.gives ∙ ap (λ t. Ok (_, t)) (sym left)
+    ∙ ap (λ o. and_then o (λ x t. Ok (x, flagged (script_code s.code) t))) c.in_ok-script.ensures.gives ∙ ap (λ t. Ok (g.T.BuildsScript.script_of c.in_ok-script.script, t)) (sym left)

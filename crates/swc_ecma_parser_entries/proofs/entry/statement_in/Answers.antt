@@ -15,8 +15,8 @@ returns-then-sees-clause-answers g c = λ s is.
 pub returns-clause-answers : goal.returns-clause-answers
 returns-clause-answers g c = λ s is.
     let e = begun_unmarked s c.args.call.now is (sym c.is_marked.ensures ∙ c.if-is_marked.false) in
-    statement_read g.T.Trees.stmt_of c.args.limit _ c.args.at.include_decl c.args.at.top_level (unmarked s) _
-    (subst (λ z. GivesAs g.T.Trees.stmt_of (whole_stmt c.args.limit c.args.at z) _ _) e c.whole_stmt-read.ensures)
+    statement_read g.T.Trees.stmt_of c.args.limit c.whole_stmt-read.new.p c.args.at.include_decl c.args.at.top_level (unmarked s) c.whole_stmt-read.result
+    (subst (λ z. GivesAs g.T.Trees.stmt_of (whole_stmt c.args.limit c.args.at z) c.whole_stmt-read.result c.whole_stmt-read.new.p) e c.whole_stmt-read.ensures)
 
 pub returns-clause-at_end : goal.returns-clause-at_end
 returns-clause-at_end g c = λ s is l.
