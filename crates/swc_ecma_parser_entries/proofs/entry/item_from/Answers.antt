@@ -4,4 +4,4 @@ use Rattle.swc_ecma_parser_entries.proofs.entry.item_from.Goals as goal
 
 pub returns-in-Err-clause-answers : goal.returns-in-Err-clause-answers
 returns-in-Err-clause-answers g c =
-    item_told _ g.T.BuildsItem.item_of c.args.limit (unmarked c.args.state) _ _ _ _ c.refused.ensures.same c.refused.ensures.back (c.in-Err.ensures.answers c.args.state c.begin-call.ensures)
+    item_told _ g.T.BuildsItem.item_of c.args.limit (unmarked c.args.state) _ _ _ _ c.refused-state.ensures.same c.refused-state.ensures.back (c.in-Err.ensures.answers c.args.state c.begin-call.ensures)
