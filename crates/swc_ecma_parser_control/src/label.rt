@@ -1,7 +1,8 @@
 //! Labels: ECMA-262, section 14.13.
 
-ghost use Rattle.std.specs.Prelude.{◌≡◌, if◌then◌else◌, true, [], ◌++◌, replicate};
+ghost use Rattle.std.specs.Prelude.{◌≡◌, if◌then◌else◌, true, [], ◌++◌, replicate, IfOk, IfErr};
 ghost use Rattle.swc_ecma_parser_error.specs.Kind as kinds;
+ghost use Rattle.swc_ecma_parser_error.specs.Kind.{IsOutOfMemory};
 ghost use Rattle.swc_ecma_parser_grammar.specs.Own as own;
 ghost use Rattle.swc_ecma_parser_grammar.specs.language.Goals.{expression};
 ghost use Rattle.swc_ecma_parser_inner.specs.Nests.{Nests};
@@ -36,6 +37,15 @@ fn begins_label<P: Source>(p: &P) -> bool
     p.name_at() && p.next_sees(TokenKind::Colon)
 }
 
+/// The text of a label, as a fault holds it.
+fn label_text<P: Source>(alloc: Global, p: &mut P, label: &Ident) -> PResult<Boxed<Atom>>
+    ensures state { IfOk result (λ text. P.seen p.new ≡ P.seen p.old) }
+    ensures err { IfErr result IsOutOfMemory }
+{
+    let text = grown(p, label.sym.try_clone())?;
+    grown(p, Boxed::new(alloc, text))
+}
+
 /// Records so many times that a label stands around already.
 #[tactic(auto, using(swc_ecma_parser_reader::proofs::Plain::told_none, swc_ecma_parser_reader::proofs::Plain::told_more, swc_ecma_parser_reader::proofs::Plain::told_err))]
 fn duplicate<P: Source>(alloc: Global, p: &mut P, label: &Ident, times: usize) -> PResult<()>
@@ -43,8 +53,7 @@ fn duplicate<P: Source>(alloc: Global, p: &mut P, label: &Ident, times: usize) -
 {
     let mut left = times;
     'times: while left > 0 {
-        let text = grown(p, label.sym.try_clone())?;
-        let text = grown(p, Boxed::new(alloc, text))?;
+        let text = label_text(alloc, p, label)?;
         p.fault(SyntaxError::DuplicateLabel(text), label.span)?;
         left -= 1;
     }
