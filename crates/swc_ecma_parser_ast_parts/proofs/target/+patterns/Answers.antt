@@ -4,7 +4,7 @@ use Rattle.swc_ecma_parser_model.specs.Held.{Held}
 use Rattle.swc_ecma_parser_model.specs.Targets.{as_elements, as_pattern, as_properties, as_property}
 use Rattle.swc_ecma_parser_model.specs.Tree.{Tree}
 use Rattle.swc_ecma_parser_ast.specs.Parts.{view_option}
-use Rattle.swc_ecma_parser_ast.specs.View.{view_expr, view_expr_or_spread, view_object_pat_prop, view_pat, view_prop_or_spread}
+use Rattle.swc_ecma_parser_ast.specs.View.{view_expr, view_expr_or_spread, view_object_pat_prop, view_pat, view_prop, view_prop_or_spread}
 use Rattle.swc_ecma_parser_ast.specs.declared.call.ExprOrSpread.{ExprOrSpread}
 use Rattle.swc_ecma_parser_ast.specs.declared.node.PatBox.{PatBox}
 use Rattle.swc_ecma_parser_ast_parts.specs.Targets.{as_element_at, as_property_at}
