@@ -1,20 +1,28 @@
 -- What a new parser answers, from what each entry decides.
-use Rattle.std.proofs.Common.{◌≡◌, ◌≢◌, ℕ, Bool, true, false, cond, List, [], ◌∷◌, ◌++◌, map, Result, Ok, Err, refl, sym, ap, ◌∙◌, append-nil, true≢false}
+use Rattle.std.proofs.Common.{◌≡◌, ◌≢◌, ℕ, Bool, true, false, cond, List, [], ◌∷◌, ◌++◌, map, Result, Ok, Err, refl, sym, ap, ◌∙◌, subst, append-nil, true≢false}
 use Rattle.std.specs.Prelude.{◌↔◌, ◌||◌, IsErrAnd}
 use Rattle.swc_ecma_parser_error.specs.declared.error.Error.{Error}
 use Rattle.swc_ecma_parser_error.specs.Kind.{Fault, faults_of, kind_of, OutOfMemory}
 use Rattle.swc_ecma_parser_input.specs.declared.context.Context.{Context}
-use Rattle.swc_ecma_parser_input.specs.Place.{Place, first, second, lacks_memory}
+use Rattle.swc_ecma_parser_input.specs.Place.{Place, first, second, lacks_memory, outset}
 use Rattle.swc_ecma_parser_input.specs.TokenSource.{TokenSource, released, with_context}
 use Rattle.swc_ecma_parser_model.specs.Tree.{Tree}
+use Rattle.swc_ecma_parser_grammar.specs.Names.{Code}
 use Rattle.swc_ecma_parser_grammar.specs.Notes.{as_note}
+use Rattle.swc_ecma_parser_grammar.specs.language.Programs as programs
+use Rattle.swc_ecma_parser_grammar.specs.language.Programs.{Entry, Spells, is_module_program}
+use Rattle.swc_ecma_parser_module_reader.specs.Entry.{IsEntered}
+use Rattle.swc_ecma_parser_module_reader.specs.Modules.{module_code}
+use Rattle.swc_ecma_parser_module_reader.specs.ProgramEntry.{ReadsProgram, program_walk}
 use Rattle.swc_ecma_parser_reader.specs.Calls.{lacks_ahead}
+use Rattle.swc_ecma_parser_reader.specs.Entry.{unmarked}
 use Rattle.swc_ecma_parser_reader.specs.Notes.{held_of}
 use Rattle.swc_ecma_parser_reader.specs.State.{State}
 use Rattle.swc_ecma_parser_exactness.specs.Decides.{Lasts, IsAnswer, Decides}
-use Rattle.swc_ecma_parser_exactness.specs.ModuleDecides.{IsReleased}
+use Rattle.swc_ecma_parser_exactness.specs.ModuleDecides.{IsReleased, DecidesModule, DecidesProgram}
+use Rattle.swc_ecma_parser_exactness.specs.Supports.{Ordered}
 use Rattle.swc_ecma_parser_state.specs.Opened.{opened}
-use Rattle.swc_ecma_parser.specs.Headline.{IsNew, IsClean}
+use Rattle.swc_ecma_parser.specs.Headline.{IsNew, IsClean, Headline, code_of}
 
 -- ---- a new parser
 
@@ -69,8 +77,63 @@ module _ {X : Type 0} (view : X → Tree) (s t : State) (fs : List Fault) (taken
   module _ (makes_module : Tree → Bool) (held : s.notes.held_back ≡ []) where
     pub released_clean : (r : Result X Error) → Decides r (IsReleased view makes_module s r t) Spelled → Lasts r → (x : Tree) → IsClean view r fs x ↔ ((d : Place) × Spelled x d)
     released_clean (Ok y) h l x = (
-      λ p. (t.at, (h l x t.at).0 (p.0, refl, [], sym (none_if (makes_module x) s.notes.held_back held), sym taken ∙ p.1 ∙ sym none ∙ sym (append-nil s.faults))),
+      λ p. (t.at, (h l x t.at).0 (p.0, refl, ([], sym (none_if (makes_module x) s.notes.held_back held), sym taken ∙ p.1 ∙ sym none ∙ sym (append-nil s.faults)))),
       λ q. let a = (h l x q.0).1 q.1 in
-          let k = none_noted a.2 (a.3 ∙ none_if (makes_module x) s.notes.held_back held) in (a.0, taken ∙ a.4 ∙ ap (λ z. s.faults ++ z) k ∙ append-nil s.faults ∙ none),
+          let k = none_noted a.2.0 (a.2.1 ∙ none_if (makes_module x) s.notes.held_back held) in (a.0, taken ∙ a.2.2 ∙ ap (λ z. s.faults ++ z) k ∙ append-nil s.faults ∙ none),
     )
     released_clean (Err e) h l x = (λ p. absurd p, λ q. (h l x q.0).1 q.1)
+
+-- ---- the whole, of a state over a source and a limit `n` that is the one handed in
+
+module _ {X : Type 0} (view : X → Tree) (source : TokenSource) (limit n : ℕ) (is : n ≡ limit) (s t : State) (fs : List Fault) (taken : fs ≡ t.faults)
+    (left : lacks_memory (first s.at.left) ≡ false → lacks_memory (second s.at.left) ≡ false → s ≡ opened source)
+    (r : Result X Error) (ahead : lacks_ahead s.at ≡ true → IsErrAnd r (λ e. kind_of e.kind ≡ OutOfMemory)) where
+  begun : Lasts r → unmarked s ≡ opened source
+  begun l = ap unmarked (begun_whole X s source left r ahead l)
+
+  moved : (A : Tree → Place → Type 0) (entry : Entry) (u : State) (k : Code) → u.code ≡ k → u.scope.labels ≡ [] → u.at ≡ outset source.start source.left
+      → Decides r A (λ x d. Spells n entry u.code u.scope.labels x u.at d) → Decides r A (λ x d. Spells limit entry k [] x (outset source.start source.left) d)
+  moved A entry u k code labels at h =
+      subst (λ m. Decides r A (λ x d. Spells m entry k [] x (outset source.start source.left) d)) is
+      (subst (λ c. Decides r A (λ x d. Spells n entry k [] x c d)) at
+      (subst (λ ls. Decides r A (λ x d. Spells n entry k ls x u.at d)) labels
+      (subst (λ j. Decides r A (λ x d. Spells n entry j u.scope.labels x u.at d)) code h)))
+
+  pub headline_of : (entry : Entry) → Decides r (IsAnswer view (unmarked s) r t) (λ x d. Spells n entry s.code s.scope.labels x s.at d) → Headline view entry limit source r fs
+  headline_of entry h new l =
+      let w = begun l in
+      answered view (unmarked s) t fs taken (ap (λ z. z.faults) w ∙ none_recorded source new) (λ x d. Spells limit entry (code_of source) [] x (outset source.start source.left) d) r
+      (moved (IsAnswer view (unmarked s) r t) entry (unmarked s) (code_of source) (ap (λ z. z.code) w) (ap (λ z. z.scope.labels) w) (ap (λ z. z.at) w) h) l
+
+  module _ (ordered : Ordered source.start.0 (outset source.start source.left)) where
+    stands : Lasts r → Ordered source.start.0 s.at
+    stands l = subst (λ c. Ordered source.start.0 c) (sym (ap (λ z. z.at) (begun l))) ordered
+
+    pub module_headline : ((from : ℕ) → Ordered from s.at → (u : State) × IsEntered (unmarked s) u × DecidesModule view n u r t) → Headline view programs.«module» limit source r fs
+    module_headline h new l =
+        let w = begun l in
+        let (u, i, k) = h source.start.0 (stands l) in
+        let none : u.faults ≡ [] = i.faults ∙ ap (λ z. z ++ i.recorded) (ap (λ z. z.faults) w ∙ none_recorded source new)
+        ∙ none_noted i.recorded (i.recorded_as ∙ ap (λ z. z.notes.held_back) w ∙ none_held source new) in
+        answered view u t fs taken none (λ x d. Spells limit programs.«module» (code_of source) [] x (outset source.start source.left) d) r
+        (moved (IsAnswer view u r t) programs.«module» u (module_code (code_of source)) (i.code ∙ ap (λ z. module_code z.code) w)
+        (ap (λ z. z.labels) i.scope ∙ ap (λ z. z.scope.labels) w) (i.at ∙ ap (λ z. z.at) w) k) l
+
+    pub item_headline : (entry : Entry) (makes_module : Tree → Bool)
+        → ((from : ℕ) → Ordered from s.at → Decides r (IsReleased view makes_module (unmarked s) r t) (λ x d. Spells n entry s.code s.scope.labels x s.at d))
+        → Headline view entry limit source r fs
+    item_headline entry makes_module h new l =
+        let w = begun l in
+        released_clean view (unmarked s) t fs taken (ap (λ z. z.faults) w ∙ none_recorded source new) (λ x d. Spells limit entry (code_of source) [] x (outset source.start source.left) d)
+        makes_module (ap (λ z. z.notes.held_back) w ∙ none_held source new) r
+        (moved (IsReleased view makes_module (unmarked s) r t) entry (unmarked s) (code_of source) (ap (λ z. z.code) w) (ap (λ z. z.scope.labels) w) (ap (λ z. z.at) w)
+        (h source.start.0 (stands l))) l
+
+    pub program_headline : ((from : ℕ) → Ordered from s.at → DecidesProgram view n (unmarked s) r t) → Headline view programs.program limit source r fs
+    program_headline h new l =
+        let w = begun l in
+        let A = IsReleased view is_module_program (unmarked s) r t in
+        released_clean view (unmarked s) t fs taken (ap (λ z. z.faults) w ∙ none_recorded source new) (λ x d. Spells limit programs.program (code_of source) [] x (outset source.start source.left) d)
+        is_module_program (ap (λ z. z.notes.held_back) w ∙ none_held source new) r
+        (subst (λ m. Decides r A (λ x d. Spells m programs.program (code_of source) [] x (outset source.start source.left) d)) is
+        (subst (λ (z : State). Decides r A (λ x d. ReadsProgram n z.notes.found_module_item z.code x z.at d × (program_walk z x ≡ []))) w (h source.start.0 (stands l)))) l
