@@ -238,22 +238,18 @@ pub fn expr<P: Source, T: BuildsStatements>(
 ) -> PResult<Cover<T::Expr>>
     ensures { GivesAs (cover_of T.expr_of) (read depth asked (P.seen p.old)) result (P.seen p.new) }
 {
-    let tree = match asked {
-        Reading::Expr(class) => expression::<P, T>(t, p, depth, class),
-        Reading::Operand(class) => right_operand::<P, T>(t, p, depth, class),
-        Reading::Class => class_expression::<P, T>(t, p, depth),
-        Reading::Decorated => decorated::<P, T>(t, p, depth),
-        Reading::Object => object_alone::<P, T>(t, p, depth),
-        Reading::Cover => return covered::<P, T>(t, p, depth, Covering::Whole),
-        Reading::Head => return covered::<P, T>(t, p, depth, Covering::Head),
-        Reading::Behind(start) => return covered::<P, T>(t, p, depth, Covering::Behind(start)),
+    match asked {
+        Reading::Expr(class) => Ok(done(expression::<P, T>(t, p, depth, class)?)),
+        Reading::Operand(class) => Ok(done(right_operand::<P, T>(t, p, depth, class)?)),
+        Reading::Cover => covered::<P, T>(t, p, depth, Covering::Whole),
+        Reading::Head => covered::<P, T>(t, p, depth, Covering::Head),
+        Reading::Class => Ok(done(class_expression::<P, T>(t, p, depth)?)),
+        Reading::Decorated => Ok(done(decorated::<P, T>(t, p, depth)?)),
+        Reading::Object => Ok(done(object_alone::<P, T>(t, p, depth)?)),
+        Reading::Behind(start) => covered::<P, T>(t, p, depth, Covering::Behind(start)),
         Reading::BehindAwait(start) => {
-            return covered::<P, T>(t, p, depth, Covering::BehindAwait(start));
+            covered::<P, T>(t, p, depth, Covering::BehindAwait(start))
         }
-    };
-    match tree {
-        Ok(tree) => Ok(done(tree)),
-        Err(error) => Err(error),
     }
 }
 

@@ -1,6 +1,5 @@
 pub mod AsyncHead
 mod Awaits
 mod Flags
-mod ForParts
 mod Misdeclared
 mod Targets

@@ -1,3 +1,3 @@
 pub mod Flags
-pub mod ForParts
+pub mod Made
 pub mod Openings

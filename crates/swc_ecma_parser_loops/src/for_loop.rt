@@ -1,13 +1,13 @@
 //! `for` of three parts, with `in` and with `of`: ECMA-262, sections 14.7.4 and 14.7.5.
 
-ghost use Rattle.std.specs.Prelude.{◌≡◌, is_some, IfOk, Some};
+ghost use Rattle.std.specs.Prelude.{◌≡◌, Some};
 ghost use Rattle.swc_ecma_parser_grammar.specs.language.Goals.{expression};
 ghost use Rattle.swc_ecma_parser_grammar.specs.language.Items.{sub_statement};
 ghost use Rattle.swc_ecma_parser_inner.specs.Nests.{Nests};
-ghost use Rattle.swc_ecma_parser_loops.specs.ForParts as parts;
-ghost use Rattle.swc_ecma_parser_loops.specs.Openings.{opening_of, left_of, IsBare, IsTarget};
+ghost use Rattle.swc_ecma_parser_loops.specs.Made as made;
+ghost use Rattle.swc_ecma_parser_loops.specs.Openings.{opening_of, left_of, IsBare};
 ghost use Rattle.swc_ecma_parser_reader.specs.Reader as rules;
-ghost use Rattle.swc_ecma_parser_reader.specs.State.{Gives, GivesAs, pure};
+ghost use Rattle.swc_ecma_parser_reader.specs.State.{Gives, GivesAs};
 ghost use Rattle.swc_ecma_parser_trees.specs.Parts.{part_of};
 
 use crate::head::{Left, Opening, as_init, as_left, head_of, head_opening, misdeclared};
@@ -41,40 +41,6 @@ fn head_part<
     Ok(Some(part))
 }
 
-/// The first part of three, with the `;` behind it.
-#[tactic(auto, unfolding(crate::specs::ForParts::init_before))]
-#[inline(never)]
-fn init_before<P: Source, T: BuildsFor>(
-    t: &MakerOf<T>,
-    p: &mut P,
-    first: Opening<T::Declarator, T::Expr, T::Pat>,
-) -> PResult<Option<T::ForInit>>
-    ensures { GivesAs (part_of T.init_of) (parts.init_before (opening_of T.declarator_of T.expr_of T.pat_of first) (P.seen p.old)) result (P.seen p.new) }
-{
-    let init = as_init(t, p, first)?;
-    p.expect(TokenKind::Semi, ";")?;
-    Ok(init)
-}
-
-/// What stands before `in` or `of`, with that word. Before `of` an initializer is a fault in any code.
-#[tactic(auto, unfolding(crate::specs::ForParts::left_before))]
-#[inline(never)]
-fn left_before<P: Source, T: BuildsPattern + BuildsFor>(
-    t: &MakerOf<T>,
-    p: &mut P,
-    is_of: bool,
-    first: Opening<T::Declarator, T::Expr, T::Pat>,
-) -> PResult<Left<T::Declarator, T::Pat>>
-    requires { IsBare T.pat_of first }
-    ensures { GivesAs (left_of T.declarator_of T.pat_of) (parts.left_before is_of (opening_of T.declarator_of T.expr_of T.pat_of first) (P.seen p.old)) result (P.seen p.new) }
-{
-    let left = as_left(t, p, first)?;
-    let refused = is_of || p.flags().strict;
-    misdeclared::<P, T>(p, refused, &left)?;
-    p.skip()?;
-    Ok(left)
-}
-
 /// The tree of a `for` of three parts.
 #[inline(never)]
 fn made_for<P: Source, T: BuildsFor>(
@@ -86,7 +52,7 @@ fn made_for<P: Source, T: BuildsFor>(
     update: Option<T::Expr>,
     body: T::Stmt,
 ) -> PResult<T::Stmt>
-    ensures { GivesAs T.stmt_of (parts.made_for start (part_of T.init_of init) (part_of T.expr_of test) (part_of T.expr_of update) (T.stmt_of body) (P.seen p.old)) result (P.seen p.new) }
+    ensures { GivesAs T.stmt_of (made.made_for start (part_of T.init_of init) (part_of T.expr_of test) (part_of T.expr_of update) (T.stmt_of body) (P.seen p.old)) result (P.seen p.new) }
 {
     let span = since(p, start);
     grown(p, T::for_stmt(t.alloc, span, init, test, update, body))
@@ -102,7 +68,7 @@ fn made_for_in<P: Source, T: BuildsPattern + BuildsFor>(
     right: T::Expr,
     body: T::Stmt,
 ) -> PResult<T::Stmt>
-    ensures { GivesAs T.stmt_of (parts.made_for_in start (left_of T.declarator_of T.pat_of left) (T.expr_of right) (T.stmt_of body) (P.seen p.old)) result (P.seen p.new) }
+    ensures { GivesAs T.stmt_of (made.made_for_in start (left_of T.declarator_of T.pat_of left) (T.expr_of right) (T.stmt_of body) (P.seen p.old)) result (P.seen p.new) }
 {
     let span = since(p, start);
     let head = head_of(t, p, left)?;
@@ -120,7 +86,7 @@ fn made_for_of<P: Source, T: BuildsPattern + BuildsFor>(
     right: T::Expr,
     body: T::Stmt,
 ) -> PResult<T::Stmt>
-    ensures { GivesAs T.stmt_of (parts.made_for_of start is_await (left_of T.declarator_of T.pat_of left) (T.expr_of right) (T.stmt_of body) (P.seen p.old)) result (P.seen p.new) }
+    ensures { GivesAs T.stmt_of (made.made_for_of start is_await (left_of T.declarator_of T.pat_of left) (T.expr_of right) (T.stmt_of body) (P.seen p.old)) result (P.seen p.new) }
 {
     let span = since(p, start);
     let head = head_of(t, p, left)?;
@@ -128,7 +94,7 @@ fn made_for_of<P: Source, T: BuildsPattern + BuildsFor>(
 }
 
 /// A `for` of three parts, from behind the first.
-#[tactic(auto, unfolding(crate::specs::ForParts::parts_from), using(crate::proofs::ForParts::parts_read, crate::proofs::ForParts::parts_refused))]
+#[tactic(auto, unfolding(swc_ecma_parser_reader::specs::Reader::for_parts))]
 #[inline(never)]
 fn for_parts<
     P: Source,
@@ -146,7 +112,8 @@ fn for_parts<
     requires { Nests P.seen T.expr_of T.pat_of T.stmt_of g.now.depth (S.pre g.now.stmt) (S.post g.now.stmt) (E.pre g.now.expr) (E.post g.now.expr) (N.pre g.now.pat) (N.post g.now.pat) }
     ensures { GivesAs T.stmt_of (rules.for_parts (rules.stmt g.now.depth sub_statement) (rules.expr g.now.depth) start (opening_of T.declarator_of T.expr_of T.pat_of first) (P.seen p.old)) result (P.seen p.new) }
 {
-    let init = init_before::<P, T>(t, p, first)?;
+    let init = as_init(t, p, first)?;
+    p.expect(TokenKind::Semi, ";")?;
     let test = head_part(g, t, p, TokenKind::Semi)?;
     p.expect(TokenKind::Semi, ";")?;
     let update = head_part(g, t, p, TokenKind::RParen)?;
@@ -156,7 +123,7 @@ fn for_parts<
 }
 
 /// A `for` with `in`, from there on.
-#[tactic(auto, unfolding(crate::specs::ForParts::in_from, swc_ecma_parser_reader::specs::Expressions::inside), using(crate::proofs::ForParts::in_read, crate::proofs::ForParts::in_refused))]
+#[tactic(auto, unfolding(swc_ecma_parser_reader::specs::Reader::for_in, swc_ecma_parser_reader::specs::Expressions::inside))]
 #[inline(never)]
 fn for_in<
     P: Source,
@@ -175,7 +142,10 @@ fn for_in<
     requires bare { IsBare T.pat_of first }
     ensures { GivesAs T.stmt_of (rules.for_in (rules.stmt g.now.depth sub_statement) (rules.expr g.now.depth) start (opening_of T.declarator_of T.expr_of T.pat_of first) (P.seen p.old)) result (P.seen p.new) }
 {
-    let left = left_before::<P, T>(t, p, false, first)?;
+    let left = as_left(t, p, first)?;
+    let refused = p.flags().strict;
+    misdeclared::<P, T>(p, refused, &left)?;
+    p.skip()?;
     let right = inside(g, t, p, Class::Expression)?;
     p.expect(TokenKind::RParen, ")")?;
     let body = looped(g, t, p)?;
@@ -183,7 +153,7 @@ fn for_in<
 }
 
 /// A `for` with `of`, from there on.
-#[tactic(auto, unfolding(crate::specs::ForParts::of_from, swc_ecma_parser_reader::specs::Expressions::inside), using(crate::proofs::ForParts::of_read, crate::proofs::ForParts::of_refused))]
+#[tactic(auto, unfolding(swc_ecma_parser_reader::specs::Reader::for_of, swc_ecma_parser_reader::specs::Expressions::inside))]
 #[inline(never)]
 fn for_of<
     P: Source,
@@ -203,7 +173,9 @@ fn for_of<
     requires bare { IsBare T.pat_of first }
     ensures { GivesAs T.stmt_of (rules.for_of (rules.stmt g.now.depth sub_statement) (rules.expr g.now.depth) is_await start (opening_of T.declarator_of T.expr_of T.pat_of first) (P.seen p.old)) result (P.seen p.new) }
 {
-    let left = left_before::<P, T>(t, p, true, first)?;
+    let left = as_left(t, p, first)?;
+    misdeclared::<P, T>(p, true, &left)?;
+    p.skip()?;
     let right = inside(g, t, p, Class::Assignment)?;
     p.expect(TokenKind::RParen, ")")?;
     let body = looped(g, t, p)?;
@@ -221,18 +193,6 @@ fn await_here<P: Source>(p: &mut P) -> PResult<Option<Span>>
     let word = p.span();
     p.skip()?;
     Ok(Some(word))
-}
-
-/// The words of a `for` up to its `(`, and where `await` is one of them.
-#[tactic(auto, unfolding(crate::specs::ForParts::for_words))]
-#[inline(never)]
-fn for_words<P: Source>(p: &mut P) -> PResult<Option<Span>>
-    ensures { Gives (parts.for_words (P.seen p.old)) result (P.seen p.new) }
-{
-    p.skip()?;
-    let word = await_here(p)?;
-    p.expect(TokenKind::LParen, "(")?;
-    Ok(word)
 }
 
 /// A `for` with `in`, behind `for await`, which is refused behind it.
@@ -318,7 +278,7 @@ fn for_behind<
 }
 
 /// A `for` statement.
-#[tactic(auto, using(crate::proofs::ForParts::words_read, crate::proofs::ForParts::words_refused))]
+#[tactic(auto, unfolding(swc_ecma_parser_reader::specs::Reader::for_stmt))]
 #[inline(never)]
 pub fn for_stmt<
     P: Source,
@@ -331,7 +291,9 @@ pub fn for_stmt<
     ensures { GivesAs T.stmt_of (rules.for_stmt (rules.stmt g.now.depth sub_statement) (rules.expr g.now.depth) (rules.pattern g.now.depth) (rules.head_cover g.now.depth) (P.seen p.old)) result (P.seen p.new) }
 {
     let start = p.span();
-    let word = for_words(p)?;
+    p.skip()?;
+    let word = await_here(p)?;
+    p.expect(TokenKind::LParen, "(")?;
     let first = head_opening(g, t, p, word.is_some())?;
     for_behind(g, t, p, start, word, first)
 }

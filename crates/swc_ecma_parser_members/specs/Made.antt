@@ -6,7 +6,8 @@ use Rattle.swc_ecma_parser_model.specs.Tree as tree
 use Rattle.swc_ecma_parser_model.specs.Tree.{Tree, listed}
 use Rattle.swc_ecma_parser_grammar.specs.Own.{only}
 use Rattle.swc_ecma_parser_grammar.specs.Parameters as formal
-use Rattle.swc_ecma_parser_reader.specs.Methods.{MethodForm, form_is_async, form_is_generator}
+use Rattle.swc_ecma_parser_reader.specs.Members.{form_is_async, form_is_generator}
+use Rattle.swc_ecma_parser_reader.specs.Methods.{MethodForm}
 use Rattle.swc_ecma_parser_reader.specs.Bodies.{misdirected}
 use Rattle.swc_ecma_parser_reader.specs.Jumps.{told}
 use Rattle.swc_ecma_parser_reader.specs.State.{Reader, ◌>>=◌, ◌>>◌, pure, since}

@@ -1,6 +1,6 @@
 //! Methods, accessors, constructors and static blocks: ECMA-262, sections 15.4 and 15.7.
 
-ghost use Rattle.std.specs.Prelude.{◌≡◌, true, not, nat_eq, length, map, IfOk, IfErr};
+ghost use Rattle.std.specs.Prelude.{◌≡◌, false, true, not, nat_eq, length, map, IfOk, IfErr};
 ghost use Rattle.swc_ecma_parser_members.specs.Keys.{member_key_of, misnamed_at};
 ghost use Rattle.swc_ecma_parser_members.specs.Made as made;
 ghost use Rattle.swc_ecma_parser_error.specs.Kind as kinds;
