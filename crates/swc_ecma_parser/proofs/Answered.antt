@@ -5,7 +5,7 @@ use Rattle.swc_ecma_parser_error.specs.declared.error.Error.{Error}
 use Rattle.swc_ecma_parser_error.specs.Kind.{Fault, faults_of, kind_of, OutOfMemory}
 use Rattle.swc_ecma_parser_input.specs.declared.context.Context.{Context}
 use Rattle.swc_ecma_parser_input.specs.Place.{Place, first, second, lacks_memory, outset}
-use Rattle.swc_ecma_parser_input.specs.TokenSource.{TokenSource, released, with_context}
+use Rattle.swc_ecma_parser_input.specs.TokenSource.{TokenSource, released}
 use Rattle.swc_ecma_parser_model.specs.Tree.{Tree}
 use Rattle.swc_ecma_parser_grammar.specs.Names.{Code}
 use Rattle.swc_ecma_parser_grammar.specs.Notes.{as_note}

@@ -1,5 +1,5 @@
 -- What a new parser answers, as a whole: of a source, an entry and a limit, whether a tree is answered with nothing recorded.
-use Rattle.std.specs.Prelude.{◌≡◌, ◌↔◌, ℕ, false, List, [], Result, Ok, Err}
+use Rattle.std.specs.Prelude.{◌≡◌, ◌↔◌, ℕ, List, [], Result, Ok, Err}
 use Rattle.swc_ecma_parser_error.specs.declared.error.Error.{Error}
 use Rattle.swc_ecma_parser_error.specs.Kind.{Fault}
 use Rattle.swc_ecma_parser_input.specs.Place.{Place, outset}

@@ -1,4 +1,4 @@
-use Rattle.std.proofs.Common.{true, false, sym, ap, ◌∙◌, subst}
+use Rattle.std.proofs.Common.{sym, ap, ◌∙◌, subst}
 use Rattle.swc_ecma_parser_ast.specs.View.{view_module}
 use Rattle.swc_ecma_parser_reader.specs.Entry.{unmarked}
 use Rattle.swc_ecma_parser_module_reader.proofs.Answers as modules

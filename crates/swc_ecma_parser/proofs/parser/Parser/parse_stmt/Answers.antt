@@ -1,4 +1,4 @@
-use Rattle.std.proofs.Common.{true, false, sym, ap, ◌∙◌, subst}
+use Rattle.std.proofs.Common.{false, sym, ap, ◌∙◌, subst}
 use Rattle.swc_ecma_parser_ast.specs.View.{view_stmt}
 use Rattle.swc_ecma_parser_reader.specs.Entry.{unmarked}
 use Rattle.swc_ecma_parser_reader.proofs.Statements as statements
