@@ -41,6 +41,14 @@ fn write_read(out: &mut String, read: &PResult<Made>) -> Result<(), AllocError> 
     }
 }
 
+/// Drops an expression, or a refusal.
+fn drop_read(read: PResult<Made>) {
+    match read {
+        Ok(made) => made.into_inner().discard(),
+        Err(error) => drop(error),
+    }
+}
+
 /// Writes what is read over a source.
 fn write_lines<I: Tokens>(
     alloc: Global,
@@ -53,7 +61,7 @@ fn write_lines<I: Tokens>(
     let faults = state.take_errors();
     let written = write_read(out, &read);
     let recorded = write_faults(out, "fault ", faults.as_slice());
-    let_go(read);
+    drop_read(read);
     let_go(faults);
     let_go(state);
     written?;

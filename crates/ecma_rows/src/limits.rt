@@ -2,7 +2,7 @@
 
 use crate::asked::Asked;
 use crate::row::number;
-use crate::sources::{listed, read, tokens};
+use crate::sources::{let_go, listed, read, tokens};
 use serde_json::Value;
 use std::alloc::{AllocError, Global};
 
@@ -35,7 +35,9 @@ pub fn is_clean(lines: &str) -> bool {
 /// How many tokens a row has.
 fn count(alloc: Global, row: &Value, text: &str, asked: Asked) -> Result<usize, AllocError> {
     let tokens = tokens(alloc, row, text, asked)?;
-    Ok(tokens.len())
+    let count = tokens.len();
+    let_go(tokens);
+    Ok(count)
 }
 
 /// Writes that a row is too deep within two levels for each token and two, if it is.

@@ -48,6 +48,16 @@ fn task_named(word: &str) -> Option<Task> {
     }
 }
 
+/// What stands behind the name of a file that a task is done with.
+fn label(task: Task) -> &'static str {
+    match task {
+        Task::Compare => "",
+        Task::Break(_) => ", broken",
+        Task::Copy => ", copied",
+        Task::Refuse => ", refused",
+    }
+}
+
 /// Does a task with the rows of a file.
 fn work<R: Files + Print + AllocGlobal>(rt: &R, task: Task, name: &str) -> io::Result<Tally> {
     let text = fs::read_to_string(rt, name)?;
@@ -63,21 +73,20 @@ fn work<R: Files + Print + AllocGlobal>(rt: &R, task: Task, name: &str) -> io::R
 }
 
 /// Does what the words say, one after the other: those that name a task, and names of files that it is done with.
-fn work_all<R: Files + Print + AllocGlobal>(rt: &R, words: &[String]) -> io::Result<bool> {
+fn work_all<R: Files + Print + AllocGlobal>(rt: &R, words: &[String]) -> io::Result<()> {
     let mut task = Task::Compare;
-    let mut holds = true;
     for word in words {
         let word = word.as_str();
         match task_named(word) {
             Some(named) => task = named,
             None => {
                 let tally = work(rt, task, word)?;
-                println!(rt; "{word}: {tally}")?;
-                holds = holds && tally.wrong == 0;
+                let label = label(task);
+                println!(rt; "{word}{label}: {tally}")?;
             }
         }
     }
-    Ok(holds)
+    Ok(())
 }
 
 /// The arguments without the program's name.
