@@ -203,6 +203,7 @@ pub fn only_parameter<
 }
 
 /// An arrow function with one parameter, from its `=>` on.
+#[inline(never)]
 pub fn arrow_of_one<
     P: Source,
     T: BuildsFunction + BuildsPattern,
@@ -227,6 +228,7 @@ pub fn arrow_of_one<
 
 /// An arrow function whose only parameter is a name with no parentheses.
 #[tactic(auto, unfolding(swc_ecma_parser_reader::specs::Arrows::named_arrow))]
+#[inline(never)]
 pub fn named_arrow<
     P: Source,
     T: BuildsFunction + BuildsPattern,
@@ -244,6 +246,7 @@ pub fn named_arrow<
 
 /// An async arrow function whose only parameter is a name with no parentheses, on the line of `async`.
 #[tactic(auto, unfolding(swc_ecma_parser_reader::specs::AsyncArrows::async_named_arrow))]
+#[inline(never)]
 pub fn async_named_arrow<
     P: Source,
     T: BuildsFunction + BuildsPattern,

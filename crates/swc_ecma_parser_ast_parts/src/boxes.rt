@@ -8,11 +8,11 @@ ghost use Rattle.swc_ecma_parser_trees.specs.Parts.{part_of};
 
 use crate::made::Made;
 use std::alloc::{AllocError, Global};
-use swc_ecma_parser_common::Boxed;
 use swc_ecma_parser_ast::{
     BlockStmt, ClassMember, Constructor, ExprBox, KeyValuePatProp, Param, ParamOrTsParamProp, Pat,
     PatBox, PropName, Span, Stmt, StmtBox,
 };
+use swc_ecma_parser_common::Boxed;
 
 /// A part of a form that is made of a node, with the same model.
 pub trait Part: Drop {

@@ -3,7 +3,6 @@ ghost use Rattle.swc_ecma_parser_ast.specs.View.{view_block_stmt, view_class, vi
 ghost use Rattle.swc_ecma_parser_ast_parts.specs.View.{view_made};
 
 use crate::Ast;
-use swc_ecma_parser_common::Boxed;
 use std::alloc::{AllocError, Global};
 use swc_ecma_parser_ast::{
     AutoAccessor, BlockStmt, Class, ClassExpr, ClassMember, ClassMethod, ClassProp, Decorator,
@@ -12,6 +11,7 @@ use swc_ecma_parser_ast::{
 };
 use swc_ecma_parser_ast_parts::boxes;
 use swc_ecma_parser_ast_parts::made::Made;
+use swc_ecma_parser_common::Boxed;
 use swc_ecma_parser_trees::BuildsClass;
 
 impl BuildsClass for Ast {
@@ -47,13 +47,16 @@ impl BuildsClass for Ast {
         kind: MethodKind,
         is_static: bool,
     ) -> Result<ClassMember, AllocError> {
-        Ok(ClassMember::Method(Boxed::new(alloc, ClassMethod {
-            span,
-            key,
-            function,
-            kind,
-            is_static,
-        })?))
+        Ok(ClassMember::Method(Boxed::new(
+            alloc,
+            ClassMethod {
+                span,
+                key,
+                function,
+                kind,
+                is_static,
+            },
+        )?))
     }
 
     fn private_method(
@@ -64,13 +67,16 @@ impl BuildsClass for Ast {
         kind: MethodKind,
         is_static: bool,
     ) -> Result<ClassMember, AllocError> {
-        Ok(ClassMember::PrivateMethod(Boxed::new(alloc, PrivateMethod {
-            span,
-            key,
-            function,
-            kind,
-            is_static,
-        })?))
+        Ok(ClassMember::PrivateMethod(Boxed::new(
+            alloc,
+            PrivateMethod {
+                span,
+                key,
+                function,
+                kind,
+                is_static,
+            },
+        )?))
     }
 
     fn class_prop(
@@ -86,13 +92,16 @@ impl BuildsClass for Ast {
             (tree.listed (map view_decorator decorators.items))) }
     {
         let value = Made::optional(value);
-        Ok(ClassMember::ClassProp(Boxed::new(alloc, ClassProp {
-            span,
-            key,
-            value,
-            is_static,
-            decorators,
-        })?))
+        Ok(ClassMember::ClassProp(Boxed::new(
+            alloc,
+            ClassProp {
+                span,
+                key,
+                value,
+                is_static,
+                decorators,
+            },
+        )?))
     }
 
     fn private_prop(
@@ -108,13 +117,16 @@ impl BuildsClass for Ast {
             (tree.listed (map view_decorator decorators.items))) }
     {
         let value = Made::optional(value);
-        Ok(ClassMember::PrivateProp(Boxed::new(alloc, PrivateProp {
-            span,
-            key,
-            value,
-            is_static,
-            decorators,
-        })?))
+        Ok(ClassMember::PrivateProp(Boxed::new(
+            alloc,
+            PrivateProp {
+                span,
+                key,
+                value,
+                is_static,
+                decorators,
+            },
+        )?))
     }
 
     fn auto_accessor(
@@ -131,13 +143,16 @@ impl BuildsClass for Ast {
     {
         let value = Made::optional(value);
         let key = Key::Public(key);
-        Ok(ClassMember::AutoAccessor(Boxed::new(alloc, AutoAccessor {
-            span,
-            key,
-            value,
-            is_static,
-            decorators,
-        })?))
+        Ok(ClassMember::AutoAccessor(Boxed::new(
+            alloc,
+            AutoAccessor {
+                span,
+                key,
+                value,
+                is_static,
+                decorators,
+            },
+        )?))
     }
 
     fn private_auto_accessor(
@@ -154,13 +169,16 @@ impl BuildsClass for Ast {
     {
         let value = Made::optional(value);
         let key = Key::Private(key);
-        Ok(ClassMember::AutoAccessor(Boxed::new(alloc, AutoAccessor {
-            span,
-            key,
-            value,
-            is_static,
-            decorators,
-        })?))
+        Ok(ClassMember::AutoAccessor(Boxed::new(
+            alloc,
+            AutoAccessor {
+                span,
+                key,
+                value,
+                is_static,
+                decorators,
+            },
+        )?))
     }
 
     fn static_block(alloc: Global, span: Span, body: BlockStmt) -> Result<ClassMember, AllocError> {

@@ -3,7 +3,6 @@ ghost use Rattle.swc_ecma_parser_ast.specs.View.{view_block_stmt, view_catch_cla
 ghost use Rattle.swc_ecma_parser_ast_parts.specs.View.{view_made};
 
 use crate::Ast;
-use swc_ecma_parser_common::Boxed;
 use std::alloc::{AllocError, Global};
 use swc_ecma_parser_ast::{
     BlockStmt, BreakStmt, CatchClause, ContinueStmt, Ident, IfStmt, LabeledStmt, Pat, ReturnStmt,
@@ -11,6 +10,7 @@ use swc_ecma_parser_ast::{
 };
 use swc_ecma_parser_ast_parts::boxes::{beside, both, optional_stmt};
 use swc_ecma_parser_ast_parts::made::Made;
+use swc_ecma_parser_common::Boxed;
 use swc_ecma_parser_trees::{BuildsControl, BuildsSwitch, BuildsTry};
 
 impl BuildsControl for Ast {
@@ -134,12 +134,15 @@ impl BuildsTry for Ast {
         ensures { IfOk result (λ x. view_stmt x
             ≡ tree.try span (view_block_stmt block) (parts.part_of view_catch_clause handler) (parts.part_of view_block_stmt finalizer)) }
     {
-        Ok(Stmt::Try(Boxed::new(alloc, TryStmt {
-            span,
-            block,
-            handler,
-            finalizer,
-        })?))
+        Ok(Stmt::Try(Boxed::new(
+            alloc,
+            TryStmt {
+                span,
+                block,
+                handler,
+                finalizer,
+            },
+        )?))
     }
 
     fn catch(

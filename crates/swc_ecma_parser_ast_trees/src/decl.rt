@@ -2,12 +2,12 @@ ghost use Rattle.std.specs.Prelude.{◌≡◌, IfOk, map};
 ghost use Rattle.swc_ecma_parser_ast.specs.View.{view_decl, view_declarator};
 
 use crate::Ast;
-use swc_ecma_parser_common::Boxed;
 use std::alloc::{AllocError, Global};
 use swc_ecma_parser_ast::{
     Class, ClassDecl, Decl, FnDecl, Function, Ident, Span, Spanned, Stmt, UsingDecl, VarDecl,
     VarDeclKind, VarDeclarator,
 };
+use swc_ecma_parser_common::Boxed;
 use swc_ecma_parser_trees::{BuildsClassDecl, BuildsDecl, BuildsVarDecl};
 
 impl BuildsDecl for Ast {

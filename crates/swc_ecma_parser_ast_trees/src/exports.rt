@@ -4,7 +4,6 @@ ghost use Rattle.swc_ecma_parser_model.specs.Forms as forms;
 ghost use Rattle.swc_ecma_parser_model.specs.Kinds as kinds;
 
 use crate::Ast;
-use swc_ecma_parser_common::Boxed;
 use std::alloc::{AllocError, Global};
 use swc_ecma_parser_ast::{
     Class, ClassExpr, Decl, DefaultDecl, ExportAll, ExportDecl, ExportDefaultDecl,
@@ -13,6 +12,7 @@ use swc_ecma_parser_ast::{
     NamedExport, ObjectLit, Span, Spanned, Str,
 };
 use swc_ecma_parser_ast_parts::made::Made;
+use swc_ecma_parser_common::Boxed;
 use swc_ecma_parser_trees::BuildsExport;
 
 impl BuildsExport for Ast {

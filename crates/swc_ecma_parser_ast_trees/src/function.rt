@@ -3,13 +3,13 @@ ghost use Rattle.swc_ecma_parser_ast.specs.View.{view_block_stmt, view_decorator
 ghost use Rattle.swc_ecma_parser_ast_parts.specs.View.{view_made};
 
 use crate::Ast;
-use swc_ecma_parser_common::Boxed;
 use std::alloc::{AllocError, Global};
 use swc_ecma_parser_ast::{
     ArrowExpr, BlockStmt, BlockStmtOrExpr, Decorator, Expr, FnExpr, Function, Ident, Param, Pat,
     Span, Spanned,
 };
 use swc_ecma_parser_ast_parts::made::Made;
+use swc_ecma_parser_common::Boxed;
 use swc_ecma_parser_trees::BuildsFunction;
 
 impl BuildsFunction for Ast {

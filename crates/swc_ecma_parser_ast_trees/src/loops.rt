@@ -3,7 +3,6 @@ ghost use Rattle.swc_ecma_parser_ast.specs.View.{view_declarator, view_for_head,
 ghost use Rattle.swc_ecma_parser_ast_parts.specs.View.{view_made};
 
 use crate::Ast;
-use swc_ecma_parser_common::Boxed;
 use std::alloc::{AllocError, Global};
 use swc_ecma_parser_ast::{
     Decl, DoWhileStmt, ForHead, ForInStmt, ForOfStmt, ForStmt, Pat, Span, Spanned, Stmt, StmtBox,
@@ -11,6 +10,7 @@ use swc_ecma_parser_ast::{
 };
 use swc_ecma_parser_ast_parts::boxes::beside;
 use swc_ecma_parser_ast_parts::made::Made;
+use swc_ecma_parser_common::Boxed;
 use swc_ecma_parser_trees::{BuildsFor, BuildsLoop};
 
 impl BuildsLoop for Ast {
@@ -51,13 +51,16 @@ impl BuildsFor for Ast {
     {
         let others = (Made::optional(test), Made::optional(update));
         match beside(StmtBox::new(alloc, body), others) {
-            Ok((body, (test, update))) => Ok(Stmt::For(Boxed::new(alloc, ForStmt {
-                span,
-                init,
-                test,
-                update,
-                body,
-            })?)),
+            Ok((body, (test, update))) => Ok(Stmt::For(Boxed::new(
+                alloc,
+                ForStmt {
+                    span,
+                    init,
+                    test,
+                    update,
+                    body,
+                },
+            )?)),
             Err(e) => {
                 discard_init(init);
                 Err(e)
@@ -88,12 +91,15 @@ impl BuildsFor for Ast {
         body: Stmt,
     ) -> Result<Stmt, AllocError> {
         match beside(StmtBox::new(alloc, body), right.into_handle()) {
-            Ok((body, right)) => Ok(Stmt::ForIn(Boxed::new(alloc, ForInStmt {
-                span,
-                left,
-                right,
-                body,
-            })?)),
+            Ok((body, right)) => Ok(Stmt::ForIn(Boxed::new(
+                alloc,
+                ForInStmt {
+                    span,
+                    left,
+                    right,
+                    body,
+                },
+            )?)),
             Err(e) => {
                 discard_head(left);
                 Err(e)
@@ -110,13 +116,16 @@ impl BuildsFor for Ast {
         body: Stmt,
     ) -> Result<Stmt, AllocError> {
         match beside(StmtBox::new(alloc, body), right.into_handle()) {
-            Ok((body, right)) => Ok(Stmt::ForOf(Boxed::new(alloc, ForOfStmt {
-                span,
-                is_await,
-                left,
-                right,
-                body,
-            })?)),
+            Ok((body, right)) => Ok(Stmt::ForOf(Boxed::new(
+                alloc,
+                ForOfStmt {
+                    span,
+                    is_await,
+                    left,
+                    right,
+                    body,
+                },
+            )?)),
             Err(e) => {
                 discard_head(left);
                 Err(e)

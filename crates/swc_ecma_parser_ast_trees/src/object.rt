@@ -3,13 +3,13 @@ ghost use Rattle.swc_ecma_parser_ast.specs.View.{view_prop_or_spread};
 ghost use Rattle.swc_ecma_parser_ast_parts.specs.View.{view_made};
 
 use crate::Ast;
-use swc_ecma_parser_common::Boxed;
 use std::alloc::{AllocError, Global};
 use swc_ecma_parser_ast::{
     AssignProp, BlockStmt, Expr, Function, GetterProp, Ident, KeyValueProp, MethodProp, ObjectLit,
     Pat, Prop, PropName, PropOrSpread, SetterProp, Span, SpreadElement,
 };
 use swc_ecma_parser_ast_parts::made::Made;
+use swc_ecma_parser_common::Boxed;
 use swc_ecma_parser_trees::{BuildsMethod, BuildsObject};
 
 impl BuildsObject for Ast {

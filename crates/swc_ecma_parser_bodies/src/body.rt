@@ -11,7 +11,6 @@ ghost use Rattle.swc_ecma_parser_reader.specs.State as reader;
 ghost use Rattle.swc_ecma_parser_reader.specs.State.{Gives, GivesAs};
 
 use std::alloc::Global;
-use swc_ecma_parser_common::Atom;
 use swc_ecma_parser_error::{PResult, SyntaxError};
 use swc_ecma_parser_grammar::Position;
 use swc_ecma_parser_inner::cover::{Cover, Reading};
@@ -67,13 +66,12 @@ fn missing_brace<P: Source>(alloc: Global, p: &mut P) -> PResult<SyntaxError>
     ensures state { IfOk result (λ kind. P.seen p.new ≡ P.seen p.old) }
     ensures err { IfErr result IsOutOfMemory }
 {
-    let wanted = grown(p, Atom::new(alloc, "}"))?;
-    let found = grown(p, Atom::new(alloc, "<eof>"))?;
-    grown(p, SyntaxError::expected(alloc, wanted, found))
+    grown(p, SyntaxError::expected(alloc, "}", "<eof>"))
 }
 
 /// The `}` of a block, or a fault where the list has ended.
 #[tactic(auto, unfolding(swc_ecma_parser_reader::specs::Reader::close))]
+#[inline(never)]
 pub fn close<P: Source>(alloc: Global, p: &mut P) -> PResult<()>
     ensures { Gives (rules.close (P.seen p.old)) result (P.seen p.new) }
 {
@@ -164,6 +162,7 @@ pub fn body_items<
 
 /// A block as a statement.
 #[tactic(auto, unfolding(swc_ecma_parser_reader::specs::Reader::block, swc_ecma_parser_reader::specs::Reader::block_from, swc_ecma_parser_grammar::specs::Looks::spanned))]
+#[inline(never)]
 pub fn block<
     P: Source,
     T: BuildsStmt,

@@ -53,6 +53,7 @@ fn duplicate<P: Source>(alloc: Global, p: &mut P, label: &Ident, times: usize) -
 
 /// Records each equal label around.
 #[tactic(auto, using(swc_ecma_parser_reader::proofs::Plain::duplicates_counted))]
+#[inline(never)]
 fn duplicates<P: Source>(alloc: Global, p: &mut P, label: &Ident) -> PResult<()>
     ensures { Gives (rules.told (own.duplicates (P.seen p.old).scope.labels (tree.ident label.now.span label.now.sym)) (P.seen p.old)) result (P.seen p.new) }
 {
@@ -61,6 +62,7 @@ fn duplicates<P: Source>(alloc: Global, p: &mut P, label: &Ident) -> PResult<()>
 }
 
 /// Records a function behind a label: that of strict code, and a generator.
+#[inline(never)]
 fn labelled_function<P: Source>(
     p: &mut P,
     is_function: bool,
@@ -80,6 +82,7 @@ fn labelled_function<P: Source>(
 
 /// What a label stands at, which may break off there.
 #[tactic(auto, unfolding(swc_ecma_parser_reader::specs::Reader::labelled_body))]
+#[inline(never)]
 fn labelled_body<
     P: Source,
     T: Trees,
@@ -105,6 +108,7 @@ fn labelled_body<
 
 /// A statement with a label.
 #[tactic(auto, unfolding(swc_ecma_parser_reader::specs::Reader::labeled_stmt), using(swc_ecma_parser_reader::proofs::Plain::relabels_told))]
+#[inline(never)]
 fn labeled_stmt<
     P: Source,
     T: BuildsControl + BuildsBlock,
@@ -148,6 +152,7 @@ pub(crate) fn other_stmt<
 
 /// A statement that begins with `let`: a declaration before what can be declared, where declarations are read; else `let` is a name.
 #[tactic(auto, unfolding(swc_ecma_parser_reader::specs::Reader::let_stmt))]
+#[inline(never)]
 pub(crate) fn let_stmt<
     P: Source,
     T: BuildsPattern + BuildsStmt + BuildsOperator + BuildsVariables + BuildsControl + BuildsBlock,

@@ -238,18 +238,22 @@ pub fn expr<P: Source, T: BuildsStatements>(
 ) -> PResult<Cover<T::Expr>>
     ensures { GivesAs (cover_of T.expr_of) (read depth asked (P.seen p.old)) result (P.seen p.new) }
 {
-    match asked {
-        Reading::Expr(class) => Ok(done(expression::<P, T>(t, p, depth, class)?)),
-        Reading::Operand(class) => Ok(done(right_operand::<P, T>(t, p, depth, class)?)),
-        Reading::Cover => covered::<P, T>(t, p, depth, Covering::Whole),
-        Reading::Head => covered::<P, T>(t, p, depth, Covering::Head),
-        Reading::Class => Ok(done(class_expression::<P, T>(t, p, depth)?)),
-        Reading::Decorated => Ok(done(decorated::<P, T>(t, p, depth)?)),
-        Reading::Object => Ok(done(object_alone::<P, T>(t, p, depth)?)),
-        Reading::Behind(start) => covered::<P, T>(t, p, depth, Covering::Behind(start)),
+    let tree = match asked {
+        Reading::Expr(class) => expression::<P, T>(t, p, depth, class),
+        Reading::Operand(class) => right_operand::<P, T>(t, p, depth, class),
+        Reading::Class => class_expression::<P, T>(t, p, depth),
+        Reading::Decorated => decorated::<P, T>(t, p, depth),
+        Reading::Object => object_alone::<P, T>(t, p, depth),
+        Reading::Cover => return covered::<P, T>(t, p, depth, Covering::Whole),
+        Reading::Head => return covered::<P, T>(t, p, depth, Covering::Head),
+        Reading::Behind(start) => return covered::<P, T>(t, p, depth, Covering::Behind(start)),
         Reading::BehindAwait(start) => {
-            covered::<P, T>(t, p, depth, Covering::BehindAwait(start))
+            return covered::<P, T>(t, p, depth, Covering::BehindAwait(start));
         }
+    };
+    match tree {
+        Ok(tree) => Ok(done(tree)),
+        Err(error) => Err(error),
     }
 }
 
@@ -454,6 +458,7 @@ pub fn declared_class_with<P: Source, T: BuildsStatements>(
 /// A class as a statement behind decorators, where declarations are read or with a fault of its word.
 #[cycle(knot)]
 #[tactic(auto, unfolding(swc_ecma_parser_reader::specs::Dressed::class_stmt_with))]
+#[inline(never)]
 fn class_statement_with<P: Source, T: BuildsStatements>(
     t: &MakerOf<T>,
     p: &mut P,
@@ -489,6 +494,7 @@ fn class_expression<P: Source, T: BuildsStatements>(
 /// A class as a statement, where declarations are read or with a fault of its word.
 #[cycle(knot)]
 #[tactic(auto, unfolding(swc_ecma_parser_reader::specs::Members::class_stmt))]
+#[inline(never)]
 fn class_statement<P: Source, T: BuildsStatements>(
     t: &MakerOf<T>,
     p: &mut P,
@@ -636,6 +642,7 @@ pub fn declared_function_with<P: Source, T: BuildsStatements>(
 /// A function as a statement behind decorators, where declarations are read or with a fault of its word.
 #[cycle(knot)]
 #[tactic(auto, unfolding(swc_ecma_parser_reader::specs::Dressed::function_stmt_with))]
+#[inline(never)]
 fn function_statement_with<P: Source, T: BuildsStatements>(
     t: &MakerOf<T>,
     p: &mut P,
@@ -678,6 +685,7 @@ pub fn declared_function<P: Source, T: BuildsStatements>(
 /// A declaration of `var`, in so many levels.
 #[cycle(knot)]
 #[tactic(auto, unfolding(swc_ecma_parser_reader::specs::Reader::variables, swc_ecma_parser_grammar::specs::Looks::spanned))]
+#[inline(never)]
 fn declared_variables<P: Source, T: BuildsStatements>(
     t: &MakerOf<T>,
     p: &mut P,

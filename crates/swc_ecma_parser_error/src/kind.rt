@@ -14,6 +14,18 @@ pub struct Texts {
 impl Texts {
     ghost use Rattle.std.specs.Prelude.{◌≡◌, IfOk};
 
+    /// Copies of both texts, in a block of their own; it fails only where memory runs out.
+    fn new(alloc: Global, wanted: &str, found: &str) -> Result<Boxed<Texts>, AllocError>
+        ensures wanted { IfOk result (λ texts. texts.wanted ≡ wanted.now) }
+        ensures found { IfOk result (λ texts. texts.found ≡ found.now) }
+    {
+        let texts = Texts {
+            wanted: Atom::new(alloc, wanted)?,
+            found: Atom::new(alloc, found)?,
+        };
+        Boxed::new(alloc, texts)
+    }
+
     /// Equal texts, or no memory.
     pub fn try_clone(&self) -> Result<Texts, AllocError>
         ensures { IfOk result (λ texts. texts ≡ self.now) }
@@ -246,19 +258,17 @@ impl SyntaxError {
     ghost use Rattle.swc_ecma_parser_error.specs.Kind as kinds;
 
     /// Another token was wanted: its spelling, and the text of the one found. It fails only where memory runs out.
-    pub fn expected(alloc: Global, wanted: Atom, found: Atom) -> Result<SyntaxError, AllocError>
+    pub fn expected(alloc: Global, wanted: &str, found: &str) -> Result<SyntaxError, AllocError>
         ensures { IfOk result (λ k. kind_of k ≡ kinds.Expected) }
     {
-        let texts = Texts { wanted, found };
-        Ok(SyntaxError::Expected(Boxed::new(alloc, texts)?))
+        Ok(SyntaxError::Expected(Texts::new(alloc, wanted, found)?))
     }
 
-    /// No rule takes the token found; `wanted` says what stands here. It fails only where memory runs out.
-    pub fn unexpected(alloc: Global, wanted: Atom, found: Atom) -> Result<SyntaxError, AllocError>
+    /// No rule takes the token found: what may stand here, and its text. It fails only where memory runs out.
+    pub fn unexpected(alloc: Global, wanted: &str, found: &str) -> Result<SyntaxError, AllocError>
         ensures { IfOk result (λ k. kind_of k ≡ kinds.Unexpected) }
     {
-        let texts = Texts { wanted, found };
-        Ok(SyntaxError::Unexpected(Boxed::new(alloc, texts)?))
+        Ok(SyntaxError::Unexpected(Texts::new(alloc, wanted, found)?))
     }
 
     /// The name of the kind, as the code spells it.

@@ -105,6 +105,7 @@ fn first_use_strict<T: BuildsBlock>(stmts: &[T::Stmt]) -> Option<Span>
 }
 
 /// Parameters, in what stands around them.
+#[inline(never)]
 pub fn parameters_inside<
     P: Source,
     T: BuildsPattern,
@@ -154,6 +155,7 @@ fn block<
 }
 
 /// Statements in braces as a body, in what stands around them, with directives or without.
+#[inline(never)]
 pub fn inner_body<
     P: Source,
     T: BuildsBlock,
@@ -325,6 +327,7 @@ pub fn function_parts<
 
 /// A function that is declared.
 #[tactic(auto, unfolding(swc_ecma_parser_reader::specs::Reader::function_decl))]
+#[inline(never)]
 pub fn function_decl<
     P: Source,
     T: BuildsDecl + BuildsPattern,
@@ -368,6 +371,7 @@ pub fn function_stmt<
 }
 
 /// The name of a function that is an expression, read in the function's own code, if there is one.
+#[inline(never)]
 fn own_name<P: Source>(p: &mut P, manner: Manner) -> PResult<Option<Ident>>
     ensures { GivesAs (part_of word_of) (rules.own_name manner.is_async manner.is_generator (P.seen p.old)) result (P.seen p.new) }
 {
@@ -384,6 +388,7 @@ fn own_name<P: Source>(p: &mut P, manner: Manner) -> PResult<Option<Ident>>
 
 /// A function that is an expression.
 #[tactic(auto, unfolding(swc_ecma_parser_reader::specs::Reader::function, swc_ecma_parser_reader::specs::Reader::function_by, swc_ecma_parser_reader::specs::Reader::function_expr))]
+#[inline(never)]
 pub fn function_expr<
     P: Source,
     T: BuildsFunction + BuildsPattern,

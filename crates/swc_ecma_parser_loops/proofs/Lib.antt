@@ -1,6 +1,6 @@
 pub mod AsyncHead
-mod Awaited
 mod Awaits
 mod Flags
+mod ForParts
 mod Misdeclared
 mod Targets

@@ -1,10 +1,11 @@
 //! `for` of three parts, with `in` and with `of`: ECMA-262, sections 14.7.4 and 14.7.5.
 
-ghost use Rattle.std.specs.Prelude.{◌≡◌};
+ghost use Rattle.std.specs.Prelude.{◌≡◌, is_some, IfOk, Some};
 ghost use Rattle.swc_ecma_parser_grammar.specs.language.Goals.{expression};
 ghost use Rattle.swc_ecma_parser_grammar.specs.language.Items.{sub_statement};
 ghost use Rattle.swc_ecma_parser_inner.specs.Nests.{Nests};
-ghost use Rattle.swc_ecma_parser_loops.specs.Openings.{opening_of, IsBare};
+ghost use Rattle.swc_ecma_parser_loops.specs.ForParts as parts;
+ghost use Rattle.swc_ecma_parser_loops.specs.Openings.{opening_of, left_of, IsBare, IsTarget};
 ghost use Rattle.swc_ecma_parser_reader.specs.Reader as rules;
 ghost use Rattle.swc_ecma_parser_reader.specs.State.{Gives, GivesAs, pure};
 ghost use Rattle.swc_ecma_parser_trees.specs.Parts.{part_of};
@@ -41,41 +42,37 @@ fn head_part<
 }
 
 /// The first part of three, with the `;` behind it.
+#[tactic(auto, unfolding(crate::specs::ForParts::init_before))]
 #[inline(never)]
 fn init_before<P: Source, T: BuildsFor>(
     t: &MakerOf<T>,
     p: &mut P,
     first: Opening<T::Declarator, T::Expr, T::Pat>,
-) -> PResult<Option<T::ForInit>> {
+) -> PResult<Option<T::ForInit>>
+    ensures { GivesAs (part_of T.init_of) (parts.init_before (opening_of T.declarator_of T.expr_of T.pat_of first) (P.seen p.old)) result (P.seen p.new) }
+{
     let init = as_init(t, p, first)?;
     p.expect(TokenKind::Semi, ";")?;
     Ok(init)
 }
 
-/// What stands before `in` or `of`, with that word.
+/// What stands before `in` or `of`, with that word. Before `of` an initializer is a fault in any code.
+#[tactic(auto, unfolding(crate::specs::ForParts::left_before))]
 #[inline(never)]
 fn left_before<P: Source, T: BuildsPattern + BuildsFor>(
     t: &MakerOf<T>,
     p: &mut P,
-    refused: bool,
+    is_of: bool,
     first: Opening<T::Declarator, T::Expr, T::Pat>,
-) -> PResult<Left<T::Declarator, T::Pat>> {
+) -> PResult<Left<T::Declarator, T::Pat>>
+    requires { IsBare T.pat_of first }
+    ensures { GivesAs (left_of T.declarator_of T.pat_of) (parts.left_before is_of (opening_of T.declarator_of T.expr_of T.pat_of first) (P.seen p.old)) result (P.seen p.new) }
+{
     let left = as_left(t, p, first)?;
+    let refused = is_of || p.flags().strict;
     misdeclared::<P, T>(p, refused, &left)?;
     p.skip()?;
     Ok(left)
-}
-
-/// The body of a loop, from the `)` before it on.
-fn body_behind<
-    P: Source,
-    T: Trees,
-    S: Fn(&MakerOf<T>, &mut P, usize, Position) -> PResult<T::Stmt>,
-    E: Fn(&MakerOf<T>, &mut P, usize, Reading) -> PResult<Cover<T::Expr>>,
-    N: Fn(&MakerOf<T>, &mut P, usize, Part) -> PResult<T::Pat>,
->(g: &Grammar<S, E, N>, t: &MakerOf<T>, p: &mut P) -> PResult<T::Stmt> {
-    p.expect(TokenKind::RParen, ")")?;
-    looped(g, t, p)
 }
 
 /// The tree of a `for` of three parts.
@@ -88,7 +85,9 @@ fn made_for<P: Source, T: BuildsFor>(
     test: Option<T::Expr>,
     update: Option<T::Expr>,
     body: T::Stmt,
-) -> PResult<T::Stmt> {
+) -> PResult<T::Stmt>
+    ensures { GivesAs T.stmt_of (parts.made_for start (part_of T.init_of init) (part_of T.expr_of test) (part_of T.expr_of update) (T.stmt_of body) (P.seen p.old)) result (P.seen p.new) }
+{
     let span = since(p, start);
     grown(p, T::for_stmt(t.alloc, span, init, test, update, body))
 }
@@ -102,7 +101,9 @@ fn made_for_in<P: Source, T: BuildsPattern + BuildsFor>(
     left: Left<T::Declarator, T::Pat>,
     right: T::Expr,
     body: T::Stmt,
-) -> PResult<T::Stmt> {
+) -> PResult<T::Stmt>
+    ensures { GivesAs T.stmt_of (parts.made_for_in start (left_of T.declarator_of T.pat_of left) (T.expr_of right) (T.stmt_of body) (P.seen p.old)) result (P.seen p.new) }
+{
     let span = since(p, start);
     let head = head_of(t, p, left)?;
     grown(p, T::for_in(t.alloc, span, head, right, body))
@@ -118,14 +119,16 @@ fn made_for_of<P: Source, T: BuildsPattern + BuildsFor>(
     left: Left<T::Declarator, T::Pat>,
     right: T::Expr,
     body: T::Stmt,
-) -> PResult<T::Stmt> {
+) -> PResult<T::Stmt>
+    ensures { GivesAs T.stmt_of (parts.made_for_of start is_await (left_of T.declarator_of T.pat_of left) (T.expr_of right) (T.stmt_of body) (P.seen p.old)) result (P.seen p.new) }
+{
     let span = since(p, start);
     let head = head_of(t, p, left)?;
     grown(p, T::for_of(t.alloc, span, is_await, head, right, body))
 }
 
 /// A `for` of three parts, from behind the first.
-#[tactic(auto, unfolding(swc_ecma_parser_reader::specs::Reader::for_parts))]
+#[tactic(auto, unfolding(crate::specs::ForParts::parts_from), using(crate::proofs::ForParts::parts_read, crate::proofs::ForParts::parts_refused))]
 #[inline(never)]
 fn for_parts<
     P: Source,
@@ -147,12 +150,13 @@ fn for_parts<
     let test = head_part(g, t, p, TokenKind::Semi)?;
     p.expect(TokenKind::Semi, ";")?;
     let update = head_part(g, t, p, TokenKind::RParen)?;
-    let body = body_behind(g, t, p)?;
+    p.expect(TokenKind::RParen, ")")?;
+    let body = looped(g, t, p)?;
     made_for::<P, T>(t, p, start, init, test, update, body)
 }
 
 /// A `for` with `in`, from there on.
-#[tactic(auto, unfolding(swc_ecma_parser_reader::specs::Reader::for_in, swc_ecma_parser_reader::specs::Expressions::inside))]
+#[tactic(auto, unfolding(crate::specs::ForParts::in_from, swc_ecma_parser_reader::specs::Expressions::inside), using(crate::proofs::ForParts::in_read, crate::proofs::ForParts::in_refused))]
 #[inline(never)]
 fn for_in<
     P: Source,
@@ -171,15 +175,15 @@ fn for_in<
     requires bare { IsBare T.pat_of first }
     ensures { GivesAs T.stmt_of (rules.for_in (rules.stmt g.now.depth sub_statement) (rules.expr g.now.depth) start (opening_of T.declarator_of T.expr_of T.pat_of first) (P.seen p.old)) result (P.seen p.new) }
 {
-    let refused = p.flags().strict;
-    let left = left_before::<P, T>(t, p, refused, first)?;
+    let left = left_before::<P, T>(t, p, false, first)?;
     let right = inside(g, t, p, Class::Expression)?;
-    let body = body_behind(g, t, p)?;
+    p.expect(TokenKind::RParen, ")")?;
+    let body = looped(g, t, p)?;
     made_for_in::<P, T>(t, p, start, left, right, body)
 }
 
 /// A `for` with `of`, from there on.
-#[tactic(auto, unfolding(swc_ecma_parser_reader::specs::Reader::for_of, swc_ecma_parser_reader::specs::Expressions::inside))]
+#[tactic(auto, unfolding(crate::specs::ForParts::of_from, swc_ecma_parser_reader::specs::Expressions::inside), using(crate::proofs::ForParts::of_read, crate::proofs::ForParts::of_refused))]
 #[inline(never)]
 fn for_of<
     P: Source,
@@ -201,7 +205,8 @@ fn for_of<
 {
     let left = left_before::<P, T>(t, p, true, first)?;
     let right = inside(g, t, p, Class::Assignment)?;
-    let body = body_behind(g, t, p)?;
+    p.expect(TokenKind::RParen, ")")?;
+    let body = looped(g, t, p)?;
     made_for_of::<P, T>(t, p, is_await, start, left, right, body)
 }
 
@@ -219,30 +224,18 @@ fn await_here<P: Source>(p: &mut P) -> PResult<Option<Span>>
 }
 
 /// The words of a `for` up to its `(`, and where `await` is one of them.
+#[tactic(auto, unfolding(crate::specs::ForParts::for_words))]
 #[inline(never)]
-fn for_words<P: Source>(p: &mut P) -> PResult<Option<Span>> {
+fn for_words<P: Source>(p: &mut P) -> PResult<Option<Span>>
+    ensures { Gives (parts.for_words (P.seen p.old)) result (P.seen p.new) }
+{
     p.skip()?;
     let word = await_here(p)?;
     p.expect(TokenKind::LParen, "(")?;
     Ok(word)
 }
 
-/// A loop without `of`, from behind its body: with `await` it is refused.
-#[inline(never)]
-fn unless_awaited<P: Source, T: Trees>(
-    p: &mut P,
-    word: Option<Span>,
-    stmt: T::Stmt,
-) -> PResult<T::Stmt>
-    ensures { GivesAs T.stmt_of (rules.unless_awaited word (pure (T.stmt_of stmt)) (P.seen p.old)) result (P.seen p.new) }
-{
-    match word {
-        None => Ok(stmt),
-        Some(word) => Err(p.reject(SyntaxError::AwaitForStmt, word)),
-    }
-}
-
-/// A `for` with `in`, behind `for await`.
+/// A `for` with `in`, behind `for await`, which is refused behind it.
 #[inline(never)]
 fn awaited_in<
     P: Source,
@@ -255,14 +248,18 @@ fn awaited_in<
     t: &MakerOf<T>,
     p: &mut P,
     start: Span,
-    word: Option<Span>,
+    word: Span,
     first: Opening<T::Declarator, T::Expr, T::Pat>,
-) -> PResult<T::Stmt> {
-    let stmt = for_in(g, t, p, start, first)?;
-    unless_awaited::<P, T>(p, word, stmt)
+) -> PResult<T::Stmt>
+    requires readers { Nests P.seen T.expr_of T.pat_of T.stmt_of g.now.depth (S.pre g.now.stmt) (S.post g.now.stmt) (E.pre g.now.expr) (E.post g.now.expr) (N.pre g.now.pat) (N.post g.now.pat) }
+    requires bare { IsBare T.pat_of first }
+    ensures { GivesAs T.stmt_of (rules.unless_awaited (Some word) (rules.for_in (rules.stmt g.now.depth sub_statement) (rules.expr g.now.depth) start (opening_of T.declarator_of T.expr_of T.pat_of first)) (P.seen p.old)) result (P.seen p.new) }
+{
+    let _refused = for_in(g, t, p, start, first)?;
+    Err(p.reject(SyntaxError::AwaitForStmt, word))
 }
 
-/// A `for` of three parts, behind `for await`.
+/// A `for` of three parts, behind `for await`, which is refused behind it.
 #[inline(never)]
 fn awaited_parts<
     P: Source,
@@ -275,15 +272,18 @@ fn awaited_parts<
     t: &MakerOf<T>,
     p: &mut P,
     start: Span,
-    word: Option<Span>,
+    word: Span,
     first: Opening<T::Declarator, T::Expr, T::Pat>,
-) -> PResult<T::Stmt> {
-    let stmt = for_parts(g, t, p, start, first)?;
-    unless_awaited::<P, T>(p, word, stmt)
+) -> PResult<T::Stmt>
+    requires readers { Nests P.seen T.expr_of T.pat_of T.stmt_of g.now.depth (S.pre g.now.stmt) (S.post g.now.stmt) (E.pre g.now.expr) (E.post g.now.expr) (N.pre g.now.pat) (N.post g.now.pat) }
+    ensures { GivesAs T.stmt_of (rules.unless_awaited (Some word) (rules.for_parts (rules.stmt g.now.depth sub_statement) (rules.expr g.now.depth) start (opening_of T.declarator_of T.expr_of T.pat_of first)) (P.seen p.old)) result (P.seen p.new) }
+{
+    let _refused = for_parts(g, t, p, start, first)?;
+    Err(p.reject(SyntaxError::AwaitForStmt, word))
 }
 
 /// A `for` statement, from behind its first part.
-#[tactic(auto, unfolding(swc_ecma_parser_reader::specs::Reader::for_behind), using(crate::proofs::Awaited::awaited, crate::proofs::Awaited::refused))]
+#[tactic(auto, unfolding(swc_ecma_parser_reader::specs::Reader::for_behind))]
 fn for_behind<
     P: Source,
     T: BuildsPattern + BuildsFor,
@@ -303,22 +303,22 @@ fn for_behind<
     ensures { GivesAs T.stmt_of (rules.for_behind (rules.stmt g.now.depth sub_statement) (rules.expr g.now.depth) start word (opening_of T.declarator_of T.expr_of T.pat_of first) (P.seen p.old)) result (P.seen p.new) }
 {
     if p.sees(TokenKind::In) {
-        if word.is_none() {
-            return for_in(g, t, p, start, first);
-        }
-        return awaited_in(g, t, p, start, word, first);
+        return match word {
+            None => for_in(g, t, p, start, first),
+            Some(word) => awaited_in(g, t, p, start, word, first),
+        };
     }
     if p.word_at("of") {
         return for_of(g, t, p, word.is_some(), start, first);
     }
-    if word.is_none() {
-        return for_parts(g, t, p, start, first);
+    match word {
+        None => for_parts(g, t, p, start, first),
+        Some(word) => awaited_parts(g, t, p, start, word, first),
     }
-    awaited_parts(g, t, p, start, word, first)
 }
 
 /// A `for` statement.
-#[tactic(auto, unfolding(swc_ecma_parser_reader::specs::Reader::for_stmt))]
+#[tactic(auto, using(crate::proofs::ForParts::words_read, crate::proofs::ForParts::words_refused))]
 #[inline(never)]
 pub fn for_stmt<
     P: Source,

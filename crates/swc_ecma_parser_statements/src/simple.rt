@@ -102,6 +102,7 @@ fn expr_stmt<
 
 /// An expression statement, where one may begin.
 #[tactic(auto, unfolding(swc_ecma_parser_reader::specs::Reader::expr_stmt_at))]
+#[inline(never)]
 pub fn expr_stmt_at<
     P: Source,
     T: BuildsStmt + BuildsOperator,
@@ -161,6 +162,7 @@ fn begins_import_expression<P: Source>(p: &P) -> bool
 
 /// An expression statement, where `import` begins one. Neither `import` nor `export` begins any other statement.
 #[tactic(auto, unfolding(swc_ecma_parser_reader::specs::Reader::import_stmt_at))]
+#[inline(never)]
 pub fn import_stmt_at<
     P: Source,
     T: BuildsStmt,

@@ -97,6 +97,7 @@ fn using_from<
 
 /// A statement that begins with `using`, where it declares.
 #[tactic(auto, unfolding(swc_ecma_parser_reader::specs::Reader::using_stmt))]
+#[inline(never)]
 pub fn using_stmt<
     P: Source,
     T: BuildsPattern + BuildsVarDecl,
