@@ -1,15 +1,15 @@
 //! Rows, and in what their texts are unlike them.
 
-use crate::answers::{END, Found};
-use crate::asked::Asked;
 use crate::expression::check_expression;
 use crate::lexed::check_tokens;
 use crate::limits::write_limits;
 use crate::nodes::nodes;
 use crate::parts::has_part;
-use crate::row::{asked, is_of_expression, is_of_tokens, list, read, text, text_of};
-use crate::sources::read_all;
-use crate::tally::Tally;
+use ecma_texts::answers::{END, Found};
+use ecma_texts::asked::Asked;
+use ecma_texts::row::{asked, is_of_expression, is_of_tokens, list, read, text, text_of};
+use ecma_texts::sources::read_all;
+use ecma_texts::tally::Tally;
 use serde_json::Value;
 use std::alloc::{AllocError, Global};
 

@@ -1,9 +1,9 @@
 //! What the reader of expressions reads, which no parser calls by itself.
 
-use crate::asked::Asked;
 use crate::check::lines_agree;
-use crate::faults::{write_fault, write_faults};
-use crate::sources::{let_go, lexer, listed, tokens};
+use ecma_texts::asked::Asked;
+use ecma_texts::faults::{write_fault, write_faults};
+use ecma_texts::sources::{let_go, lexer, listed, tokens};
 use serde_json::Value;
 use std::alloc::{AllocError, Global};
 use swc_ecma_parser::common::Spanned;

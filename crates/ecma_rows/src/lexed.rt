@@ -1,9 +1,9 @@
 //! The tokens of a text, in lines. A token is `KIND LOW..HIGH`, behind `LF` where a line break stands before it, with its text behind;
 //! an error token goes by the kind of its error.
 
-use crate::answers::END;
 use crate::check::lines_agree;
-use crate::sources::{input, let_go};
+use ecma_texts::answers::END;
+use ecma_texts::sources::{input, let_go};
 use serde_json::Value;
 use std::alloc::{AllocError, Global};
 use swc_ecma_parser::common::Comment;

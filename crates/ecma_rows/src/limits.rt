@@ -1,8 +1,8 @@
 //! Within how many levels a row's list is read.
 
-use crate::asked::Asked;
-use crate::row::number;
-use crate::sources::{let_go, listed, read, tokens};
+use ecma_texts::asked::Asked;
+use ecma_texts::row::number;
+use ecma_texts::sources::{let_go, listed, read, tokens};
 use serde_json::Value;
 use std::alloc::{AllocError, Global};
 

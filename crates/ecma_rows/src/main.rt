@@ -2,22 +2,15 @@
 //! how a row is written.
 #![tactic(auto)]
 
-mod answers;
-mod asked;
-mod broken;
 mod check;
 mod expression;
-mod faults;
 mod lexed;
 mod limits;
-mod memory;
 mod nodes;
 mod parts;
-mod row;
-mod sources;
-mod tally;
 
-use crate::tally::Tally;
+use ecma_hostile::{broken, memory};
+use ecma_texts::tally::Tally;
 use std::process::ExitCode;
 use std::rt::{Env, Files};
 use std::{env, fs, io};

@@ -2,16 +2,15 @@
 //! that is to be tried, and `scripts/refuse_memory` runs it over a C library that sees these lines and refuses what lies between.
 //! Where no such lines are wanted, each part is run with all the memory that it asks for.
 
-use crate::answers::{
+use ecma_texts::answers::{
     Answer, Found, ask_all, call, discard, lacks_memory, nothing, refusal, write_answer,
 };
-use crate::asked::{Asked, ENTRIES, Entry};
-use crate::row::{asked, is_of_tokens, read as read_row, text};
-use crate::sources::{input, let_go, lexer, listed, read, tokens};
-use crate::tally::Tally;
+use ecma_texts::asked::{Asked, ENTRIES, Entry};
+use ecma_texts::row::{asked, is_of_tokens, read as read_row, text};
+use ecma_texts::sources::{input, let_go, lexer, listed, read, tokens};
+use ecma_texts::tally::Tally;
 use serde_json::Value;
 use std::alloc::{AllocError, Global};
-use std::io;
 use swc_ecma_parser::Parser;
 use swc_ecma_parser::error::{Error, PResult, SyntaxError};
 use swc_ecma_parser::input::{Capturing, Context, Syntax, Tokens, TokensInput, spans_ordered};
@@ -238,13 +237,24 @@ fn source_copies_right<R: Print, I: Tokens>(
     Ok(is_copied? && found?.lines.as_str() == wanted.lines.as_str())
 }
 
-/// Whether an entry, copies of a parser and copies of its source are right over a source that can be made again.
-macro_rules! over {
-    ($alloc:expr, $library:expr, $source:expr, $asked:expr, $wanted:expr) => {{
-        let reads = reads_right($alloc, $library, $source, $asked, $wanted)?;
-        let copies = copies_right($alloc, $library, $source, $asked)?;
-        let sources = source_copies_right($alloc, $library, $source, $asked, $wanted)?;
-        reads && copies && sources
+/// Writes what is not right of an entry.
+fn note(out: &mut String, asked: Asked, what: &str, is_right: bool) -> Result<(), AllocError> {
+    if is_right {
+        return Ok(());
+    }
+    let entry = asked.entry;
+    writeln!(out, "  {entry:?}: {what}")
+}
+
+/// Writes what of an entry, of copies of a parser and of copies of its source is not right over a source that can be made again.
+macro_rules! write_over {
+    ($alloc:expr, $library:expr, $out:expr, $source:expr, $asked:expr, $wanted:expr) => {{
+        let is_right = reads_right($alloc, $library, $source, $asked, $wanted)?;
+        note($out, $asked, "an answer", is_right)?;
+        let is_right = copies_right($alloc, $library, $source, $asked)?;
+        note($out, $asked, "a copy of a parser", is_right)?;
+        let is_right = source_copies_right($alloc, $library, $source, $asked, $wanted)?;
+        note($out, $asked, "a copy of a source", is_right)?;
     }};
 }
 
@@ -253,34 +263,44 @@ fn list(alloc: Global, row: &Value, text: &str, asked: Asked) -> Result<TokensIn
     Ok(listed(alloc, tokens(alloc, row, text, asked)?, asked))
 }
 
-/// Whether an entry is right over each source.
-fn entry_right<R: Print>(
+/// Writes what of an entry is not right over each source.
+fn write_entry<R: Print>(
     alloc: Global,
     library: Option<&R>,
+    out: &mut String,
     row: &Value,
     text: &str,
     asked: Asked,
-) -> Result<bool, AllocError> {
+) -> Result<(), AllocError> {
     let wanted = read(alloc, list(alloc, row, text, asked)?, asked)?;
-    let in_list = over!(
+    write_over!(
         alloc,
         library,
+        out,
         list(alloc, row, text, asked)?,
         asked,
         &wanted
     );
     if row.get("errors").is_some() {
-        return Ok(in_list);
+        return Ok(());
     }
-    let in_text = over!(alloc, library, lexer(alloc, text, asked), asked, &wanted);
-    let in_both = over!(
+    write_over!(
         alloc,
         library,
+        out,
+        lexer(alloc, text, asked),
+        asked,
+        &wanted
+    );
+    write_over!(
+        alloc,
+        library,
+        out,
         Capturing::new(alloc, lexer(alloc, text, asked)),
         asked,
         &wanted
     );
-    Ok(in_list && in_text && in_both)
+    Ok(())
 }
 
 /// Whether the copy of a token is want of memory, or is equal.
@@ -401,80 +421,100 @@ fn empty_right<R: Print>(alloc: Global, library: Option<&R>, asked: Asked) -> bo
     is_right
 }
 
-/// Whether the tokens and the faults of a row are copied right, and what takes no memory takes none.
-fn values_right<R: Print>(
+/// Whether the faults that a list is read with are copied right.
+fn read_faults_right<R: Print>(
     alloc: Global,
     library: Option<&R>,
-    row: &Value,
-    text: &str,
+    list: TokensInput,
     asked: Asked,
-) -> Result<bool, AllocError> {
-    let list = tokens(alloc, row, text, asked)?;
-    let are_copied = tokens_right(library, list.as_slice());
-    let mut parser = Parser::new_from_limited(alloc, listed(alloc, list, asked), asked.limit);
+) -> bool {
+    let mut parser = Parser::new_from_limited(alloc, list, asked.limit);
     let answer = call(&mut parser, asked);
     let faults = parser.take_errors();
-    let are_faults = faults_right(library, &answer, faults.as_slice());
+    let are_right = faults_right(library, &answer, faults.as_slice());
     discard(answer);
     let_go(faults);
     let_go(parser);
-    let takes_none = nothing_asked(alloc, library, tokens(alloc, row, text, asked)?, asked);
-    Ok(are_copied && are_faults && takes_none && empty_right(alloc, library, asked))
+    are_right
 }
 
-/// Whether each entry is right over a row's list.
-fn row_right<R: Print>(
+/// Writes what of the copies of tokens and faults, and of what takes no memory, is not right.
+fn write_values<R: Print>(
     alloc: Global,
     library: Option<&R>,
+    out: &mut String,
+    row: &Value,
+    text: &str,
+    asked: Asked,
+) -> Result<(), AllocError> {
+    let list = tokens(alloc, row, text, asked)?;
+    let are_copied = tokens_right(library, list.as_slice());
+    let_go(list);
+    note(out, asked, "a copy of a token", are_copied)?;
+    let list = self::list(alloc, row, text, asked)?;
+    let are_copied = read_faults_right(alloc, library, list, asked);
+    note(out, asked, "a copy of a fault", are_copied)?;
+    let list = tokens(alloc, row, text, asked)?;
+    let is_right = nothing_asked(alloc, library, list, asked);
+    note(out, asked, "what takes no memory", is_right)?;
+    let is_right = empty_right(alloc, library, asked);
+    note(out, asked, "an empty text", is_right)
+}
+
+/// Writes what of each entry is not right over a row's list.
+fn write_row<R: Print>(
+    alloc: Global,
+    library: Option<&R>,
+    out: &mut String,
     row: &Value,
     asked: Asked,
-) -> Result<bool, AllocError> {
+) -> Result<(), AllocError> {
     let text = text(alloc, row)?;
-    let mut holds = true;
     for entry in ENTRIES {
         let asked = Asked {
             entry,
             times: 1,
             ..asked
         };
-        holds = entry_right(alloc, library, row, text.as_str(), asked)? && holds;
-        holds = values_right(alloc, library, row, text.as_str(), asked)? && holds;
+        write_entry(alloc, library, out, row, text.as_str(), asked)?;
+        write_values(alloc, library, out, row, text.as_str(), asked)?;
     }
-    Ok(holds)
+    Ok(())
 }
 
-/// Whether the row of a line is right; what is no such row is.
-fn line_right<R: Print>(
+/// What of the row in a line is not right; nothing of what is no such row.
+fn wrong_of<R: Print>(
     alloc: Global,
     library: Option<&R>,
     line: &str,
-) -> Result<bool, AllocError> {
+) -> Result<String, AllocError> {
+    let mut wrong = String::new(alloc);
     let Some(row) = read_row(alloc, line)? else {
-        return Ok(true);
+        return Ok(wrong);
     };
     if is_of_tokens(&row) {
-        return Ok(true);
+        return Ok(wrong);
     }
-    match asked(&row) {
-        Some(asked) => row_right(alloc, library, &row, asked),
-        None => Ok(true),
+    if let Some(asked) = asked(&row) {
+        write_row(alloc, library, &mut wrong, &row, asked)?;
     }
+    Ok(wrong)
 }
 
-/// Reads each row of a file while memory is refused.
+/// Reads each row of a file, with lines for the library around what is tried, if there is to be one.
 pub fn refuse_rows<R: Print>(
     alloc: Global,
     library: Option<&R>,
     out: &mut String,
     rows: &str,
-) -> io::Result<Tally> {
+) -> Result<Tally, AllocError> {
     let mut tally = Tally::default();
     for line in rows.lines() {
-        let is_right = line_right(alloc, library, line)?;
-        if !is_right {
-            writeln!(out, "not {line}")?;
+        let wrong = wrong_of(alloc, library, line)?;
+        if !wrong.is_empty() {
+            write!(out, "not {line}\n{wrong}")?;
         }
-        tally.count(is_right);
+        tally.count(wrong.is_empty());
     }
     Ok(tally)
 }
