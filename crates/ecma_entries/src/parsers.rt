@@ -144,7 +144,7 @@ fn an_import_and_an_export_leave_module_code(rt: HostRuntime) -> Result<(), Fail
         ..before
     };
     for (text, wanted) in [
-        ("export {} a b c", (module, true)),
+        ("export {}; a b c", (module, true)),
         ("import 'a'; b c", (module, false)),
         ("a; b c d", (before, true)),
         ("export + a", (before, false)),
