@@ -282,7 +282,7 @@ const SHORT_TEXTS: [(&str, &str, &str); 29] = [
     (
         "script",
         "() => { 'use strict'; var public; }",
-        "Script 0..35\n  Expr 0..35\n||0",
+        "refused 26..32 ExpectedIdent\n||2",
     ),
     (
         "script",

@@ -10,6 +10,8 @@ mod lexers;
 #[cfg(test)]
 mod places;
 #[cfg(test)]
+mod sizes;
+#[cfg(test)]
 mod sources;
 #[cfg(test)]
 mod tokens;

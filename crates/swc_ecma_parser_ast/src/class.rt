@@ -5,7 +5,7 @@ use crate::member::{AutoAccessor, ClassProp, PrivateProp, StaticBlock};
 use crate::node::{ExprBox, Node};
 use crate::object::PropName;
 use crate::stmt::{BlockStmt, EmptyStmt};
-use swc_ecma_parser_common::{Boxed, Span, Spanned};
+use swc_ecma_parser_common::{Span, Spanned};
 use swc_ecma_parser_model::{Ident, MethodKind, PrivateName};
 
 /// A class as an expression (ECMA-262, 15.7).
@@ -13,14 +13,14 @@ use swc_ecma_parser_model::{Ident, MethodKind, PrivateName};
 pub struct ClassExpr<N = Node> {
     pub span: Span,
     pub ident: Option<Ident>,
-    pub class: Boxed<Class<N>>,
+    pub class: Box<Class<N>>,
 }
 
 /// A class as a declaration (ECMA-262, 15.7).
 #[derive(Debug, PartialEq, Eq, Drop)]
 pub struct ClassDecl<N = Node> {
     pub ident: Ident,
-    pub class: Boxed<Class<N>>,
+    pub class: Box<Class<N>>,
 }
 
 /// A class (ECMA-262, 15.7).
@@ -35,14 +35,14 @@ pub struct Class<N = Node> {
 /// A member of a class (ECMA-262, 15.7).
 #[derive(Debug, PartialEq, Eq, Drop)]
 pub enum ClassMember<N = Node> {
-    Constructor(Boxed<Constructor<N>>),
-    Method(Boxed<ClassMethod<N>>),
-    PrivateMethod(Boxed<PrivateMethod<N>>),
-    ClassProp(Boxed<ClassProp<N>>),
-    PrivateProp(Boxed<PrivateProp<N>>),
+    Constructor(Box<Constructor<N>>),
+    Method(Box<ClassMethod<N>>),
+    PrivateMethod(Box<PrivateMethod<N>>),
+    ClassProp(Box<ClassProp<N>>),
+    PrivateProp(Box<PrivateProp<N>>),
     Empty(EmptyStmt),
     StaticBlock(StaticBlock<N>),
-    AutoAccessor(Boxed<AutoAccessor<N>>),
+    AutoAccessor(Box<AutoAccessor<N>>),
 }
 
 /// A constructor (ECMA-262, 15.7).
@@ -65,7 +65,7 @@ pub enum ParamOrTsParamProp<N = Node> {
 pub struct ClassMethod<N = Node> {
     pub span: Span,
     pub key: PropName<N>,
-    pub function: Boxed<Function<N>>,
+    pub function: Box<Function<N>>,
     pub kind: MethodKind,
     pub is_static: bool,
 }
@@ -75,7 +75,7 @@ pub struct ClassMethod<N = Node> {
 pub struct PrivateMethod<N = Node> {
     pub span: Span,
     pub key: PrivateName,
-    pub function: Boxed<Function<N>>,
+    pub function: Box<Function<N>>,
     pub kind: MethodKind,
     pub is_static: bool,
 }
@@ -89,10 +89,10 @@ impl<N> Spanned for ClassExpr<N> {
 }
 
 impl<N> Spanned for ClassDecl<N> {
-    ghost span_of = { λ x. x.class.span };
+    ghost span_of = { λ x. x.class.value.span };
 
     fn span(&self) -> Span {
-        self.class.get().span
+        self.class.span
     }
 }
 
@@ -112,14 +112,14 @@ impl Spanned for ClassMember {
 
     fn span(&self) -> Span {
         match self {
-            ClassMember::Constructor(x) => x.get().span(),
-            ClassMember::Method(x) => x.get().span(),
-            ClassMember::PrivateMethod(x) => x.get().span(),
-            ClassMember::ClassProp(x) => x.get().span(),
-            ClassMember::PrivateProp(x) => x.get().span(),
+            ClassMember::Constructor(x) => x.span(),
+            ClassMember::Method(x) => x.span(),
+            ClassMember::PrivateMethod(x) => x.span(),
+            ClassMember::ClassProp(x) => x.span(),
+            ClassMember::PrivateProp(x) => x.span(),
             ClassMember::Empty(x) => x.span(),
             ClassMember::StaticBlock(x) => x.span(),
-            ClassMember::AutoAccessor(x) => x.get().span(),
+            ClassMember::AutoAccessor(x) => x.span(),
         }
     }
 }

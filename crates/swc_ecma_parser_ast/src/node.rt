@@ -217,8 +217,8 @@ fn equal_boxed_stmts<N: PartialEq>(a: &Box<Stmt<N>>, b: &Box<Stmt<N>>) -> bool
 }
 
 /// `==`, as `equal_exprs`.
-fn equal_stmts<N: PartialEq>(a: &Vec<Stmt<N>>, b: &Vec<Stmt<N>>) -> bool
-    ensures { result ≡ equal.equal_stmts N.eq a.now.items b.now.items }
+fn equal_stmts<N: PartialEq>(a: &Box<Vec<Stmt<N>>>, b: &Box<Vec<Stmt<N>>>) -> bool
+    ensures { result ≡ equal.equal_stmts N.eq a.now.value.items b.now.value.items }
 {
     *a == *b
 }
@@ -354,7 +354,7 @@ impl StmtBox<Node> {
 }
 
 impl StmtList<Node> {
-    /// A handle of a list of statements.
+    /// A handle of a list of statements; it fails only where memory runs out.
     pub fn new(alloc: Global, stmts: Vec<Stmt<Node>>) -> Result<StmtList<Node>, AllocError>
         ensures { IfOk result (λ l. l.node.tree ≡ listed (map view_stmt stmts.items)) }
     {

@@ -5,7 +5,7 @@ use crate::function::Function;
 use crate::node::{ExprBox, Node};
 use crate::pat::Pat;
 use crate::stmt::BlockStmt;
-use swc_ecma_parser_common::{Boxed, Span, Spanned};
+use swc_ecma_parser_common::{Span, Spanned};
 use swc_ecma_parser_model::{BigInt, Ident, Number, Str};
 
 /// An array; a hole is `None` (ECMA-262, 13.2.4).
@@ -26,7 +26,7 @@ pub struct ObjectLit<N = Node> {
 #[derive(Debug, PartialEq, Eq, Drop)]
 pub enum PropOrSpread<N = Node> {
     Spread(SpreadElement<N>),
-    Prop(Boxed<Prop<N>>),
+    Prop(Box<Prop<N>>),
 }
 
 /// `...` and what is spread (ECMA-262, 13.2.5). `dot3_token` is where the dots stand.
@@ -102,7 +102,7 @@ pub struct SetterProp<N = Node> {
 pub struct MethodProp<N = Node> {
     pub span: Span,
     pub key: PropName<N>,
-    pub function: Boxed<Function<N>>,
+    pub function: Box<Function<N>>,
 }
 
 impl<N> Spanned for ArrayLit<N> {

@@ -7,7 +7,7 @@ use crate::decl::Decl;
 use crate::expr::{Expr, Lit};
 use crate::loops::{DoWhileStmt, ForInStmt, ForOfStmt, ForStmt, WhileStmt};
 use crate::node::{ExprBox, Node, StmtBox, StmtList};
-use swc_ecma_parser_common::{Boxed, Span, Spanned};
+use swc_ecma_parser_common::{Span, Spanned};
 use swc_ecma_parser_model::Ident;
 
 /// A statement, or a declaration in its place (ECMA-262, 14).
@@ -24,12 +24,12 @@ pub enum Stmt<N = Node> {
     If(IfStmt<N>),
     Switch(SwitchStmt<N>),
     Throw(ThrowStmt<N>),
-    Try(Boxed<TryStmt<N>>),
+    Try(Box<TryStmt<N>>),
     While(WhileStmt<N>),
     DoWhile(DoWhileStmt<N>),
-    For(Boxed<ForStmt<N>>),
-    ForIn(Boxed<ForInStmt<N>>),
-    ForOf(Boxed<ForOfStmt<N>>),
+    For(Box<ForStmt<N>>),
+    ForIn(Box<ForInStmt<N>>),
+    ForOf(Box<ForOfStmt<N>>),
     Decl(Decl<N>),
     Expr(ExprStmt<N>),
 }
@@ -149,12 +149,12 @@ impl Spanned for Stmt {
             Stmt::If(x) => x.span(),
             Stmt::Switch(x) => x.span(),
             Stmt::Throw(x) => x.span(),
-            Stmt::Try(x) => x.get().span(),
+            Stmt::Try(x) => x.span(),
             Stmt::While(x) => x.span(),
             Stmt::DoWhile(x) => x.span(),
-            Stmt::For(x) => x.get().span(),
-            Stmt::ForIn(x) => x.get().span(),
-            Stmt::ForOf(x) => x.get().span(),
+            Stmt::For(x) => x.span(),
+            Stmt::ForIn(x) => x.span(),
+            Stmt::ForOf(x) => x.span(),
             Stmt::Decl(x) => x.span(),
             Stmt::Expr(x) => x.span(),
         }

@@ -12,7 +12,6 @@ use swc_ecma_parser_ast::{
     BlockStmt, ClassMember, Constructor, ExprBox, KeyValuePatProp, Param, ParamOrTsParamProp, Pat,
     PatBox, PropName, Span, Stmt, StmtBox,
 };
-use swc_ecma_parser_common::Boxed;
 
 /// A part of a form that is made of a node, with the same model.
 pub trait Part: Drop {
@@ -183,7 +182,7 @@ pub fn constructor(
         params,
         body: Some(body),
     };
-    Ok(ClassMember::Constructor(Boxed::new(alloc, constructor)?))
+    Ok(ClassMember::Constructor(constructor.boxed(alloc)?))
 }
 
 /// A key with its pattern; here as `pattern_elements` is.

@@ -11,7 +11,6 @@ use swc_ecma_parser_ast::{
 };
 use swc_ecma_parser_ast_parts::boxes;
 use swc_ecma_parser_ast_parts::made::Made;
-use swc_ecma_parser_common::Boxed;
 use swc_ecma_parser_trees::BuildsClass;
 
 impl BuildsClass for Ast {
@@ -20,11 +19,11 @@ impl BuildsClass for Ast {
 
     type Member = ClassMember;
 
-    type Class = Boxed<Class>;
+    type Class = Box<Class>;
 
     ghost member_of = { view_class_member };
 
-    ghost class_of = { view_class };
+    ghost class_of = { λ c. view_class c.value };
 
     fn constructor(
         alloc: Global,
@@ -43,40 +42,36 @@ impl BuildsClass for Ast {
         alloc: Global,
         span: Span,
         key: PropName,
-        function: Boxed<Function>,
+        function: Box<Function>,
         kind: MethodKind,
         is_static: bool,
     ) -> Result<ClassMember, AllocError> {
-        Ok(ClassMember::Method(Boxed::new(
-            alloc,
-            ClassMethod {
-                span,
-                key,
-                function,
-                kind,
-                is_static,
-            },
-        )?))
+        let found = ClassMethod {
+            span,
+            key,
+            function,
+            kind,
+            is_static,
+        };
+        Ok(ClassMember::Method(found.boxed(alloc)?))
     }
 
     fn private_method(
         alloc: Global,
         span: Span,
         key: PrivateName,
-        function: Boxed<Function>,
+        function: Box<Function>,
         kind: MethodKind,
         is_static: bool,
     ) -> Result<ClassMember, AllocError> {
-        Ok(ClassMember::PrivateMethod(Boxed::new(
-            alloc,
-            PrivateMethod {
-                span,
-                key,
-                function,
-                kind,
-                is_static,
-            },
-        )?))
+        let found = PrivateMethod {
+            span,
+            key,
+            function,
+            kind,
+            is_static,
+        };
+        Ok(ClassMember::PrivateMethod(found.boxed(alloc)?))
     }
 
     fn class_prop(
@@ -92,16 +87,14 @@ impl BuildsClass for Ast {
             (tree.listed (map view_decorator decorators.items))) }
     {
         let value = Made::optional(value);
-        Ok(ClassMember::ClassProp(Boxed::new(
-            alloc,
-            ClassProp {
-                span,
-                key,
-                value,
-                is_static,
-                decorators,
-            },
-        )?))
+        let found = ClassProp {
+            span,
+            key,
+            value,
+            is_static,
+            decorators,
+        };
+        Ok(ClassMember::ClassProp(found.boxed(alloc)?))
     }
 
     fn private_prop(
@@ -117,16 +110,14 @@ impl BuildsClass for Ast {
             (tree.listed (map view_decorator decorators.items))) }
     {
         let value = Made::optional(value);
-        Ok(ClassMember::PrivateProp(Boxed::new(
-            alloc,
-            PrivateProp {
-                span,
-                key,
-                value,
-                is_static,
-                decorators,
-            },
-        )?))
+        let found = PrivateProp {
+            span,
+            key,
+            value,
+            is_static,
+            decorators,
+        };
+        Ok(ClassMember::PrivateProp(found.boxed(alloc)?))
     }
 
     fn auto_accessor(
@@ -143,16 +134,14 @@ impl BuildsClass for Ast {
     {
         let value = Made::optional(value);
         let key = Key::Public(key);
-        Ok(ClassMember::AutoAccessor(Boxed::new(
-            alloc,
-            AutoAccessor {
-                span,
-                key,
-                value,
-                is_static,
-                decorators,
-            },
-        )?))
+        let found = AutoAccessor {
+            span,
+            key,
+            value,
+            is_static,
+            decorators,
+        };
+        Ok(ClassMember::AutoAccessor(found.boxed(alloc)?))
     }
 
     fn private_auto_accessor(
@@ -169,16 +158,14 @@ impl BuildsClass for Ast {
     {
         let value = Made::optional(value);
         let key = Key::Private(key);
-        Ok(ClassMember::AutoAccessor(Boxed::new(
-            alloc,
-            AutoAccessor {
-                span,
-                key,
-                value,
-                is_static,
-                decorators,
-            },
-        )?))
+        let found = AutoAccessor {
+            span,
+            key,
+            value,
+            is_static,
+            decorators,
+        };
+        Ok(ClassMember::AutoAccessor(found.boxed(alloc)?))
     }
 
     fn static_block(alloc: Global, span: Span, body: BlockStmt) -> Result<ClassMember, AllocError> {
@@ -195,28 +182,26 @@ impl BuildsClass for Ast {
         decorators: Vec<Decorator>,
         body: Vec<ClassMember>,
         super_class: Option<Made>,
-    ) -> Result<Boxed<Class>, AllocError>
-        ensures { IfOk result (λ x. view_class x
+    ) -> Result<Box<Class>, AllocError>
+        ensures { IfOk result (λ x. view_class x.value
             ≡ tree.class span (tree.listed (map view_decorator decorators.items))
             (tree.listed (map view_class_member body.items)) (parts.part_of view_made super_class)) }
     {
         let super_class = Made::optional(super_class);
-        Boxed::new(
-            alloc,
-            Class {
-                span,
-                decorators,
-                body,
-                super_class,
-            },
-        )
+        let class = Class {
+            span,
+            decorators,
+            body,
+            super_class,
+        };
+        class.boxed(alloc)
     }
 
     fn class_expr(
         alloc: Global,
         span: Span,
         name: Option<Ident>,
-        class: Boxed<Class>,
+        class: Box<Class>,
     ) -> Result<Made, AllocError> {
         let class = ClassExpr {
             span,
@@ -237,7 +222,7 @@ impl BuildsClass for Ast {
         }
     }
 
-    fn class_span(class: &Boxed<Class>) -> Span {
-        class.get().span
+    fn class_span(class: &Box<Class>) -> Span {
+        class.span
     }
 }

@@ -10,7 +10,6 @@ use swc_ecma_parser_ast::{
 };
 use swc_ecma_parser_ast_parts::boxes::{beside, both, optional_stmt};
 use swc_ecma_parser_ast_parts::made::Made;
-use swc_ecma_parser_common::Boxed;
 use swc_ecma_parser_trees::{BuildsControl, BuildsSwitch, BuildsTry};
 
 impl BuildsControl for Ast {
@@ -111,7 +110,7 @@ impl BuildsSwitch for Ast {
             ≡ tree.case span (parts.part_of view_made test) (tree.listed (map view_stmt cons.items))) }
     {
         let test = Made::optional(test);
-        let cons = StmtList::new(alloc, cons)?;
+        let (cons, test) = beside(StmtList::new(alloc, cons), test)?;
         Ok(SwitchCase { span, test, cons })
     }
 }
@@ -134,15 +133,13 @@ impl BuildsTry for Ast {
         ensures { IfOk result (λ x. view_stmt x
             ≡ tree.try span (view_block_stmt block) (parts.part_of view_catch_clause handler) (parts.part_of view_block_stmt finalizer)) }
     {
-        Ok(Stmt::Try(Boxed::new(
-            alloc,
-            TryStmt {
-                span,
-                block,
-                handler,
-                finalizer,
-            },
-        )?))
+        let found = TryStmt {
+            span,
+            block,
+            handler,
+            finalizer,
+        };
+        Ok(Stmt::Try(found.boxed(alloc)?))
     }
 
     fn catch(

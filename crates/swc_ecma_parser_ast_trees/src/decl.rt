@@ -7,7 +7,6 @@ use swc_ecma_parser_ast::{
     Class, ClassDecl, Decl, FnDecl, Function, Ident, Span, Spanned, Stmt, UsingDecl, VarDecl,
     VarDeclKind, VarDeclarator,
 };
-use swc_ecma_parser_common::Boxed;
 use swc_ecma_parser_trees::{BuildsClassDecl, BuildsDecl, BuildsVarDecl};
 
 impl BuildsDecl for Ast {
@@ -15,7 +14,7 @@ impl BuildsDecl for Ast {
 
     ghost decl_of = { view_decl };
 
-    fn fn_decl(alloc: Global, name: Ident, function: Boxed<Function>) -> Result<Decl, AllocError> {
+    fn fn_decl(alloc: Global, name: Ident, function: Box<Function>) -> Result<Decl, AllocError> {
         Ok(Decl::Fn(FnDecl {
             ident: name,
             function,
@@ -32,7 +31,7 @@ impl BuildsDecl for Ast {
 }
 
 impl BuildsClassDecl for Ast {
-    fn class_decl(alloc: Global, name: Ident, class: Boxed<Class>) -> Result<Decl, AllocError> {
+    fn class_decl(alloc: Global, name: Ident, class: Box<Class>) -> Result<Decl, AllocError> {
         Ok(Decl::Class(ClassDecl { ident: name, class }))
     }
 }

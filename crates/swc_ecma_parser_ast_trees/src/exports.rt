@@ -12,7 +12,6 @@ use swc_ecma_parser_ast::{
     NamedExport, ObjectLit, Span, Spanned, Str,
 };
 use swc_ecma_parser_ast_parts::made::Made;
-use swc_ecma_parser_common::Boxed;
 use swc_ecma_parser_trees::BuildsExport;
 
 impl BuildsExport for Ast {
@@ -99,7 +98,7 @@ impl BuildsExport for Ast {
         alloc: Global,
         span: Span,
         name: Option<Ident>,
-        function: Boxed<Function>,
+        function: Box<Function>,
     ) -> Result<DefaultDecl, AllocError> {
         Ok(DefaultDecl::Fn(FnExpr {
             span,
@@ -112,7 +111,7 @@ impl BuildsExport for Ast {
         alloc: Global,
         span: Span,
         name: Option<Ident>,
-        class: Boxed<Class>,
+        class: Box<Class>,
     ) -> Result<DefaultDecl, AllocError> {
         Ok(DefaultDecl::Class(ClassExpr {
             span,

@@ -9,7 +9,6 @@ use swc_ecma_parser_ast::{
     Span, Spanned,
 };
 use swc_ecma_parser_ast_parts::made::Made;
-use swc_ecma_parser_common::Boxed;
 use swc_ecma_parser_trees::BuildsFunction;
 
 impl BuildsFunction for Ast {
@@ -19,13 +18,13 @@ impl BuildsFunction for Ast {
 
     type Param = Param;
 
-    type Function = Boxed<Function>;
+    type Function = Box<Function>;
 
     ghost decorator_of = { view_decorator };
 
     ghost param_of = { view_param };
 
-    ghost function_of = { view_function };
+    ghost function_of = { λ f. view_function f.value };
 
     fn decorator(alloc: Global, span: Span, expr: Made) -> Result<Decorator, AllocError> {
         let expr = expr.into_handle();
@@ -55,29 +54,27 @@ impl BuildsFunction for Ast {
         body: BlockStmt,
         is_async: bool,
         is_generator: bool,
-    ) -> Result<Boxed<Function>, AllocError>
-        ensures { IfOk result (λ x. view_function x
+    ) -> Result<Box<Function>, AllocError>
+        ensures { IfOk result (λ x. view_function x.value
             ≡ tree.function span (tree.listed (map view_decorator decorators.items))
             (tree.listed (map view_param params.items)) (view_block_stmt body) is_async is_generator) }
     {
-        Boxed::new(
-            alloc,
-            Function {
-                span,
-                decorators,
-                params,
-                body: Some(body),
-                is_async,
-                is_generator,
-            },
-        )
+        let function = Function {
+            span,
+            decorators,
+            params,
+            body: Some(body),
+            is_async,
+            is_generator,
+        };
+        function.boxed(alloc)
     }
 
     fn fn_expr(
         alloc: Global,
         span: Span,
         name: Option<Ident>,
-        function: Boxed<Function>,
+        function: Box<Function>,
     ) -> Result<Made, AllocError> {
         let function = FnExpr {
             span,
@@ -147,12 +144,12 @@ impl BuildsFunction for Ast {
         }
     }
 
-    fn function_span(function: &Boxed<Function>) -> Span {
-        function.get().span
+    fn function_span(function: &Box<Function>) -> Span {
+        function.span
     }
 
-    fn is_generator(function: &Boxed<Function>) -> bool {
-        function.get().is_generator
+    fn is_generator(function: &Box<Function>) -> bool {
+        function.is_generator
     }
 
     #[tactic(auto, using(crate::proofs::Kind::as_expr_no_block))]

@@ -10,7 +10,6 @@ use swc_ecma_parser_ast::{
 };
 use swc_ecma_parser_ast_parts::boxes::beside;
 use swc_ecma_parser_ast_parts::made::Made;
-use swc_ecma_parser_common::Boxed;
 use swc_ecma_parser_trees::{BuildsFor, BuildsLoop};
 
 impl BuildsLoop for Ast {
@@ -51,16 +50,16 @@ impl BuildsFor for Ast {
     {
         let others = (Made::optional(test), Made::optional(update));
         match beside(StmtBox::new(alloc, body), others) {
-            Ok((body, (test, update))) => Ok(Stmt::For(Boxed::new(
-                alloc,
-                ForStmt {
+            Ok((body, (test, update))) => {
+                let found = ForStmt {
                     span,
                     init,
                     test,
                     update,
                     body,
-                },
-            )?)),
+                };
+                Ok(Stmt::For(found.boxed(alloc)?))
+            }
             Err(e) => {
                 discard_init(init);
                 Err(e)
@@ -91,15 +90,15 @@ impl BuildsFor for Ast {
         body: Stmt,
     ) -> Result<Stmt, AllocError> {
         match beside(StmtBox::new(alloc, body), right.into_handle()) {
-            Ok((body, right)) => Ok(Stmt::ForIn(Boxed::new(
-                alloc,
-                ForInStmt {
+            Ok((body, right)) => {
+                let found = ForInStmt {
                     span,
                     left,
                     right,
                     body,
-                },
-            )?)),
+                };
+                Ok(Stmt::ForIn(found.boxed(alloc)?))
+            }
             Err(e) => {
                 discard_head(left);
                 Err(e)
@@ -116,16 +115,16 @@ impl BuildsFor for Ast {
         body: Stmt,
     ) -> Result<Stmt, AllocError> {
         match beside(StmtBox::new(alloc, body), right.into_handle()) {
-            Ok((body, right)) => Ok(Stmt::ForOf(Boxed::new(
-                alloc,
-                ForOfStmt {
+            Ok((body, right)) => {
+                let found = ForOfStmt {
                     span,
                     is_await,
                     left,
                     right,
                     body,
-                },
-            )?)),
+                };
+                Ok(Stmt::ForOf(found.boxed(alloc)?))
+            }
             Err(e) => {
                 discard_head(left);
                 Err(e)

@@ -1,2 +1,3 @@
 mod ItemAlone
 mod SetBack
+mod Begun

@@ -168,8 +168,8 @@ fn all_misnamed<P: Source, T: BuildsExport>(
     Ok(())
 }
 
-/// Names of the module itself, whose end nothing demands.
-#[tactic(auto, unfolding(swc_ecma_parser_module_reader::specs::Exports::own_names, swc_ecma_parser_reader::specs::Reader::optional_end))]
+/// Names of the module itself. What is no such name is recorded before the end.
+#[tactic(auto, unfolding(swc_ecma_parser_module_reader::specs::Exports::own_names))]
 fn own_names<P: Source, T: BuildsExport>(
     t: &MakerOf<T>,
     p: &mut P,
@@ -179,9 +179,7 @@ fn own_names<P: Source, T: BuildsExport>(
     ensures { GivesAs T.item_of (exports.own_names start (map T.export_specifier_of specifiers.items) (P.seen p.old)) result (P.seen p.new) }
 {
     all_misnamed::<P, T>(t, p, &specifiers)?;
-    if p.sees(TokenKind::Semi) {
-        p.skip()?;
-    }
+    p.end(Wanted::Token(";"))?;
     let span = since(p, start);
     grown(p, T::export_named(t.alloc, span, specifiers, None, None))
 }

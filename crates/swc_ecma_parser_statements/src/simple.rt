@@ -130,28 +130,6 @@ pub fn optional_end<P: Source>(p: &mut P) -> PResult<()>
     Ok(())
 }
 
-/// An expression statement that begins with `import`.
-#[tactic(auto, unfolding(swc_ecma_parser_reader::specs::Reader::import_stmt, swc_ecma_parser_grammar::specs::Looks::spanned))]
-fn import_stmt<
-    P: Source,
-    T: BuildsStmt,
-    S: Fn(&MakerOf<T>, &mut P, usize, Position) -> PResult<T::Stmt>,
-    E: Fn(&MakerOf<T>, &mut P, usize, Reading) -> PResult<Cover<T::Expr>>,
-    N: Fn(&MakerOf<T>, &mut P, usize, Part) -> PResult<T::Pat>,
->(g: &Grammar<S, E, N>, t: &MakerOf<T>, p: &mut P) -> PResult<T::Stmt>
-    requires { Nests P.seen T.expr_of T.pat_of T.stmt_of g.now.depth (S.pre g.now.stmt) (S.post g.now.stmt) (E.pre g.now.expr) (E.post g.now.expr) (N.pre g.now.pat) (N.post g.now.pat) }
-    ensures { GivesAs T.stmt_of (rules.import_stmt (rules.expr g.now.depth expression) (P.seen p.old)) result (P.seen p.new) }
-{
-    let start = p.span();
-    let outer = p.flags();
-    p.set_flags(with_in(outer));
-    let x = nested(g, t, p, Class::Expression)?;
-    p.set_flags(outer);
-    optional_end(p)?;
-    let span = since(p, start);
-    grown(p, T::expr_stmt(t.alloc, span, x))
-}
-
 /// Whether `import(` or `import.` stands here.
 #[tactic(auto, unfolding(swc_ecma_parser_grammar::specs::Follows::begins_import_expression))]
 fn begins_import_expression<P: Source>(p: &P) -> bool
@@ -165,16 +143,16 @@ fn begins_import_expression<P: Source>(p: &P) -> bool
 #[inline(never)]
 pub fn import_stmt_at<
     P: Source,
-    T: BuildsStmt,
+    T: BuildsStmt + BuildsOperator,
     S: Fn(&MakerOf<T>, &mut P, usize, Position) -> PResult<T::Stmt>,
     E: Fn(&MakerOf<T>, &mut P, usize, Reading) -> PResult<Cover<T::Expr>>,
     N: Fn(&MakerOf<T>, &mut P, usize, Part) -> PResult<T::Pat>,
 >(g: &Grammar<S, E, N>, t: &MakerOf<T>, p: &mut P) -> PResult<T::Stmt>
     requires { Nests P.seen T.expr_of T.pat_of T.stmt_of g.now.depth (S.pre g.now.stmt) (S.post g.now.stmt) (E.pre g.now.expr) (E.post g.now.expr) (N.pre g.now.pat) (N.post g.now.pat) }
-    ensures { GivesAs T.stmt_of (rules.import_stmt_at (rules.expr g.now.depth expression) (P.seen p.old)) result (P.seen p.new) }
+    ensures { GivesAs T.stmt_of (rules.import_stmt_at (rules.expr g.now.depth expression) (rules.operators g.now.depth) (P.seen p.old)) result (P.seen p.new) }
 {
     if begins_import_expression(p) {
-        return import_stmt(g, t, p);
+        return expr_stmt(g, t, p);
     }
     Err(p.refuse_as(SyntaxError::ImportExportInScript))
 }
