@@ -16,7 +16,6 @@ use swc_ecma_parser::token::{Token, TokenAndSpan};
 use swc_ecma_parser_ast_trees::Ast;
 use swc_ecma_parser_entries::entry::{item, module, program, script, statement};
 use swc_ecma_parser_grammar::Position;
-use swc_ecma_parser_source::Source;
 use swc_ecma_parser_state::State;
 
 /// The longest list that is broken.
@@ -47,24 +46,49 @@ const BREAKS: [Break; 5] = [
 /// Asks a state for a statement, which may be a declaration or not.
 fn call_statement(
     alloc: Global,
-    state: &mut State<TokensInput>,
+    state: State<TokensInput>,
     include_decl: bool,
     top_level: bool,
-) -> Answer {
+) -> (State<TokensInput>, Answer) {
     let at = Position {
         include_decl,
         top_level,
     };
-    Answer::Statement(statement::<TokensInput, Ast>(alloc, state, LIMIT, at))
+    let (state, read) = statement::<TokensInput, Ast>(alloc, state, LIMIT, at);
+    (state, Answer::Statement(read))
+}
+
+/// Asks a state for a script.
+fn call_script(alloc: Global, state: State<TokensInput>) -> (State<TokensInput>, Answer) {
+    let (state, read) = script::<TokensInput, Ast>(alloc, state, LIMIT);
+    (state, Answer::Script(read))
+}
+
+/// Asks a state for a module.
+fn call_module(alloc: Global, state: State<TokensInput>) -> (State<TokensInput>, Answer) {
+    let (state, read) = module::<TokensInput, Ast>(alloc, state, LIMIT);
+    (state, Answer::Module(read))
+}
+
+/// Asks a state for a program.
+fn call_program(alloc: Global, state: State<TokensInput>) -> (State<TokensInput>, Answer) {
+    let (state, read) = program::<TokensInput, Ast>(alloc, state, LIMIT);
+    (state, Answer::Program(read))
+}
+
+/// Asks a state for an item of a module.
+fn call_item(alloc: Global, state: State<TokensInput>) -> (State<TokensInput>, Answer) {
+    let (state, read) = item::<TokensInput, Ast>(alloc, state, LIMIT);
+    (state, Answer::Item(read))
 }
 
 /// Asks a state once, as a parser does.
-fn call(alloc: Global, state: &mut State<TokensInput>, asked: Asked) -> Answer {
+fn call(alloc: Global, state: State<TokensInput>, asked: Asked) -> (State<TokensInput>, Answer) {
     match asked.entry {
-        Entry::Script => Answer::Script(script::<TokensInput, Ast>(alloc, state, LIMIT)),
-        Entry::Module => Answer::Module(module::<TokensInput, Ast>(alloc, state, LIMIT)),
-        Entry::Program => Answer::Program(program::<TokensInput, Ast>(alloc, state, LIMIT)),
-        Entry::Item => Answer::Item(item::<TokensInput, Ast>(alloc, state, LIMIT)),
+        Entry::Script => call_script(alloc, state),
+        Entry::Module => call_module(alloc, state),
+        Entry::Program => call_program(alloc, state),
+        Entry::Item => call_item(alloc, state),
         Entry::Statement => call_statement(alloc, state, false, asked.top_level),
         Entry::ListItem => call_statement(alloc, state, true, asked.top_level),
     }
@@ -161,36 +185,34 @@ fn leaves_faults(state: &mut State<TokensInput>) -> bool {
 /// Asks a state once; what is wrong with the answer, and where it ends.
 fn ask(
     alloc: Global,
-    state: &mut State<TokensInput>,
+    state: State<TokensInput>,
     asked: Asked,
     end: BytePos,
-) -> (Option<&'static str>, BytePos) {
+) -> (State<TokensInput>, Option<&'static str>, BytePos) {
     let before = Before {
         context: state.flags(),
         found_module_item: state.found_module_item(),
         end,
     };
-    let answer = call(alloc, state, asked);
-    let judged = judged(state, before, &answer);
+    let (state, answer) = call(alloc, state, asked);
+    let mut state = state;
+    let (flaw, end) = judged(&state, before, &answer);
     discard(answer);
-    if leaves_faults(state) {
-        return (Some("a fault is left"), before.end);
+    if leaves_faults(&mut state) {
+        return (state, Some("a fault is left"), end);
     }
-    judged
+    (state, flaw, end)
 }
 
 /// Asks an entry three times over a list; what is wrong with an answer.
 fn flaw(alloc: Global, tokens: Vec<TokenAndSpan>, asked: Asked) -> Option<&'static str> {
-    let mut state = State::new(alloc, listed(alloc, tokens, asked));
-    let mut end = BytePos(0);
-    let mut found = None;
-    for _ in 0..3 {
-        let (flaw, next) = ask(alloc, &mut state, asked, end);
-        end = next;
-        found = found.or(flaw);
-    }
+    let state = State::new(alloc, listed(alloc, tokens, asked));
+    let start = BytePos(0);
+    let (state, first, end) = ask(alloc, state, asked, start);
+    let (state, second, end) = ask(alloc, state, asked, end);
+    let (state, third, _) = ask(alloc, state, asked, end);
     let_go(state);
-    found
+    first.or(second).or(third)
 }
 
 /// A bracket of no width.

@@ -12,6 +12,7 @@ use ecma_texts::tally::Tally;
 use serde_json::Value;
 use std::alloc::{AllocError, Global};
 use swc_ecma_parser::Parser;
+use swc_ecma_parser::common::Comment;
 use swc_ecma_parser::error::{Error, PResult, SyntaxError};
 use swc_ecma_parser::input::{Capturing, Context, Syntax, Tokens, TokensInput, spans_ordered};
 use swc_ecma_parser::token::TokenAndSpan;
@@ -350,6 +351,81 @@ fn faults_right<R: Print>(library: Option<&R>, answer: &Answer, faults: &[Error]
     }
 }
 
+/// Whether the copy of a comment is want of memory, or is equal.
+fn comment_copies_right<R: Print>(library: Option<&R>, comment: &Comment) -> bool {
+    refuse(library);
+    let copy = comment.try_clone();
+    grant(library);
+    let is_right = match &copy {
+        Ok(copy) => *copy == *comment,
+        Err(AllocError) => true,
+    };
+    let_go(copy);
+    is_right
+}
+
+/// Whether the comments of a row are copied right.
+fn comments_right<R: Print>(library: Option<&R>, comments: &[Comment]) -> bool {
+    let mut holds = true;
+    for comment in comments {
+        holds = comment_copies_right(library, comment) && holds;
+    }
+    holds
+}
+
+/// The comments that a lexer kept while a parser read its text, with lines for the library around that, if there is to be one;
+/// and whether none is left behind them.
+fn comments_read<R: Print>(
+    alloc: Global,
+    library: Option<&R>,
+    text: &str,
+    asked: Asked,
+) -> (PResult<Vec<Comment>>, bool) {
+    let source = lexer(alloc, text, asked);
+    refuse(library);
+    let mut parser = Parser::new_from_limited(alloc, source, asked.limit);
+    let answer = call(&mut parser, asked);
+    grant(library);
+    discard(answer);
+    let comments = parser.take_comments();
+    let left = parser.take_comments();
+    let is_none_left = match &left {
+        Ok(left) => left.is_empty(),
+        Err(_) => false,
+    };
+    let_go(left);
+    let_go(parser);
+    (comments, is_none_left)
+}
+
+/// Whether comments are want of memory, or no more than those that are wanted. (A refused call may have read fewer.)
+fn are_among(found: &PResult<Vec<Comment>>, wanted: &[Comment]) -> bool {
+    match found {
+        Ok(found) => wanted.starts_with(found.as_slice()),
+        Err(error) => is_want(error),
+    }
+}
+
+/// Whether the comments of a text are kept and copied right.
+fn kept_comments_right<R: Print>(
+    alloc: Global,
+    library: Option<&R>,
+    text: &str,
+    asked: Asked,
+) -> bool {
+    let (wanted, _) = comments_read(alloc, None::<&R>, text, asked);
+    let (found, is_none_left) = comments_read(alloc, library, text, asked);
+    let are_right = match &wanted {
+        Ok(wanted) => {
+            are_among(&found, wanted.as_slice()) && comments_right(library, wanted.as_slice())
+        }
+        Err(_) => false,
+    };
+    let_go(wanted);
+    let_go(found);
+    are_right && is_none_left
+}
+
 /// Takes all that a source still hands out.
 fn drain<I: Tokens>(source: &mut I) {
     let context = source.ctx();
@@ -454,6 +530,8 @@ fn write_values<R: Print>(
     let list = self::list(alloc, row, text, asked)?;
     let are_copied = read_faults_right(alloc, library, list, asked);
     note(out, asked, "a copy of a fault", are_copied)?;
+    let are_kept = kept_comments_right(alloc, library, text, asked);
+    note(out, asked, "comments", are_kept)?;
     let list = tokens(alloc, row, text, asked)?;
     let is_right = nothing_asked(alloc, library, list, asked);
     note(out, asked, "what takes no memory", is_right)?;

@@ -1,11 +1,14 @@
 //! What the reader of expressions reads, which no parser calls by itself.
 
+ghost use Rattle.std.specs.Prelude.{◌≡◌};
+
 use crate::check::lines_agree;
 use ecma_texts::asked::Asked;
 use ecma_texts::faults::{write_fault, write_faults};
 use ecma_texts::sources::{let_go, lexer, listed, tokens};
 use serde_json::Value;
 use std::alloc::{AllocError, Global};
+use std::marker::Brand;
 use swc_ecma_parser::common::Spanned;
 use swc_ecma_parser::error::PResult;
 use swc_ecma_parser::input::Tokens;
@@ -15,17 +18,29 @@ use swc_ecma_parser_core::grammar::expression;
 use swc_ecma_parser_grammar::Class;
 use swc_ecma_parser_inner::steps::with_in;
 use swc_ecma_parser_source::Source;
-use swc_ecma_parser_state::State;
+use swc_ecma_parser_state::{Call, Origin, State};
 use swc_ecma_parser_trees::{Maker, MakerOf};
 
-/// Reads an expression.
-fn call<I: Tokens>(alloc: Global, state: &mut State<I>, limit: u32) -> PResult<Made> {
-    state.begin();
-    state.set_flags(with_in(state.flags()));
+/// Reads an expression, from where the call begins.
+fn read_from<O: Origin, I: Tokens>(
+    alloc: Global,
+    state: State<I>,
+    limit: u32,
+) -> (State<I>, PResult<Made>)
+    requires { O.start ≡ state }
+{
+    let mut call = state.begin::<O>();
+    let flags = call.flags();
+    call.set_flags(with_in(flags));
     let maker: MakerOf<Ast> = Maker::new(alloc);
-    let read = expression::<State<I>, Ast>(&maker, state, limit as usize, Class::Expression);
+    let read = expression::<Call<O, I>, Ast>(&maker, &mut call, limit as usize, Class::Expression);
     maker.finish();
-    read
+    (call.end(), read)
+}
+
+/// Reads an expression.
+fn read<I: Tokens>(alloc: Global, state: State<I>, limit: u32) -> (State<I>, PResult<Made>) {
+    read_from::<Brand, I>(alloc, state, limit)
 }
 
 /// Writes the line of an expression, or that of a refusal.
@@ -56,8 +71,8 @@ fn write_lines<I: Tokens>(
     source: I,
     limit: u32,
 ) -> Result<(), AllocError> {
-    let mut state = State::new(alloc, source);
-    let read = call(alloc, &mut state, limit);
+    let (state, read) = read(alloc, State::new(alloc, source), limit);
+    let mut state = state;
     let faults = state.take_errors();
     let written = write_read(out, &read);
     let recorded = write_faults(out, "fault ", faults.as_slice());

@@ -27,9 +27,9 @@ pub fn input(text: &str) -> StringInput<'_> {
     StringInput::new(text, BytePos(0), BytePos(text.len() as u32))
 }
 
-/// A lexer over a text, in the code and the settings that are asked for.
+/// A lexer over a text, in the code and the settings that are asked for. It keeps comments.
 pub fn lexer(alloc: Global, text: &str, asked: Asked) -> Lexer<'_> {
-    let mut lexer = Lexer::new(alloc, Syntax::Es(asked.settings), input(text), false);
+    let mut lexer = Lexer::new(alloc, Syntax::Es(asked.settings), input(text), true);
     lexer.set_ctx(asked.code.context());
     lexer
 }
