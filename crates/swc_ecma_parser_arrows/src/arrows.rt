@@ -52,7 +52,7 @@ fn in_arrow(flags: Context, is_async: bool) -> Context
     }
 }
 
-/// A block that is a body: no string in it turns what follows strict.
+/// A block that is a body.
 #[tactic(auto, unfolding(swc_ecma_parser_reader::specs::Reader::function, swc_ecma_parser_reader::specs::Reader::function_by, swc_ecma_parser_reader::specs::Reader::arrow_block))]
 fn arrow_block<
     P: Source,
@@ -74,7 +74,7 @@ fn arrow_block<
         is_async,
         is_generator: false,
     };
-    inner_body(g, t, p, manner, false)
+    inner_body(g, t, p, manner)
 }
 
 /// An expression that is a body: no label stands around it, and nothing in it makes a program a module.

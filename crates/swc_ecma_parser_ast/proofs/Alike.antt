@@ -1,5 +1,5 @@
 -- At nodes, equality is that of the codes of the views.
-use Rattle.std.proofs.Common.{◌≡◌, List, [], ◌∷◌, refl, Bool, ◌&&◌, Option, Some, None, map, sym}
+use Rattle.std.proofs.Common.{◌≡◌, List, [], ◌∷◌, refl, Bool, false, ◌&&◌, Option, Some, None, map, sym}
 use Rattle.std.specs.Option.{option_eq}
 use Rattle.std.specs.Cmp.Lexicographic.{pointwise}
 use Rattle.swc_ecma_parser_model.specs.Tree.{Tree, trees, listed}
@@ -241,21 +241,28 @@ alike_prop (v_prop.Setter x) (v_prop.Setter y) = alike_setter_prop x y
 alike_prop (v_prop.Method x) (v_prop.Method y) = alike_method_prop x y
 alike_prop _ _ = refl
 
+-- a property looks like no spread
+prop_spread : (x : Prop Held) (y : SpreadElement Held) → false ≡ same (view_prop x) (view_spread_element y)
+prop_spread (v_prop.Shorthand _) _ = refl
+prop_spread (v_prop.KeyValue _) _ = refl
+prop_spread (v_prop.Assign _) _ = refl
+prop_spread (v_prop.Getter _) _ = refl
+prop_spread (v_prop.Setter _) _ = refl
+prop_spread (v_prop.Method _) _ = refl
+
+spread_prop : (x : SpreadElement Held) (y : Prop Held) → false ≡ same (view_spread_element x) (view_prop y)
+spread_prop _ (v_prop.Shorthand _) = refl
+spread_prop _ (v_prop.KeyValue _) = refl
+spread_prop _ (v_prop.Assign _) = refl
+spread_prop _ (v_prop.Getter _) = refl
+spread_prop _ (v_prop.Setter _) = refl
+spread_prop _ (v_prop.Method _) = refl
+
 pub alike_prop_or_spread : (x y : PropOrSpread Held) → equal_prop_or_spread same_held x y ≡ same (view_prop_or_spread x) (view_prop_or_spread y)
 alike_prop_or_spread (v_prop_or_spread.Spread x) (v_prop_or_spread.Spread y) = alike_spread_element x y
 alike_prop_or_spread (v_prop_or_spread.Prop x) (v_prop_or_spread.Prop y) = alike_prop x.value y.value
-alike_prop_or_spread (v_prop_or_spread.Prop (v_prop.Shorthand _)) _ = refl
-alike_prop_or_spread (v_prop_or_spread.Prop (v_prop.KeyValue _)) _ = refl
-alike_prop_or_spread (v_prop_or_spread.Prop (v_prop.Assign _)) _ = refl
-alike_prop_or_spread (v_prop_or_spread.Prop (v_prop.Getter _)) _ = refl
-alike_prop_or_spread (v_prop_or_spread.Prop (v_prop.Setter _)) _ = refl
-alike_prop_or_spread (v_prop_or_spread.Prop (v_prop.Method _)) _ = refl
-alike_prop_or_spread _ (v_prop_or_spread.Prop (v_prop.Shorthand _)) = refl
-alike_prop_or_spread _ (v_prop_or_spread.Prop (v_prop.KeyValue _)) = refl
-alike_prop_or_spread _ (v_prop_or_spread.Prop (v_prop.Assign _)) = refl
-alike_prop_or_spread _ (v_prop_or_spread.Prop (v_prop.Getter _)) = refl
-alike_prop_or_spread _ (v_prop_or_spread.Prop (v_prop.Setter _)) = refl
-alike_prop_or_spread _ (v_prop_or_spread.Prop (v_prop.Method _)) = refl
+alike_prop_or_spread (v_prop_or_spread.Prop x) (v_prop_or_spread.Spread y) = prop_spread x.value y
+alike_prop_or_spread (v_prop_or_spread.Spread x) (v_prop_or_spread.Prop y) = spread_prop x y.value
 
 pub alike_object_lit : (x y : ObjectLit Held) → equal_object_lit same_held x y ≡ same (view_object_lit x) (view_object_lit y)
 alike_object_lit x y = λ k. equal_span x.span y.span && alike_each (equal_prop_or_spread same_held) view_prop_or_spread alike_prop_or_spread x.props.items y.props.items k

@@ -23,8 +23,4 @@ impl BuildsBlock for Ast {
     fn stmt_span(stmt: &Stmt) -> Span {
         stmt.span()
     }
-
-    fn is_string_statement(stmt: &Stmt) -> bool {
-        stmt.can_precede_directive()
-    }
 }

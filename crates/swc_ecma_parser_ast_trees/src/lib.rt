@@ -51,6 +51,10 @@ impl Trees for Ast {
         stmt.is_use_strict()
     }
 
+    fn is_string_statement(stmt: &Stmt) -> bool {
+        stmt.can_precede_directive()
+    }
+
     fn expr_span(expr: &Made) -> Span {
         expr.get().span()
     }

@@ -123,7 +123,7 @@ pub fn parameters_inside<
     Ok(found)
 }
 
-/// The statements of a body, from its `{` to its `}`, with directives or without.
+/// The statements of a body, from its `{` to its `}`.
 #[tactic(auto, unfolding(swc_ecma_parser_reader::specs::Reader::braced, swc_ecma_parser_reader::specs::Reader::block_from, swc_ecma_parser_grammar::specs::Looks::spanned))]
 fn block<
     P: Source,
@@ -131,19 +131,14 @@ fn block<
     S: Fn(&MakerOf<T>, &mut P, usize, Position) -> PResult<T::Stmt>,
     E: Fn(&MakerOf<T>, &mut P, usize, Reading) -> PResult<Cover<T::Expr>>,
     N: Fn(&MakerOf<T>, &mut P, usize, Part) -> PResult<T::Pat>,
->(
-    g: &Grammar<S, E, N>,
-    t: &MakerOf<T>,
-    p: &mut P,
-    directives: bool,
-) -> PResult<FunctionBody<T::Block>>
+>(g: &Grammar<S, E, N>, t: &MakerOf<T>, p: &mut P) -> PResult<FunctionBody<T::Block>>
     requires { Nests P.seen T.expr_of T.pat_of T.stmt_of g.now.depth (S.pre g.now.stmt) (S.post g.now.stmt) (E.pre g.now.expr) (E.post g.now.expr) (N.pre g.now.pat) (N.post g.now.pat) }
-    ensures gives { GivesAs (λ body. T.block_of body.block) (rules.braced (rules.stmt g.now.depth nested_item) directives (P.seen p.old)) result (P.seen p.new) }
+    ensures gives { GivesAs (λ body. T.block_of body.block) (rules.braced (rules.stmt g.now.depth nested_item) true (P.seen p.old)) result (P.seen p.new) }
     ensures directive { IfOk result (λ body. own.misplaced_directive false (T.block_of body.block) ≡ late body.strict_directive) }
 {
     let start = p.span();
     p.expect(TokenKind::LBrace, "{")?;
-    let stmts = body_items(g, t, p, Body::in_braces(directives))?;
+    let stmts = body_items(g, t, p, Body::Function)?;
     close(t.alloc, p)?;
     let span = since(p, start);
     let strict_directive = first_use_strict::<T>(&stmts);
@@ -154,7 +149,7 @@ fn block<
     })
 }
 
-/// Statements in braces as a body, in what stands around them, with directives or without.
+/// Statements in braces as a body, in what stands around them.
 #[inline(never)]
 pub fn inner_body<
     P: Source,
@@ -167,16 +162,15 @@ pub fn inner_body<
     t: &MakerOf<T>,
     p: &mut P,
     manner: Manner,
-    directives: bool,
 ) -> PResult<FunctionBody<T::Block>>
     requires { Nests P.seen T.expr_of T.pat_of T.stmt_of g.now.depth (S.pre g.now.stmt) (S.post g.now.stmt) (E.pre g.now.expr) (E.post g.now.expr) (N.pre g.now.pat) (N.post g.now.pat) }
-    ensures gives { GivesAs (λ body. T.block_of body.block) (within (λ k. contexts.in_body k manner.is_async manner.is_generator) (enclosed (rules.braced (rules.stmt g.now.depth nested_item) directives)) (P.seen p.old)) result (P.seen p.new) }
+    ensures gives { GivesAs (λ body. T.block_of body.block) (within (λ k. contexts.in_body k manner.is_async manner.is_generator) (enclosed (rules.braced (rules.stmt g.now.depth nested_item) true)) (P.seen p.old)) result (P.seen p.new) }
     ensures directive { IfOk result (λ body. own.misplaced_directive false (T.block_of body.block) ≡ late body.strict_directive) }
 {
     let outer = p.flags();
     p.set_flags(in_body(outer, manner));
     let around = p.enter_body(t.alloc);
-    let body = block(g, t, p, directives)?;
+    let body = block(g, t, p)?;
     p.leave_body(around);
     p.set_flags(outer);
     Ok(body)
@@ -200,7 +194,7 @@ pub fn function_body<
     ensures gives { GivesAs (λ body. T.block_of body.block) (rules.function_body (rules.stmt g.now.depth nested_item) (rules.parameters g.now.depth) manner.is_async manner.is_generator (P.seen p.old)) result (P.seen p.new) }
     ensures directive { IfOk result (λ body. own.misplaced_directive false (T.block_of body.block) ≡ late body.strict_directive) }
 {
-    inner_body(g, t, p, manner, true)
+    inner_body(g, t, p, manner)
 }
 
 /// Patterns as parameters, each as long as its pattern.

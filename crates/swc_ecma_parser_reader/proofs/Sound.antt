@@ -733,9 +733,6 @@ pub class_sound : (n : ℕ) (s : State) → kind_at s.at ≡ kind.Class → Meet
 class_sound n = class_expr_sound n (expr n left_side) (member n) (expr_sound n left_side) (member_sound n)
 
 -- what is read leaves the code as it was
-pub member_code : (n : ℕ) (s : State) (x : Tree) (t : State) → member n s ≡ Ok (x, t) → t.code ≡ s.code
-member_code n s x t e = let p : SoundTree (ReadsMember n) s x t = meant (λ y u. SoundTree (ReadsMember n) s y u) Refuses (member n s) (Ok (x, t)) e (member_sound n s) in p.code
-
 pub stmt_code : (n : ℕ) (at : Position) (s : State) (x : Tree) (t : State) → stmt n at s ≡ Ok (x, t) → t.code ≡ s.code
 stmt_code n at s x t e =
     let P : Tree → State → Type 0 = λ y u. SoundTree (λ k. ReadsStmt n k at) s y u in
@@ -762,9 +759,6 @@ pattern_code n s x t e = let p : SoundTree (ReadsPat n) s x t = meant (λ y u. S
 
 pub element_code : (n : ℕ) (s : State) (x : Tree) (t : State) → element n s ≡ Ok (x, t) → t.code ≡ s.code
 element_code n s x t e = let p : SoundTree (ReadsElement n) s x t = meant (λ y u. SoundTree (ReadsElement n) s y u) Refuses (element n s) (Ok (x, t)) e (element_sound n s) in p.code
-
-pub function_code : (n : ℕ) (s : State) (x : Tree) (t : State) → begins_function s.at ≡ true → function n expression_form s ≡ Ok (x, t) → t.code ≡ s.code
-function_code n s x t k e = let p : SoundTree (FunctionRead n) s x t = meant (λ y u. SoundTree (FunctionRead n) s y u) Refuses (function n expression_form s) (Ok (x, t)) e (function_sound n s k) in p.code
 
 -- so do methods, from behind their key
 pub getter_code : (n : ℕ) (start : Span) (key : Tree) (s : State) (x : Tree) (t : State) → getter (stmt n nested_item) (reader.parameters n) start key s ≡ Ok (x, t) → t.code ≡ s.code

@@ -10,13 +10,14 @@ use Rattle.swc_ecma_parser_input.specs.Buffered.{Buffered}
 use Rattle.swc_ecma_parser_input.specs.Drawn.{Drawn}
 use Rattle.swc_ecma_parser_input.specs.Place.{first, second, after, lacks_memory}
 use Rattle.swc_ecma_parser_input.specs.Setting.{setting_of}
-use Rattle.swc_ecma_parser_reader.specs.Calls.{marks_memory, Left}
+use Rattle.swc_ecma_parser_reader.specs.Calls.{lacks_ahead, marks_memory, Left}
 use Rattle.swc_ecma_parser_reader.specs.Notes.{held_of}
 use Rattle.swc_ecma_parser_reader.specs.State.{State}
 use Rattle.swc_ecma_parser_reader.specs.declared.mark.Mark.{Mark}
 use Rattle.swc_ecma_parser_reader.specs.declared.mark.Mark.TheVariants as mark
-use Rattle.swc_ecma_parser_reader.proofs.Calls.{left_marked, left_recorded, left_held, left_released, left_taken}
+use Rattle.swc_ecma_parser_reader.proofs.Calls.{left_first, left_marked, left_recorded, left_held, left_released, left_taken}
 use Rattle.swc_ecma_parser_state.specs.CallView.{IsSettled, LeftBy}
+use Rattle.swc_ecma_parser_state.specs.Opened.{mark_ahead}
 
 -- what is underway, whatever stands around it
 abbrev pub Underway : State → Buffered → Option Mark → Type 0
@@ -27,6 +28,15 @@ held_of_faults [] = refl
 held_of_faults (h ∷ hs) = ap (λ z. as_note (fault_of h) ∷ z) (held_of_faults hs)
 
 module _ (s : State) where
+  -- ---- as a call begins
+
+  pub begins : (m : Option Mark) → m ≡ mark_ahead s.at → Left s s.at s.faults s.code.setting m s.notes.held_back
+  begins m e = left_first s m (λ h. by_memory (lacks_ahead s.at) (ap marks_memory (sym e) ∙ h))
+    where
+      by_memory : (b : Bool) → marks_memory (cond b (Some mark.OutOfMemory) None) ≡ false → b ≡ false
+      by_memory true h = h
+      by_memory false h = refl
+
   -- ---- a mark
 
   pub marks : (b : Buffered) (m : Option Mark) → Underway s b m → Underway s b (Some mark.OutOfMemory)

@@ -1,12 +1,13 @@
 -- States over sources that nothing was read from, and as a call begins.
-use Rattle.std.specs.Prelude.{if◌then◌else◌, false, [], Some, None}
+use Rattle.std.specs.Prelude.{if◌then◌else◌, false, [], Option, Some, None}
 use Rattle.swc_ecma_parser_error.specs.Kind.{faults_of}
 use Rattle.swc_ecma_parser_input.specs.Setting.{setting_of, plain}
 use Rattle.swc_ecma_parser_input.specs.TokenSource.{TokenSource, with_context, of_list}
-use Rattle.swc_ecma_parser_input.specs.Place.{outset}
+use Rattle.swc_ecma_parser_input.specs.Place.{Place, outset}
 use Rattle.swc_ecma_parser_input.specs.declared.context.Context.{Context}
 use Rattle.swc_ecma_parser_reader.specs.Calls.{lacks_ahead}
 use Rattle.swc_ecma_parser_reader.specs.Notes.{held_of}
+use Rattle.swc_ecma_parser_reader.specs.declared.mark.Mark.{Mark}
 use Rattle.swc_ecma_parser_reader.specs.declared.mark.Mark.TheVariants as mark
 use Rattle.swc_ecma_parser_reader.specs.State.{State}
 
@@ -42,5 +43,8 @@ abbrev pub blank : State
 blank = opened (of_list plain_context plain [])
 
 -- As a call begins: nothing is marked, but that memory ran out for one of the two tokens that are read ahead.
+abbrev pub mark_ahead : Place → Option Mark
+mark_ahead c = if lacks_ahead c then Some mark.OutOfMemory else None
+
 abbrev pub begun : State → State
-begun s = record s { scope = record s.scope { mark = if lacks_ahead s.at then Some mark.OutOfMemory else None } }
+begun s = record s { scope = record s.scope { mark = mark_ahead s.at } }

@@ -6,7 +6,7 @@ ghost use Rattle.swc_ecma_parser_input.specs.Place as place;
 ghost use Rattle.swc_ecma_parser_input.specs.Setting.{setting_of};
 ghost use Rattle.swc_ecma_parser_reader.specs.Notes.{held_of};
 ghost use Rattle.swc_ecma_parser_reader.specs.State.{end_of};
-ghost use Rattle.swc_ecma_parser_state.specs.Opened.{opened, begun};
+ghost use Rattle.swc_ecma_parser_state.specs.Opened.{opened, begun, mark_ahead};
 
 use crate::call::no_memory;
 use crate::state::{Call, Origin, State};
@@ -116,16 +116,22 @@ impl<I: Tokens> State<I> {
         buffer.into_input()
     }
 
+    /// What is marked as a call begins.
+    fn mark_ahead(&self) -> Option<Mark>
+        ensures { result ≡ mark_ahead self.now.at }
+    {
+        if self.lacks_memory() {
+            return Some(Mark::OutOfMemory);
+        }
+        None
+    }
+
     /// Begins a call: nothing is marked, but that memory ran out for one of the two tokens that were read ahead.
     pub fn begin<O: Origin>(self) -> Call<O, I>
         requires { O.start ≡ self }
         ensures { result ≡ begun self }
     {
-        let mark = if self.lacks_memory() {
-            Some(Mark::OutOfMemory)
-        } else {
-            None
-        };
+        let mark = self.mark_ahead();
         let State {
             buffer,
             labels,
