@@ -1,7 +1,8 @@
 //! `Node` holds what is on a way from a tree back to a tree: a boxed expression, or a list of statements.
 //! A handle such as `ExprBox` says which of them a node holds.
 
-ghost use Rattle.std.specs.Prelude.{◌≡◌, false, IfOk, MatchOption, map};
+ghost use Rattle.std.specs.Prelude.{◌≡◌, ◌<◌, false, IfOk, IfSome, MatchOption, map};
+ghost use Rattle.swc_ecma_parser_model.specs.Size.{tree_size};
 ghost use Rattle.swc_ecma_parser_model.specs.Tree.{listed};
 ghost use Rattle.swc_ecma_parser_model.specs.Kinds.{is_expr, is_pat, is_stmt, is_list};
 ghost use Rattle.swc_ecma_parser_ast.specs.View.{view_expr, view_pat, view_stmt};
@@ -10,35 +11,39 @@ ghost use Rattle.swc_ecma_parser_ast.specs.Equal as equal;
 
 use crate::branch::IfStmt;
 use crate::call::{CallExpr, Callee, ExprOrSpread, MemberExpr, MemberProp};
+use crate::chain::{
+    expr_heads, expr_rest, stmt_heads, stmt_rest, write_expr_link, write_stmt_link,
+};
 use crate::expr::{BinExpr, Expr};
 use crate::pat::Pat;
 use crate::stmt::Stmt;
 use std::alloc::{AllocError, Global};
+use std::fmt::{self, Debug, Formatter, Write};
 use std::marker::Model;
 use swc_ecma_parser_common::{BytePos, Span, Spanned};
 
 /// A boxed expression.
 #[derive(Debug, PartialEq, Eq, Drop)]
 pub struct ExprBox<N = Node> {
-    node: N,
+    pub(crate) node: N,
 }
 
 /// A boxed pattern.
 #[derive(Debug, PartialEq, Eq, Drop)]
 pub struct PatBox<N = Node> {
-    node: N,
+    pub(crate) node: N,
 }
 
 /// A boxed statement.
 #[derive(Debug, PartialEq, Eq, Drop)]
 pub struct StmtBox<N = Node> {
-    node: N,
+    pub(crate) node: N,
 }
 
 /// A list of statements.
 #[derive(Debug, PartialEq, Eq, Drop)]
 pub struct StmtList<N = Node> {
-    node: N,
+    pub(crate) node: N,
 }
 
 /// What a node may hold.
@@ -52,8 +57,11 @@ pub enum Any {
 }
 
 /// A part of a tree, of any kind. Contracts see it as the model's tree, which is never one that is left out.
+///
+/// A chain on the left (`a + a + ..`, `a.a.a..`, `f()()..`) or of `else if` may be longer than any limit on levels. It is compared
+/// and let go in a loop. Printed by `{:?}`, one of more than eight links stands link by link, each without the part that goes on,
+/// and that part behind the word `of`; so the text is no deeper than the tree is without its chains.
 #[cycle(ast)]
-#[derive(Debug)]
 pub struct Node {
     inner: Any,
 }
@@ -134,6 +142,50 @@ impl Drop for Node {
                 Any::Stmts(stmts) => return discard_stmts(Box::into_inner(stmts)),
             }
         }
+    }
+}
+
+impl Node {
+    /// The part on which a chain goes on, if this is a link of one.
+    fn rest(&self) -> Option<&Node>
+        ensures { IfSome result (λ n. tree_size n.now.tree < tree_size self.now.tree) }
+    {
+        match &self.inner {
+            Any::Expr(x) => expr_rest(x),
+            Any::Stmt(x) => stmt_rest(x),
+            _ => None,
+        }
+    }
+
+    /// Whether a chain of more than eight links begins here.
+    fn is_long_chain(&self) -> bool {
+        let mut node = self;
+        for _ in 0..9 {
+            match node.rest() {
+                Some(rest) => node = rest,
+                None => return false,
+            }
+        }
+        true
+    }
+}
+
+impl Debug for Node {
+    #[cycle(printed)]
+    fn fmt<W: Write>(&self, f: &mut Formatter<W>) -> fmt::Result {
+        let mut node = self;
+        if self.is_long_chain() {
+            while let Some(rest) = node.rest() {
+                match &node.inner {
+                    Any::Expr(x) => write_expr_link(x, f)?,
+                    Any::Stmt(x) => write_stmt_link(x, f)?,
+                    _ => {}
+                }
+                f.write_str(" of ")?;
+                node = rest;
+            }
+        }
+        f.debug_struct("Node").field("inner", &node.inner).finish()
     }
 }
 
@@ -230,9 +282,36 @@ impl PartialEq for Node {
 
     ghost laws = { same_held_laws };
 
+    /// Two chains are compared link by link, in a loop.
     #[cycle(ast)]
     fn eq(&self, other: &Node) -> bool {
-        self.inner == other.inner
+        let mut left = self;
+        let mut right = other;
+        loop {
+            match &left.inner {
+                Any::Expr(a) => match &right.inner {
+                    Any::Expr(b) => match expr_heads(a, b) {
+                        Ok((a, b)) => {
+                            left = a;
+                            right = b;
+                        }
+                        Err(is_equal) => return is_equal,
+                    },
+                    _ => return left.inner == right.inner,
+                },
+                Any::Stmt(a) => match &right.inner {
+                    Any::Stmt(b) => match stmt_heads(a, b) {
+                        Ok((a, b)) => {
+                            left = a;
+                            right = b;
+                        }
+                        Err(is_equal) => return is_equal,
+                    },
+                    _ => return left.inner == right.inner,
+                },
+                _ => return left.inner == right.inner,
+            }
+        }
     }
 }
 
