@@ -3,7 +3,7 @@ pub mod DerivedItem
 pub mod Differ
 pub mod Apart
 pub mod Alike
-mod Chain
+pub mod Links
 pub mod AlikeItem
 pub mod Measured
 pub mod Directive

@@ -1,24 +1,21 @@
 //! `Node` holds what is on a way from a tree back to a tree: a boxed expression, or a list of statements.
 //! A handle such as `ExprBox` says which of them a node holds.
 
-ghost use Rattle.std.specs.Prelude.{◌≡◌, ◌<◌, false, IfOk, IfSome, MatchOption, map};
-ghost use Rattle.swc_ecma_parser_model.specs.Size.{tree_size};
+ghost use Rattle.std.specs.Prelude.{◌≡◌, false, IfOk, IfSome, MatchOption, Some, map};
 ghost use Rattle.swc_ecma_parser_model.specs.Tree.{listed};
 ghost use Rattle.swc_ecma_parser_model.specs.Kinds.{is_expr, is_pat, is_stmt, is_list};
 ghost use Rattle.swc_ecma_parser_ast.specs.View.{view_expr, view_pat, view_stmt};
 ghost use Rattle.swc_ecma_parser_ast.specs.Nodes.{view_any};
+ghost use Rattle.swc_ecma_parser_ast.specs.Chain as chain;
 ghost use Rattle.swc_ecma_parser_ast.specs.Equal as equal;
 
 use crate::branch::IfStmt;
 use crate::call::{CallExpr, Callee, ExprOrSpread, MemberExpr, MemberProp};
-use crate::chain::{
-    expr_heads, expr_rest, stmt_heads, stmt_rest, write_expr_link, write_stmt_link,
-};
+use crate::chain::{are_alike_exprs, are_alike_stmts, expr_rest, stmt_rest};
 use crate::expr::{BinExpr, Expr};
 use crate::pat::Pat;
 use crate::stmt::Stmt;
 use std::alloc::{AllocError, Global};
-use std::fmt::{self, Debug, Formatter, Write};
 use std::marker::Model;
 use swc_ecma_parser_common::{BytePos, Span, Spanned};
 
@@ -59,9 +56,9 @@ pub enum Any {
 /// A part of a tree, of any kind. Contracts see it as the model's tree, which is never one that is left out.
 ///
 /// A chain on the left (`a + a + ..`, `a.a.a..`, `f()()..`) or of `else if` may be longer than any limit on levels. It is compared
-/// and let go in a loop. Printed by `{:?}`, one of more than eight links stands link by link, each without the part that goes on,
-/// and that part behind the word `of`; so the text is no deeper than the tree is without its chains.
+/// and let go in a loop.
 #[cycle(ast)]
+#[derive(Debug)]
 pub struct Node {
     inner: Any,
 }
@@ -145,47 +142,16 @@ impl Drop for Node {
     }
 }
 
-impl Node {
+impl Any {
     /// The part on which a chain goes on, if this is a link of one.
     fn rest(&self) -> Option<&Node>
-        ensures { IfSome result (λ n. tree_size n.now.tree < tree_size self.now.tree) }
+        ensures { IfSome result (λ n. chain.rest_of_any self.now ≡ Some n.now) }
     {
-        match &self.inner {
+        match self {
             Any::Expr(x) => expr_rest(x),
             Any::Stmt(x) => stmt_rest(x),
             _ => None,
         }
-    }
-
-    /// Whether a chain of more than eight links begins here.
-    fn is_long_chain(&self) -> bool {
-        let mut node = self;
-        for _ in 0..9 {
-            match node.rest() {
-                Some(rest) => node = rest,
-                None => return false,
-            }
-        }
-        true
-    }
-}
-
-impl Debug for Node {
-    #[cycle(printed)]
-    fn fmt<W: Write>(&self, f: &mut Formatter<W>) -> fmt::Result {
-        let mut node = self;
-        if self.is_long_chain() {
-            while let Some(rest) = node.rest() {
-                match &node.inner {
-                    Any::Expr(x) => write_expr_link(x, f)?,
-                    Any::Stmt(x) => write_stmt_link(x, f)?,
-                    _ => {}
-                }
-                f.write_str(" of ")?;
-                node = rest;
-            }
-        }
-        f.debug_struct("Node").field("inner", &node.inner).finish()
     }
 }
 
@@ -287,31 +253,35 @@ impl PartialEq for Node {
     fn eq(&self, other: &Node) -> bool {
         let mut left = self;
         let mut right = other;
-        loop {
-            match &left.inner {
-                Any::Expr(a) => match &right.inner {
-                    Any::Expr(b) => match expr_heads(a, b) {
-                        Ok((a, b)) => {
-                            left = a;
-                            right = b;
-                        }
-                        Err(is_equal) => return is_equal,
-                    },
-                    _ => return left.inner == right.inner,
-                },
-                Any::Stmt(a) => match &right.inner {
-                    Any::Stmt(b) => match stmt_heads(a, b) {
-                        Ok((a, b)) => {
-                            left = a;
-                            right = b;
-                        }
-                        Err(is_equal) => return is_equal,
-                    },
-                    _ => return left.inner == right.inner,
-                },
-                _ => return left.inner == right.inner,
+        while let Some(left_rest) = left.inner.rest() {
+            let Some(right_rest) = right.inner.rest() else {
+                break;
+            };
+            if !are_alike_links(&left.inner, &right.inner) {
+                return false;
             }
+            left = left_rest;
+            right = right_rest;
         }
+        left.inner == right.inner
+    }
+}
+
+/// Whether two links of chains are of one kind, and alike but for the parts on which they go on.
+#[cycle(ast)]
+fn are_alike_links(a: &Any, b: &Any) -> bool
+    ensures { result ≡ chain.alike_links a.now b.now }
+{
+    match a {
+        Any::Expr(a) => match b {
+            Any::Expr(b) => are_alike_exprs(a, b),
+            _ => false,
+        },
+        Any::Stmt(a) => match b {
+            Any::Stmt(b) => are_alike_stmts(a, b),
+            _ => false,
+        },
+        _ => false,
     }
 }
 
