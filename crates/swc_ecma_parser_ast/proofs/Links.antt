@@ -1,5 +1,5 @@
 -- Two links of chains are alike where they are but for the parts on which they go on, and these parts are; and such a part is smaller.
-use Rattle.std.proofs.Common.{◌≡◌, refl, Bool, true, false, true≢false, ◌&&◌, ◌∙◌, sym, ap, Option, Some, None, ℕ, ◌<◌, ◌+◌, ◌≤◌, arith}
+use Rattle.std.proofs.Common.{◌≡◌, refl, Bool, true, false, true≢false, ◌&&◌, ◌∙◌, sym, ap, Option, Some, None, ℕ, ◌<◌, ◌+◌, ◌*◌, ◌≤◌, max, arith}
 use Rattle.std.specs.Option.{option_eq}
 use Rattle.std.specs.Cmp.Lexicographic.{pointwise}
 use Rattle.swc_ecma_parser_model.specs.Leaf.{put_binary}
@@ -11,7 +11,7 @@ use Rattle.swc_ecma_parser_ast.specs.Equal.{equal_callee, equal_expr, equal_expr
 use Rattle.swc_ecma_parser_ast.specs.Nodes.{view_any}
 use Rattle.swc_ecma_parser_ast.specs.Parts.{view_option}
 use Rattle.swc_ecma_parser_ast.specs.View.{view_callee, view_expr, view_stmt}
-use Rattle.swc_ecma_parser_ast.specs.Falls.{marked_size}
+use Rattle.swc_ecma_parser_ast.specs.Falls.{le_any, marked_size}
 use Rattle.swc_ecma_parser_ast.specs.Chain.{alike_bins, alike_calls, alike_exprs, alike_ifs, alike_links, alike_members, alike_stmts, rest_of_any, rest_of_callee, rest_of_else, rest_of_expr, rest_of_stmt}
 use Rattle.swc_ecma_parser_ast.proofs.Alike.{alike_expr, alike_stmt}
 use Rattle.swc_ecma_parser_ast.proofs.Apart.{expr_stmt, stmt_expr}
@@ -25,6 +25,7 @@ use Rattle.swc_ecma_parser_ast.specs.declared.expr.Expr.{Expr}
 use Rattle.swc_ecma_parser_ast.specs.declared.expr.Expr.TheVariants as v_expr
 use Rattle.swc_ecma_parser_ast.specs.declared.node.Any.{Any}
 use Rattle.swc_ecma_parser_ast.specs.declared.node.Any.TheVariants as v_any
+use Rattle.swc_ecma_parser_ast.specs.declared.node.Node.TheDeep.{deep-Any}
 use Rattle.swc_ecma_parser_ast.specs.declared.node.StmtBox.{StmtBox}
 use Rattle.swc_ecma_parser_ast.specs.declared.stmt.Stmt.{Stmt}
 use Rattle.swc_ecma_parser_ast.specs.declared.stmt.Stmt.TheVariants as v_stmt
@@ -32,11 +33,11 @@ use Rattle.swc_ecma_parser_ast.specs.declared.stmt.Stmt.TheVariants as v_stmt
 no : {A : Type 0} → false ≡ true → A
 no p = absurd (true≢false (sym p))
 
-is_some : Option Held → Bool
+abbrev is_some : Option Held → Bool
 is_some (Some n) = true
 is_some None = false
 
-or_else : Held → Option Held → Held
+abbrev or_else : Held → Option Held → Held
 or_else d (Some n) = n
 or_else d None = d
 
@@ -174,3 +175,8 @@ fits_any _ = omega arith
 
 pub falls : (x : Any) (s n : Held) → view_any x ≡ s → rest_of_any x ≡ Some n → tree_size n.tree < tree_size s.tree
 falls x s n h p = omega (arith, fits_any x, ap part_size p, ap (λ y. tree_size y.tree) h)
+
+-- comparing what two nodes hold is less than comparing the nodes
+pub below : (x y : Any) (s t : Held) → view_any x ≡ s → view_any y ≡ t
+    → 2 * max (deep-Any x) (deep-Any y) + 1 < 2 * (max (tree_size s.tree) (tree_size t.tree) + 1)
+below x y s t h k = omega (arith, le_any x, le_any y, ap (λ z. tree_size z.tree) h, ap (λ z. tree_size z.tree) k)

@@ -15,7 +15,8 @@ abbrev pub invariant-NodePartialEq::eq-loop-left_rest : goal.invariant-NodeParti
 invariant-NodePartialEq::eq-loop-left_rest l = record {
   alike : same_held l.left l.right ≡ same_held l.fn.self l.fn.other;
   in_left : tree_size l.left.tree ≤ tree_size l.fn.self.tree;
-  in_right : tree_size l.right.tree ≤ tree_size l.fn.other.tree }
+  in_right : tree_size l.right.tree ≤ tree_size l.fn.other.tree;
+}
 
 abbrev pub decreases-NodePartialEq::eq-loop-left_rest : goal.decreases-NodePartialEq::eq-loop-left_rest
 decreases-NodePartialEq::eq-loop-left_rest l = tree_size l.left.tree
