@@ -1,2 +1,1 @@
 pub mod Parsing
-pub mod Headline

@@ -48,7 +48,7 @@ pub enum Any {
     Expr(Box<Expr<Node>>),
     Pat(Box<Pat<Node>>),
     Stmt(Box<Stmt<Node>>),
-    Stmts(Box<Vec<Stmt<Node>>>),
+    Stmts(Vec<Stmt<Node>>),
 }
 
 /// A part of a tree, of any kind. Contracts see it as the model's tree, which is never one that is left out.
@@ -131,7 +131,7 @@ impl Drop for Node {
                     }
                     other => return other.discard(),
                 },
-                Any::Stmts(stmts) => return discard_stmts(Box::into_inner(stmts)),
+                Any::Stmts(stmts) => return discard_stmts(stmts),
             }
         }
     }
@@ -217,8 +217,8 @@ fn equal_boxed_stmts<N: PartialEq>(a: &Box<Stmt<N>>, b: &Box<Stmt<N>>) -> bool
 }
 
 /// `==`, as `equal_exprs`.
-fn equal_stmts<N: PartialEq>(a: &Box<Vec<Stmt<N>>>, b: &Box<Vec<Stmt<N>>>) -> bool
-    ensures { result ≡ equal.equal_stmts N.eq a.now.value.items b.now.value.items }
+fn equal_stmts<N: PartialEq>(a: &Vec<Stmt<N>>, b: &Vec<Stmt<N>>) -> bool
+    ensures { result ≡ equal.equal_stmts N.eq a.now.items b.now.items }
 {
     *a == *b
 }
@@ -354,14 +354,14 @@ impl StmtBox<Node> {
 }
 
 impl StmtList<Node> {
-    /// A handle of a list of statements; it fails only where memory runs out.
-    pub fn new(alloc: Global, stmts: Vec<Stmt<Node>>) -> Result<StmtList<Node>, AllocError>
-        ensures { IfOk result (λ l. l.node.tree ≡ listed (map view_stmt stmts.items)) }
+    /// A handle of a list of statements.
+    pub fn new(stmts: Vec<Stmt<Node>>) -> StmtList<Node>
+        ensures { result.node.tree ≡ listed (map view_stmt stmts.items) }
     {
-        let inner = Any::Stmts(Box::new(alloc, stmts)?);
-        Ok(StmtList {
+        let inner = Any::Stmts(stmts);
+        StmtList {
             node: Node { inner },
-        })
+        }
     }
 
     /// The statements; none only of a handle that no function of this crate makes.
@@ -380,7 +380,7 @@ impl StmtList<Node> {
     {
         let StmtList { node } = self;
         match node.into_any() {
-            Any::Stmts(xs) => Some(Box::into_inner(xs)),
+            Any::Stmts(xs) => Some(xs),
             inner => {
                 let _node = Node { inner };
                 None

@@ -176,13 +176,12 @@ pub fn constructor(
 {
     let params = all::<ParamOrTsParamProp>(alloc, params);
     let (params, (key, body)) = beside(params, (key, body))?;
-    let constructor = Constructor {
+    Ok(ClassMember::Constructor(Constructor {
         span,
         key,
         params,
         body: Some(body),
-    };
-    Ok(ClassMember::Constructor(constructor.boxed(alloc)?))
+    }))
 }
 
 /// A key with its pattern; here as `pattern_elements` is.

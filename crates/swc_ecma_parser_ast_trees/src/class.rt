@@ -19,11 +19,11 @@ impl BuildsClass for Ast {
 
     type Member = ClassMember;
 
-    type Class = Box<Class>;
+    type Class = Class;
 
     ghost member_of = { view_class_member };
 
-    ghost class_of = { λ c. view_class c.value };
+    ghost class_of = { view_class };
 
     fn constructor(
         alloc: Global,
@@ -42,36 +42,34 @@ impl BuildsClass for Ast {
         alloc: Global,
         span: Span,
         key: PropName,
-        function: Box<Function>,
+        function: Function,
         kind: MethodKind,
         is_static: bool,
     ) -> Result<ClassMember, AllocError> {
-        let found = ClassMethod {
+        Ok(ClassMember::Method(ClassMethod {
             span,
             key,
             function,
             kind,
             is_static,
-        };
-        Ok(ClassMember::Method(found.boxed(alloc)?))
+        }))
     }
 
     fn private_method(
         alloc: Global,
         span: Span,
         key: PrivateName,
-        function: Box<Function>,
+        function: Function,
         kind: MethodKind,
         is_static: bool,
     ) -> Result<ClassMember, AllocError> {
-        let found = PrivateMethod {
+        Ok(ClassMember::PrivateMethod(PrivateMethod {
             span,
             key,
             function,
             kind,
             is_static,
-        };
-        Ok(ClassMember::PrivateMethod(found.boxed(alloc)?))
+        }))
     }
 
     fn class_prop(
@@ -87,14 +85,13 @@ impl BuildsClass for Ast {
             (tree.listed (map view_decorator decorators.items))) }
     {
         let value = Made::optional(value);
-        let found = ClassProp {
+        Ok(ClassMember::ClassProp(ClassProp {
             span,
             key,
             value,
             is_static,
             decorators,
-        };
-        Ok(ClassMember::ClassProp(found.boxed(alloc)?))
+        }))
     }
 
     fn private_prop(
@@ -110,14 +107,13 @@ impl BuildsClass for Ast {
             (tree.listed (map view_decorator decorators.items))) }
     {
         let value = Made::optional(value);
-        let found = PrivateProp {
+        Ok(ClassMember::PrivateProp(PrivateProp {
             span,
             key,
             value,
             is_static,
             decorators,
-        };
-        Ok(ClassMember::PrivateProp(found.boxed(alloc)?))
+        }))
     }
 
     fn auto_accessor(
@@ -134,14 +130,13 @@ impl BuildsClass for Ast {
     {
         let value = Made::optional(value);
         let key = Key::Public(key);
-        let found = AutoAccessor {
+        Ok(ClassMember::AutoAccessor(AutoAccessor {
             span,
             key,
             value,
             is_static,
             decorators,
-        };
-        Ok(ClassMember::AutoAccessor(found.boxed(alloc)?))
+        }))
     }
 
     fn private_auto_accessor(
@@ -158,14 +153,13 @@ impl BuildsClass for Ast {
     {
         let value = Made::optional(value);
         let key = Key::Private(key);
-        let found = AutoAccessor {
+        Ok(ClassMember::AutoAccessor(AutoAccessor {
             span,
             key,
             value,
             is_static,
             decorators,
-        };
-        Ok(ClassMember::AutoAccessor(found.boxed(alloc)?))
+        }))
     }
 
     fn static_block(alloc: Global, span: Span, body: BlockStmt) -> Result<ClassMember, AllocError> {
@@ -182,26 +176,25 @@ impl BuildsClass for Ast {
         decorators: Vec<Decorator>,
         body: Vec<ClassMember>,
         super_class: Option<Made>,
-    ) -> Result<Box<Class>, AllocError>
-        ensures { IfOk result (λ x. view_class x.value
+    ) -> Result<Class, AllocError>
+        ensures { IfOk result (λ x. view_class x
             ≡ tree.class span (tree.listed (map view_decorator decorators.items))
             (tree.listed (map view_class_member body.items)) (parts.part_of view_made super_class)) }
     {
         let super_class = Made::optional(super_class);
-        let class = Class {
+        Ok(Class {
             span,
             decorators,
             body,
             super_class,
-        };
-        class.boxed(alloc)
+        })
     }
 
     fn class_expr(
         alloc: Global,
         span: Span,
         name: Option<Ident>,
-        class: Box<Class>,
+        class: Class,
     ) -> Result<Made, AllocError> {
         let class = ClassExpr {
             span,
@@ -222,7 +215,7 @@ impl BuildsClass for Ast {
         }
     }
 
-    fn class_span(class: &Box<Class>) -> Span {
+    fn class_span(class: &Class) -> Span {
         class.span
     }
 }

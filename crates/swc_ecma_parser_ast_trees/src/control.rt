@@ -110,7 +110,7 @@ impl BuildsSwitch for Ast {
             ≡ tree.case span (parts.part_of view_made test) (tree.listed (map view_stmt cons.items))) }
     {
         let test = Made::optional(test);
-        let (cons, test) = beside(StmtList::new(alloc, cons), test)?;
+        let cons = StmtList::new(cons);
         Ok(SwitchCase { span, test, cons })
     }
 }
@@ -133,13 +133,12 @@ impl BuildsTry for Ast {
         ensures { IfOk result (λ x. view_stmt x
             ≡ tree.try span (view_block_stmt block) (parts.part_of view_catch_clause handler) (parts.part_of view_block_stmt finalizer)) }
     {
-        let found = TryStmt {
+        Ok(Stmt::Try(TryStmt {
             span,
             block,
             handler,
             finalizer,
-        };
-        Ok(Stmt::Try(found.boxed(alloc)?))
+        }))
     }
 
     fn catch(

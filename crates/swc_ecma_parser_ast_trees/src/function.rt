@@ -18,13 +18,13 @@ impl BuildsFunction for Ast {
 
     type Param = Param;
 
-    type Function = Box<Function>;
+    type Function = Function;
 
     ghost decorator_of = { view_decorator };
 
     ghost param_of = { view_param };
 
-    ghost function_of = { λ f. view_function f.value };
+    ghost function_of = { view_function };
 
     fn decorator(alloc: Global, span: Span, expr: Made) -> Result<Decorator, AllocError> {
         let expr = expr.into_handle();
@@ -54,27 +54,26 @@ impl BuildsFunction for Ast {
         body: BlockStmt,
         is_async: bool,
         is_generator: bool,
-    ) -> Result<Box<Function>, AllocError>
-        ensures { IfOk result (λ x. view_function x.value
+    ) -> Result<Function, AllocError>
+        ensures { IfOk result (λ x. view_function x
             ≡ tree.function span (tree.listed (map view_decorator decorators.items))
             (tree.listed (map view_param params.items)) (view_block_stmt body) is_async is_generator) }
     {
-        let function = Function {
+        Ok(Function {
             span,
             decorators,
             params,
             body: Some(body),
             is_async,
             is_generator,
-        };
-        function.boxed(alloc)
+        })
     }
 
     fn fn_expr(
         alloc: Global,
         span: Span,
         name: Option<Ident>,
-        function: Box<Function>,
+        function: Function,
     ) -> Result<Made, AllocError> {
         let function = FnExpr {
             span,
@@ -144,11 +143,11 @@ impl BuildsFunction for Ast {
         }
     }
 
-    fn function_span(function: &Box<Function>) -> Span {
+    fn function_span(function: &Function) -> Span {
         function.span
     }
 
-    fn is_generator(function: &Box<Function>) -> bool {
+    fn is_generator(function: &Function) -> bool {
         function.is_generator
     }
 

@@ -50,16 +50,13 @@ impl BuildsFor for Ast {
     {
         let others = (Made::optional(test), Made::optional(update));
         match beside(StmtBox::new(alloc, body), others) {
-            Ok((body, (test, update))) => {
-                let found = ForStmt {
-                    span,
-                    init,
-                    test,
-                    update,
-                    body,
-                };
-                Ok(Stmt::For(found.boxed(alloc)?))
-            }
+            Ok((body, (test, update))) => Ok(Stmt::For(ForStmt {
+                span,
+                init,
+                test,
+                update,
+                body,
+            })),
             Err(e) => {
                 discard_init(init);
                 Err(e)
@@ -90,15 +87,12 @@ impl BuildsFor for Ast {
         body: Stmt,
     ) -> Result<Stmt, AllocError> {
         match beside(StmtBox::new(alloc, body), right.into_handle()) {
-            Ok((body, right)) => {
-                let found = ForInStmt {
-                    span,
-                    left,
-                    right,
-                    body,
-                };
-                Ok(Stmt::ForIn(found.boxed(alloc)?))
-            }
+            Ok((body, right)) => Ok(Stmt::ForIn(ForInStmt {
+                span,
+                left,
+                right,
+                body,
+            })),
             Err(e) => {
                 discard_head(left);
                 Err(e)
@@ -115,16 +109,13 @@ impl BuildsFor for Ast {
         body: Stmt,
     ) -> Result<Stmt, AllocError> {
         match beside(StmtBox::new(alloc, body), right.into_handle()) {
-            Ok((body, right)) => {
-                let found = ForOfStmt {
-                    span,
-                    is_await,
-                    left,
-                    right,
-                    body,
-                };
-                Ok(Stmt::ForOf(found.boxed(alloc)?))
-            }
+            Ok((body, right)) => Ok(Stmt::ForOf(ForOfStmt {
+                span,
+                is_await,
+                left,
+                right,
+                body,
+            })),
             Err(e) => {
                 discard_head(left);
                 Err(e)

@@ -1,4 +1,2 @@
 mod ItemAlone
 mod SetBack
-mod Begun
-mod Read

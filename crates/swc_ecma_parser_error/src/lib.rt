@@ -6,4 +6,4 @@ mod kind;
 mod texts;
 
 pub use error::{Error, PResult};
-pub use kind::{Labelled, SyntaxError, Texts};
+pub use kind::SyntaxError;

@@ -8,18 +8,12 @@ impl fmt::Display for SyntaxError {
     #[cycle(display)]
     fn fmt<W: fmt::Write>(&self, f: &mut fmt::Formatter<W>) -> fmt::Result {
         match self {
-            SyntaxError::Expected(texts) => {
-                let wanted = &texts.get().wanted;
-                let found = &texts.get().found;
-                write!(f, "Expected '{wanted}', got '{found}'")
-            }
-            SyntaxError::Unexpected(texts) => {
-                let expected = &texts.get().wanted;
-                let got = &texts.get().found;
+            SyntaxError::Expected(wanted, found) => write!(f, "Expected '{wanted}', got '{found}'"),
+            SyntaxError::Unexpected { got, expected } => {
                 write!(f, "Unexpected token '{got}'. Expected {expected}")
             }
-            SyntaxError::WithLabel(labelled) => {
-                let inner = &labelled.get().inner;
+            SyntaxError::WithLabel { inner, .. } => {
+                let inner = inner.get();
                 write!(f, "{inner}")
             }
             SyntaxError::ExportBindingIsString => write!(

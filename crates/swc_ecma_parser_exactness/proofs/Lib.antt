@@ -12,4 +12,3 @@ pub mod Unique
 pub mod Decides
 pub mod ModuleDecides
 pub mod Decided
-pub mod Walked

@@ -12,4 +12,3 @@ pub mod Loops
 pub mod Statements
 pub mod Levels
 pub mod Entries
-pub mod Leaves

@@ -32,7 +32,6 @@ mod UnspelledAwait
 mod SpellingItems
 mod SpelledStatements
 mod SpelledLoops
-mod SpelledDirectives
 mod SpelledItems
 mod ReadWithFaults
 pub mod ExpressionBegins

@@ -1,3 +1,2 @@
-pub mod Bumped
-mod Opened
 pub mod Ordered
+pub mod Bumped

@@ -6,7 +6,6 @@ mod capturing;
 mod comments;
 mod context;
 mod faults;
-mod ring;
 mod syntax;
 mod tokens;
 mod tokens_input;

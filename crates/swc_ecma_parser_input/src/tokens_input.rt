@@ -110,18 +110,12 @@ impl Tokens for TokensInput {
 
     fn try_clone(&self) -> PResult<TokensInput> {
         let alloc = *self.behind.allocator();
-        let Ok(behind) = copies(alloc, &self.behind) else {
-            return Err(self.refusal());
-        };
-        let Ok(faults) = self.faults.try_clone() else {
-            return Err(self.refusal());
-        };
         Ok(TokensInput {
-            behind,
+            behind: copies(alloc, &self.behind)?,
             context: self.context,
             syntax: self.syntax,
             start: self.start,
-            faults,
+            faults: self.faults.try_clone()?,
         })
     }
 

@@ -42,7 +42,6 @@ fn shorthand_name<P: Source, T: BuildsObject>(
 
 /// A key and its value, from `:` on.
 #[tactic(auto, unfolding(swc_ecma_parser_reader::specs::Expressions::key_value))]
-#[inline(never)]
 fn key_value<
     P: Source,
     T: BuildsObject,
@@ -120,7 +119,6 @@ fn initialized_name<
 }
 
 /// A key by itself.
-#[inline(never)]
 fn bare_key<P: Source, T: BuildsObject>(
     alloc: Global,
     p: &mut P,
@@ -136,7 +134,6 @@ fn bare_key<P: Source, T: BuildsObject>(
 
 /// A key and its default, from `=` on, which only a name has.
 #[tactic(auto, using(crate::proofs::Refusals::wanted_cover))]
-#[inline(never)]
 fn initialized_key<
     P: Source,
     T: BuildsObject,
@@ -231,7 +228,6 @@ fn keyed_property<
 
 /// A spread property, with the place of its dots.
 #[tactic(auto, unfolding(swc_ecma_parser_reader::specs::Expressions::spread_property))]
-#[inline(never)]
 fn spread_property<
     P: Source,
     T: BuildsObject,
@@ -302,7 +298,6 @@ fn properties<
 
 /// An object.
 #[tactic(auto, unfolding(swc_ecma_parser_reader::specs::Expressions::object))]
-#[inline(never)]
 pub fn object<
     P: Source,
     T: BuildsMethod + BuildsPattern,

@@ -59,4 +59,3 @@ pub mod ItemTurns
 pub mod SoundItems
 pub mod CompleteItems
 pub mod ItemEntries
-pub mod ItemsAtEnd

@@ -50,4 +50,3 @@ pub mod Spans
 pub mod Refusals
 pub mod Entries
 pub mod Statements
-pub mod Calls

@@ -24,4 +24,3 @@ pub mod AwaitWords
 pub mod DecoratorLevels
 pub mod Entry
 pub mod Limits
-pub mod Calls

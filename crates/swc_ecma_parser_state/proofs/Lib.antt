@@ -3,4 +3,3 @@ pub mod Taken
 pub mod Contexts
 pub mod Words
 pub mod Rejects
-mod Underway

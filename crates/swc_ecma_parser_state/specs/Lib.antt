@@ -2,4 +2,3 @@ pub mod View
 pub mod FirstError
 pub mod Taken
 pub mod Opened
-pub mod CallView

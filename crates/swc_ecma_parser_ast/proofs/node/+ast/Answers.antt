@@ -50,7 +50,7 @@ AnyPartialEq::eq-returns-in-Stmt-other-3 t c =
 
 pub AnyPartialEq::eq-returns-in-Stmts-other-4 : goal.AnyPartialEq::eq-returns-in-Stmts-other-4
 AnyPartialEq::eq-returns-in-Stmts-other-4 t c =
-    rw (c.in-Stmts.is, c.in-Stmts-other-4.is) (c.equal_stmts.ensures ∙ alike_stmts c.in-Stmts.a.value.items c.in-Stmts-other-4.b.value.items)
+    rw (c.in-Stmts.is, c.in-Stmts-other-4.is) (c.equal_stmts.ensures ∙ alike_stmts c.in-Stmts.a.items c.in-Stmts-other-4.b.items)
 
 pub AnyPartialEq::eq-returns-in-Pat-other : goal.AnyPartialEq::eq-returns-in-Pat-other
 AnyPartialEq::eq-returns-in-Pat-other t c =
@@ -62,7 +62,7 @@ AnyPartialEq::eq-returns-in-Stmt-other t c =
 
 pub AnyPartialEq::eq-returns-in-Stmts-other : goal.AnyPartialEq::eq-returns-in-Stmts-other
 AnyPartialEq::eq-returns-in-Stmts-other t c =
-    rw (c.in-Expr.is, c.in-Stmts-other.is) (sym (expr_list c.in-Expr.a.value (trees (map view_stmt c.in-Stmts-other.field-0.value.items))))
+    rw (c.in-Expr.is, c.in-Stmts-other.is) (sym (expr_list c.in-Expr.a.value (trees (map view_stmt c.in-Stmts-other.field-0.items))))
 
 pub AnyPartialEq::eq-returns-in-Expr-other-2 : goal.AnyPartialEq::eq-returns-in-Expr-other-2
 AnyPartialEq::eq-returns-in-Expr-other-2 t c =
@@ -74,7 +74,7 @@ AnyPartialEq::eq-returns-in-Stmt-other-2 t c =
 
 pub AnyPartialEq::eq-returns-in-Stmts-other-2 : goal.AnyPartialEq::eq-returns-in-Stmts-other-2
 AnyPartialEq::eq-returns-in-Stmts-other-2 t c =
-    rw (c.in-Pat.is, c.in-Stmts-other-2.is) (sym (pat_list c.in-Pat.a.value (trees (map view_stmt c.in-Stmts-other-2.field-0.value.items))))
+    rw (c.in-Pat.is, c.in-Stmts-other-2.is) (sym (pat_list c.in-Pat.a.value (trees (map view_stmt c.in-Stmts-other-2.field-0.items))))
 
 pub AnyPartialEq::eq-returns-in-Expr-other-3 : goal.AnyPartialEq::eq-returns-in-Expr-other-3
 AnyPartialEq::eq-returns-in-Expr-other-3 t c =
@@ -86,16 +86,16 @@ AnyPartialEq::eq-returns-in-Pat-other-3 t c =
 
 pub AnyPartialEq::eq-returns-in-Stmts-other-3 : goal.AnyPartialEq::eq-returns-in-Stmts-other-3
 AnyPartialEq::eq-returns-in-Stmts-other-3 t c =
-    rw (c.in-Stmt.is, c.in-Stmts-other-3.is) (sym (stmt_list c.in-Stmt.a.value (trees (map view_stmt c.in-Stmts-other-3.field-0.value.items))))
+    rw (c.in-Stmt.is, c.in-Stmts-other-3.is) (sym (stmt_list c.in-Stmt.a.value (trees (map view_stmt c.in-Stmts-other-3.field-0.items))))
 
 pub AnyPartialEq::eq-returns-in-Expr-other-4 : goal.AnyPartialEq::eq-returns-in-Expr-other-4
 AnyPartialEq::eq-returns-in-Expr-other-4 t c =
-    rw (c.in-Stmts.is, c.in-Expr-other-4.is) (sym (list_expr (trees (map view_stmt c.in-Stmts.a.value.items)) c.in-Expr-other-4.field-0.value))
+    rw (c.in-Stmts.is, c.in-Expr-other-4.is) (sym (list_expr (trees (map view_stmt c.in-Stmts.a.items)) c.in-Expr-other-4.field-0.value))
 
 pub AnyPartialEq::eq-returns-in-Pat-other-4 : goal.AnyPartialEq::eq-returns-in-Pat-other-4
 AnyPartialEq::eq-returns-in-Pat-other-4 t c =
-    rw (c.in-Stmts.is, c.in-Pat-other-4.is) (sym (list_pat (trees (map view_stmt c.in-Stmts.a.value.items)) c.in-Pat-other-4.field-0.value))
+    rw (c.in-Stmts.is, c.in-Pat-other-4.is) (sym (list_pat (trees (map view_stmt c.in-Stmts.a.items)) c.in-Pat-other-4.field-0.value))
 
 pub AnyPartialEq::eq-returns-in-Stmt-other-4 : goal.AnyPartialEq::eq-returns-in-Stmt-other-4
 AnyPartialEq::eq-returns-in-Stmt-other-4 t c =
-    rw (c.in-Stmts.is, c.in-Stmt-other-4.is) (sym (list_stmt (trees (map view_stmt c.in-Stmts.a.value.items)) c.in-Stmt-other-4.field-0.value))
+    rw (c.in-Stmts.is, c.in-Stmt-other-4.is) (sym (list_stmt (trees (map view_stmt c.in-Stmts.a.items)) c.in-Stmt-other-4.field-0.value))
