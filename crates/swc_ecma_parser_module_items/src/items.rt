@@ -168,8 +168,7 @@ pub(crate) fn items_behind<P: Source, T: BuildsStatements + BuildsExport + Build
     before: Vec<T::Item>,
     directives: bool,
 ) -> PResult<Vec<T::Item>>
-    requires { directives ≡ rules.directs true (map T.item_of before.items) }
-    ensures gives { GivesAs (λ found. map T.item_of found.items) (reader.loop (rules.items_turn (modules.module_item limit) rules.at_end true) (map T.item_of before.items) (P.seen p.old)) result (P.seen p.new) }
+    ensures gives { directives ≡ rules.directs true (map T.item_of before.items) → GivesAs (λ found. map T.item_of found.items) (reader.loop (rules.items_turn (modules.module_item limit) rules.at_end true) (map T.item_of before.items) (P.seen p.old)) result (P.seen p.new) }
     ensures outright { (P.seen p.old).at.left ≡ [] → IsOk result }
 {
     let mut found = before;

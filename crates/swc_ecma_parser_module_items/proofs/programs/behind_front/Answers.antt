@@ -17,12 +17,6 @@ returns-in_err-first-clause-gives g c =
     let p = err_from_is_err_and c.from_residual.result c.from_residual.ensures.1 in
     rw (p.1, p.2) (λ h. led_refused c.args.limit v (g.P.Source.seen c.args.p.now) any _ (c.in_err-first.ensures h))
 
-pub items_behind-requires : goal.items_behind-requires
-items_behind-requires g c =
-    let items : map g.T.BuildsItem.item_of c.pushed.new.items.items ≡ g.T.BuildsItem.item_of c.in_ok-first.first ∷ [] =
-    ap (map g.T.BuildsItem.item_of) (c.in_ok-pushed.ensures.items ∙ ap (λ xs. xs ++ c.in_ok-first.first ∷ []) c.new-found.ensures.items) in
-    c.is_string_item-directives.ensures ∙ ap (directs true) (sym items)
-
 pub returns-clause-gives : goal.returns-clause-gives
 returns-clause-gives g c =
     let v = leading_of g.T.BuildsFunction.decorator_of c.args.list in
@@ -31,4 +25,4 @@ returns-clause-gives g c =
     let items : map g.T.BuildsItem.item_of c.pushed.new.items.items ≡ g.T.BuildsItem.item_of c.in_ok-first.first ∷ [] =
     ap (map g.T.BuildsItem.item_of) (c.in_ok-pushed.ensures.items ∙ ap (λ xs. xs ++ c.in_ok-first.first ∷ []) c.new-found.ensures.items) in
     subst (λ o. GivesAs (λ found. map g.T.BuildsItem.item_of found.items) o c.items_behind.result (g.P.Source.seen c.items_behind.new.p))
-    (sym (led_read c.args.limit v (g.P.Source.seen c.args.p.now) any _ _ c.in_ok-first.ensures _ items _ c.in_ok-pushed.ensures.state)) c.items_behind.ensures.gives
+    (sym (led_read c.args.limit v (g.P.Source.seen c.args.p.now) any _ _ c.in_ok-first.ensures _ items _ c.in_ok-pushed.ensures.state)) (c.items_behind.ensures.gives (c.is_string_item-directives.ensures ∙ ap (directs true) (sym items)))
