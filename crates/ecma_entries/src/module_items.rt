@@ -18,9 +18,9 @@ const FORMS: [(&str, u32, &str); 10] = [
     ),
     ("import a, { b } from 'c'", 1, "  Import 0..24\n"),
     (
-        "export var a; export { a } b",
+        "export var a; export { a }; b",
         3,
-        "  ExportDecl 0..13\n  ExportNamed 14..26\n  Expr 27..28\n",
+        "  ExportDecl 0..13\n  ExportNamed 14..27\n  Expr 28..29\n",
     ),
     (
         "export function f() {} export class A {}",
@@ -48,9 +48,9 @@ const FORMS: [(&str, u32, &str); 10] = [
         "  Var 0..6\n  Fn 7..22\n  Class 23..33\n",
     ),
     (
-        "export { if } break",
+        "export { if }; break",
         2,
-        "  ExportNamed 0..13\nfault 9..11 ExportExpectFrom\n  Break 14..19\nfault 14..19 TS1105\n",
+        "  ExportNamed 0..14\nfault 9..11 ExportExpectFrom\n  Break 15..20\nfault 15..20 TS1105\n",
     ),
     (
         "'use strict'; var public",
@@ -59,7 +59,7 @@ const FORMS: [(&str, u32, &str); 10] = [
     ),
 ];
 
-const REFUSALS: [(&str, u32, &str); 8] = [
+const REFUSALS: [(&str, u32, &str); 11] = [
     ("", 2, "refused 0..0 Eof\nrefused 0..0 Eof\n"),
     ("import", 2, "refused 6..6 Eof\nrefused 6..6 Eof\n"),
     ("import a 'b'", 2, "refused 9..12 Expected\n  Expr 9..12\n"),
@@ -69,11 +69,22 @@ const REFUSALS: [(&str, u32, &str); 8] = [
         "refused 2..8 ExpectedSemiForExprStmt\n  ExportNamed 2..11\n",
     ),
     ("{ export {} }", 1, "refused 2..8 ImportExportInScript\n"),
+    ("export {} a", 2, "refused 10..11 Expected\n  Expr 10..11\n"),
+    (
+        "export { if } break",
+        2,
+        "fault 9..11 ExportExpectFrom\nrefused 14..19 Expected\n  Break 14..19\nfault 14..19 TS1105\n",
+    ),
+    (
+        "import('a') b",
+        2,
+        "refused 12..13 ExpectedSemiForExprStmt\n  Expr 12..13\n",
+    ),
     ("#!a", 1, "refused 0..3 Unexpected\n"),
     (
-        "\\ export {} \\",
+        "\\ export {}; \\",
         3,
-        "refused 0..1 UnexpectedChar\n  ExportNamed 2..11\nrefused 12..13 UnexpectedChar\n",
+        "refused 0..1 UnexpectedChar\n  ExportNamed 2..12\nrefused 13..14 UnexpectedChar\n",
     ),
     (
         "import 'a' \\",
@@ -119,14 +130,14 @@ const HELD_BACK: [(&str, u32, &str); 6] = [
 /// Behind an import or an export the code is a module's; a refusal leaves it as it was.
 const BEHIND: [(&str, u32, &str); 5] = [
     (
-        "export {} with (a) b",
+        "export {}; with (a) b",
         2,
-        "  ExportNamed 0..9\n  With 10..20\nfault 10..14 WithInStrict\n",
+        "  ExportNamed 0..10\n  With 11..21\nfault 11..15 WithInStrict\n",
     ),
     (
-        "var public; export {} var public",
+        "var public; export {}; var public",
         3,
-        "  Var 0..11\n  ExportNamed 12..21\nrefused 26..32 ExpectedIdent\n",
+        "  Var 0..11\n  ExportNamed 12..22\nrefused 27..33 ExpectedIdent\n",
     ),
     (
         "import 'a'; interface",
@@ -139,18 +150,18 @@ const BEHIND: [(&str, u32, &str); 5] = [
         "refused 7..8 Unexpected\n  Expr 7..9\n  With 10..21\n  Var 22..32\n",
     ),
     (
-        "export {} export c; with (a) b",
+        "export {}; export c; with (a) b",
         4,
-        "  ExportNamed 0..9\nrefused 17..18 Unexpected\n  Expr 17..19\n  With 20..30\nfault 20..24 WithInStrict\n",
+        "  ExportNamed 0..10\nrefused 18..19 Unexpected\n  Expr 18..20\n  With 21..31\nfault 21..25 WithInStrict\n",
     ),
 ];
 
 /// In code of which no context says that it can be a module's; an export does not say it either.
 const DECIDED: [(&str, u32, &str); 3] = [
     (
-        "import(a) b; import.meta",
+        "import(a); b; import.meta",
         3,
-        "  Expr 0..9\n  Expr 10..12\n  Expr 13..24\nfault 13..24 ImportMetaInScript\n",
+        "  Expr 0..10\n  Expr 11..13\n  Expr 14..25\nfault 14..25 ImportMetaInScript\n",
     ),
     (
         "await a; b",
@@ -158,9 +169,9 @@ const DECIDED: [(&str, u32, &str); 3] = [
         "  Expr 0..8\nfault 0..5 TopLevelAwaitInScript\n  Expr 9..10\n",
     ),
     (
-        "export {} await a; import.meta",
+        "export {}; await a; import.meta",
         3,
-        "  ExportNamed 0..9\n  Expr 10..18\nfault 10..15 TopLevelAwaitInScript\n  Expr 19..30\nfault 19..30 ImportMetaInScript\n",
+        "  ExportNamed 0..10\n  Expr 11..19\nfault 11..16 TopLevelAwaitInScript\n  Expr 20..31\nfault 20..31 ImportMetaInScript\n",
     ),
 ];
 
@@ -172,9 +183,9 @@ const UNDECIDED: [(&str, u32, &str); 3] = [
         "  Expr 0..8\n  Expr 9..21\n  ExportNamed 22..31\n",
     ),
     (
-        "export {} await import.meta",
+        "export {}; await import.meta",
         2,
-        "  ExportNamed 0..9\n  Expr 10..27\n",
+        "  ExportNamed 0..10\n  Expr 11..28\n",
     ),
     (
         "with (a) b; await c; import.meta",
@@ -238,9 +249,9 @@ const NO_LEVELS: [(&str, u32, &str); 5] = [
 const ONE_LEVEL: [(&str, u32, &str); 5] = [
     ("import 'x'; ;", 2, "  Import 0..11\n  Empty 12..13\n"),
     (
-        "export {} export * from 'a'; export class A {}",
+        "export {}; export * from 'a'; export class A {}",
         3,
-        "  ExportNamed 0..9\n  ExportAll 10..28\n  ExportDecl 29..46\n",
+        "  ExportNamed 0..10\n  ExportAll 11..29\n  ExportDecl 30..47\n",
     ),
     ("export default a", 1, "refused 15..16 TooDeep\n"),
     ("export var a", 1, "refused 11..12 TooDeep\n"),
@@ -415,7 +426,7 @@ fn an_import_and_an_export_leave_module_code(rt: HostRuntime) -> Result<(), Fail
         ..before
     };
     for (text, wanted) in [
-        ("export {} a b c", (module, true)),
+        ("export {}; a b c", (module, true)),
         ("import 'a'; b c", (module, false)),
         ("a; b c d", (before, true)),
         ("export + a", (before, false)),

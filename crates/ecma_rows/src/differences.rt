@@ -33,8 +33,6 @@ const a; → Script 0..8, Var 0..8
 for (let.a of b) ; → Script 0..18, ForOf 0..18
 for (let a = b in c; ;) ; → Script 0..25, For 0..25 → BinExpr 13..19
 for (var [a] = b in c) ; → Script 0..24, ForIn 0..24 → VarDecl 5..16
-function f() { 'a'; 'use strict'; public; } → Script 0..43, Fn 0..43
-() => { 'use strict'; public; } → Script 0..31, Expr 0..31
 'use strict'; static; → Script 0..21, Expr 0..13, Expr 14..21
 'use strict'; eval = a; → Script 0..23, Expr 0..13, Expr 14..23
 'use strict'; delete a; → Script 0..23, Expr 0..13, Expr 14..23
@@ -42,7 +40,7 @@ function f() { 'a'; 'use strict'; public; } → Script 0..43, Fn 0..43
 if (a) let [b] → Script 0..14, If 0..14";
 
 /// Each table, and how many rows it has.
-pub const TABLES: [(&str, &str); 2] = [(NOT_READ, "14 rows"), (READ, "24 rows")];
+pub const TABLES: [(&str, &str); 2] = [(NOT_READ, "14 rows"), (READ, "22 rows")];
 
 /// The same of modules.
 pub const MODULE_TABLES: [(&str, &str); 1] = [(

@@ -125,7 +125,10 @@ import() → Script 0..8, Expr 0..8 → CallExpr 0..8, Import 0..6
 import(...a); → Script 0..13, Expr 0..13 → CallExpr 0..12, Import 0..6
 import(a).then(b) → Script 0..17, Expr 0..17 → CallExpr 0..17, MemberExpr 0..14, CallExpr 0..9, Import 0..6
 import(a), b → Script 0..12, Expr 0..12 → SeqExpr 0..12, CallExpr 0..9
-import(a) b → Script 0..11, Expr 0..9, Expr 10..11
+import('a') b → refused 12..13 ExpectedSemiForExprStmt
+import(a); b → Script 0..12, Expr 0..10, Expr 11..12
+import(a)¶b → Script 0..11, Expr 0..9, Expr 10..11
+import(a), () => {} + b → Script 0..23, Expr 0..23, fault 20..21 TS1005 → BinExpr 0..23, SeqExpr 0..19
 { import(a) } → Script 0..13, Block 0..13 → ExprStmt 2..11, CallExpr 2..11
 new (import(a)) → Script 0..15, Expr 0..15 → NewExpr 0..15, ParenExpr 4..15, CallExpr 5..14
 new a(import(b)) → Script 0..16, Expr 0..16 → NewExpr 0..16, CallExpr 6..15
@@ -176,7 +179,7 @@ pub const TABLES: [(&str, &str); 10] = [
     (BINDINGS, "20 rows"),
     (SUPERS, "11 rows"),
     (PRIVATE_NAMES, "8 rows"),
-    (IMPORTS, "32 rows"),
+    (IMPORTS, "35 rows"),
     (REFUSED, "7 rows"),
 ];
 

@@ -6,7 +6,9 @@ const FUNCTIONS: &str =
 function f(a, [b], { c }, ...d) {} → Script 0..34, Fn 0..34 → Param 11..12, ArrayPat 14..17, ObjectPat 19..24, RestPat 26..30
 function f(a = 1, b) {} → Script 0..23, Fn 0..23 → Param 11..16, AssignPat 11..16, Param 18..19
 function f() { return 1 } → Script 0..25, Fn 0..25 → BlockStmt 13..25, ReturnStmt 15..23
-function f() { 'x'; 'use strict'; var public; } → Script 0..47, Fn 0..47 → VarDecl 34..45
+function f() { a; 'use strict'; var public; } → Script 0..45, Fn 0..45 → VarDecl 32..43
+function f() { 'x'; ('y'); 'use strict'; var public; } → Script 0..54, Fn 0..54
+{ 'use strict'; var public; } → Script 0..29, Block 0..29
 function f() { 'use strict' } var public; → Script 0..41, Fn 0..29, Var 30..41
 function f() { 'use strict'; with (a) b; } → Script 0..42, Fn 0..42 → WithStmt 29..40
 function yield() {} → Script 0..19, Fn 0..19
@@ -23,7 +25,11 @@ function f(a = 1) { \"x\"; \"use strict\"; } → Script 0..40, Fn 0..40, fault 2
 'use strict'; a: function f(){} → Script 0..31, Expr 0..13, Labeled 14..31, fault 17..31 LabelledFunctionInStrict
 if (a) function f() {} → Script 0..22, If 0..22, fault 7..15 DeclNotAllowed
 function f() { → Script 0..14, Fn 0..14, fault 13..14 Expected
+'x'; 'use strict'; a: function f(){} → Script 0..36, Expr 0..4, Expr 5..18, Labeled 19..36, fault 22..36 LabelledFunctionInStrict
 function f() { 'use strict'; var public; } → refused 33..39 ExpectedIdent
+function f() { 'x'; 'use strict'; var public; } → refused 38..44 ExpectedIdent
+'x'; 'use strict'; var public → refused 23..29 ExpectedIdent
+'use strict'; 'x'; var public → refused 23..29 ExpectedIdent
 'use strict'; function public() {} → refused 23..29 ExpectedIdent
 function → refused 8..8 Eof
 function () {} → refused 9..10 ExpectedIdent
@@ -109,8 +115,8 @@ async function f → refused 15..16 Expected";
 
 /// Each table, and how many rows it has.
 pub const TABLES: [(&str, &str); 8] = [
-    (FUNCTIONS, "12 rows"),
-    (FAULTS, "12 rows"),
+    (FUNCTIONS, "14 rows"),
+    (FAULTS, "16 rows"),
     (EXPRESSIONS, "14 rows"),
     (EXPRESSION_FAULTS, "9 rows"),
     (GENERATORS, "14 rows"),

@@ -113,7 +113,10 @@ for (using a = b of c) ; → refused 11..12 Expected
 
 const AWAIT_USING_HEADS: &str =
     "for (await using a of b) c → Script 0..26, ForOf 0..26 → UsingDecl 5..18, is_await: true, VarDeclarator 17..18, Ident 17..18 a
-for (await¶using¶a of b) c → Script 0..26, ForOf 0..26 → UsingDecl 5..18, is_await: true
+for (await using¶a of b) c → Script 0..26, ForOf 0..26 → UsingDecl 5..18, is_await: true
+for (await¶using a of b) c → refused 17..18 Expected
+for (await¶using a in b) c → refused 17..18 Expected
+for (await¶using;;) ; → Script 0..21, For 0..21 → AwaitExpr 5..16, Ident 11..16 using
 for await (await using a of b) c → Script 0..32, ForOf 0..32 → is_await: true, UsingDecl 11..24, VarDeclarator 23..24
 for (await using await of a) b → Script 0..30, ForOf 0..30 → UsingDecl 5..22, VarDeclarator 17..22
 for (await using using of a) b → Script 0..30, ForOf 0..30 → UsingDecl 5..22, VarDeclarator 17..22
@@ -141,7 +144,7 @@ for (await other a of b) ; → refused 17..18 Expected
 /// The same of those for which `explicit_resource_management` is set.
 pub const SET_TABLES: [(&str, &str); 2] = [
     (USING_HEADS, "17 rows"),
-    (AWAIT_USING_HEADS, "25 rows"),
+    (AWAIT_USING_HEADS, "28 rows"),
 ];
 
 /// Each table, and how many rows it has.

@@ -41,7 +41,9 @@ export { a, default as c, 'd' } from 'x'; → Module 0..41, ExportNamed 0..41 �
 export * as a from 'x' → Module 0..22, ExportNamed 0..22 → ExportNamespaceSpecifier 7..13, Ident 12..13 a
 export * as 'a' from 'x' → Module 0..24, ExportNamed 0..24 → ExportNamespaceSpecifier 7..15, Str 12..15 a 'a'
 export * from 'x' → Module 0..17, ExportAll 0..17 → ExportAll 0..17, Str 14..17 x 'x'
-export {} a → Module 0..11, ExportNamed 0..9, Expr 10..11
+export {} a → refused 10..11 Expected
+export {}¶a → Module 0..11, ExportNamed 0..9, Expr 10..11
+export { if } a → fault 9..11 ExportExpectFrom, refused 14..15 Expected
 export * as foo, { bar } from 'mod' → refused 15..16 Expected
 export { a } from 'x' b → refused 22..23 Expected
 export * from → refused 13..13 Eof
@@ -164,7 +166,7 @@ import 'y' assert { → refused 19..19 Eof";
 /// Each table, and how many rows it has.
 pub const TABLES: [(&str, &str); 4] = [
     (IMPORTS, "29 rows"),
-    (EXPORTS, "38 rows"),
+    (EXPORTS, "40 rows"),
     (MODULES, "21 rows"),
     (AWAITS, "19 rows"),
 ];

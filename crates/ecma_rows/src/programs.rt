@@ -9,7 +9,8 @@ while (a) with (b) interface → Script 0..28, While 0..28 → WithStmt 10..28, 
 'use strict'; with (a) b → Script 0..24, Expr 0..13, With 14..24
 break; with (a) b → Script 0..17, Break 0..6, With 7..17, fault 0..6 TS1105
 interface; var public; let = yield → Script 0..34, Expr 0..10, Var 11..22, Expr 23..34 → Ident 0..9 interface, AssignExpr 23..34
-import(a) b → Script 0..11, Expr 0..9, Expr 10..11 → CallExpr 0..9
+import(a); b → Script 0..12, Expr 0..10, Expr 11..12 → CallExpr 0..9
+import(a) b → refused 10..11 ExpectedSemiForExprStmt
 with (a) b; c d → refused 14..15 ExpectedSemiForExprStmt";
 
 const AWAITS: &str = "await promise → Module 0..13, Expr 0..13 → AwaitExpr 0..13, shebang: None
@@ -37,7 +38,8 @@ function foo (x = await) { } → Script 0..28, Fn 0..28
 async function foo () { function bar(x = await) {} } → Script 0..52, Fn 0..52
 'use strict'; await a; var public → refused 27..33 ExpectedIdent";
 
-const METAS: &str = "import.meta a → Module 0..13, Expr 0..11, Expr 12..13 → MetaPropExpr 0..11
+const METAS: &str = "import.meta; a → Module 0..14, Expr 0..12, Expr 13..14 → MetaPropExpr 0..11
+import.meta a → refused 12..13 ExpectedSemiForExprStmt
 a = import.meta; with (b) c → Module 0..27, Expr 0..16, With 17..27, fault 17..21 WithInStrict
 { import.meta } → Module 0..15, Block 0..15 → MetaPropExpr 2..13
 function f() {} import.meta → Module 0..27, Fn 0..15, Expr 16..27
@@ -67,8 +69,9 @@ const DECLARATIONS: &str = "import 'foo'; → Module 0..13, Import 0..13 → Imp
 a; import 'b'; c → Module 0..16, Expr 0..2, Import 3..14, Expr 15..16
 export var a; export {} → Module 0..23, ExportDecl 0..13, ExportNamed 14..23
 #!a¶export {} → Module 0..13, ExportNamed 4..13 → text: \"a\"
-import(a) import 'b' → Module 0..20, Expr 0..9, Import 10..20
-import.meta import 'a' → Module 0..22, Expr 0..11, Import 12..22
+import(a); import 'b' → Module 0..21, Expr 0..10, Import 11..21
+import.meta; import 'a' → Module 0..23, Expr 0..12, Import 13..23
+import(a) import 'b' → refused 10..16 ExpectedSemiForExprStmt
 import 'a'; import(b); import.meta → Module 0..34, Import 0..11, Expr 12..22, Expr 23..34
 await a; export default await b → Module 0..31, Expr 0..8, ExportDefaultExpr 9..31 → AwaitExpr 0..7, AwaitExpr 24..31
 import 'a'; await b → Module 0..19, Import 0..11, Expr 12..19
@@ -104,7 +107,7 @@ export {}; var await → Module 0..20, ExportNamed 0..10, Var 11..20, fault 15..
 let; static; yield; package; export {} → Module 0..38, Expr 0..4, Expr 5..12, Expr 13..19, Expr 20..28, ExportNamed 29..38
 function yield() {} export {} → Module 0..29, Fn 0..19, ExportNamed 20..29
 const a; export {}; const b → Module 0..27, Var 0..8, ExportNamed 9..19, Var 20..27, fault 26..27 ConstDeclarationsRequireInitialization
-a: function f() {} export {} b: function g() {} → Module 0..47, Labeled 0..18, ExportNamed 19..28, Labeled 29..47, fault 32..47 LabelledFunctionInStrict
+a: function f() {} export {}; b: function g() {} → Module 0..48, Labeled 0..18, ExportNamed 19..29, Labeled 30..48, fault 33..48 LabelledFunctionInStrict
 for (var i = 0 in a) ; export {}; for (var i = 0 in a) ; → Module 0..56, ForIn 0..22, ExportNamed 23..33, ForIn 34..56, fault 43..44 VarInitializerInForInHead
 'use strict'; export {} → Module 0..23, Expr 0..13, ExportNamed 14..23
 export {}; 'use strict'; a → Module 0..26, ExportNamed 0..10, Expr 11..24, Expr 25..26
@@ -117,16 +120,17 @@ export {}; interface → refused 11..20 Unexpected
 export {}; var public → refused 15..21 ExpectedIdent
 export var let → refused 11..14 ExpectedIdent
 'use strict'; const a; var public; export {} → fault 20..21 ConstDeclarationsRequireInitialization, refused 27..33 ExpectedIdent
-#!a¶'use strict'; var public; export {} → refused 22..28 ExpectedIdent";
+#!a¶'use strict'; var public; export {} → refused 22..28 ExpectedIdent
+'a'; 'use strict'; var public; export {} → refused 23..29 ExpectedIdent";
 
 /// Each table, and how many rows it has.
 pub const TABLES: [(&str, &str); 6] = [
-    (SCRIPTS, "11 rows"),
+    (SCRIPTS, "12 rows"),
     (AWAITS, "24 rows"),
-    (METAS, "25 rows"),
-    (DECLARATIONS, "20 rows"),
+    (METAS, "26 rows"),
+    (DECLARATIONS, "21 rows"),
     (HELD_BACK, "12 rows"),
-    (STRICT, "20 rows"),
+    (STRICT, "21 rows"),
 ];
 
 /// Rows, each within so many levels.

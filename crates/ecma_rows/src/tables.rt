@@ -25,7 +25,7 @@ enum Setting {
 }
 
 /// Tables of texts and what they parse to, each with the number of its rows.
-const TABLES: [(Goal, Setting, &[(&str, &str)]); 42] = [
+const TABLES: [(Goal, Setting, &[(&str, &str)]); 43] = [
     (Goal::Script, Setting::Default, &arrows::TABLES),
     (Goal::Script, Setting::Default, &awaits::TABLES),
     (Goal::Script, Setting::Default, &classes::TABLES),
@@ -78,6 +78,11 @@ const TABLES: [(Goal, Setting, &[(&str, &str)]); 42] = [
         Goal::Module,
         Setting::DecoratorsBeforeExport,
         &exports::BOTH_TABLES,
+    ),
+    (
+        Goal::Module,
+        Setting::Resources,
+        &declarations::MODULE_TABLES,
     ),
     (Goal::Module, Setting::Defaults, &examples::DEFAULT_TABLES),
     (Goal::Module, Setting::Defaults, &modules::SET_TABLES),

@@ -106,7 +106,7 @@ fn nodes_come_out_of_their_boxes(rt: HostRuntime) -> Result<(), Fail> {
 fn unlisted(alloc: Global) -> Result<(usize, usize), Fail> {
     let mut stmts = Vec::new(alloc);
     stmts.push(Stmt::Empty(EmptyStmt { span: span(1, 2) }))?;
-    let list: StmtList = StmtList::new(stmts);
+    let list: StmtList = StmtList::new(alloc, stmts)?;
     let seen = list.get().ok_or("none seen")?.len();
     Ok((seen, list.into_inner().ok_or("none")?.len()))
 }

@@ -4,7 +4,7 @@ use crate::check::{equals, expect, let_go, note};
 use crate::places::span;
 use std::alloc::{AllocError, Global};
 use swc_ecma_parser_common::{Atom, Boxed, Spanned};
-use swc_ecma_parser_error::{Error, SyntaxError};
+use swc_ecma_parser_error::{Error, Labelled, SyntaxError};
 
 fn error(kind: SyntaxError) -> Error {
     Error {
@@ -16,19 +16,19 @@ fn error(kind: SyntaxError) -> Error {
 /// A fault that holds one more.
 fn labelled(alloc: Global) -> Result<SyntaxError, AllocError> {
     let note = Atom::new(alloc, "a note")?;
-    let inner = Boxed::new(alloc, error(SyntaxError::ExpectedIdent))?;
-    let span = span(0, 1);
-    Ok(SyntaxError::WithLabel { inner, span, note })
+    let labelled = Labelled {
+        inner: error(SyntaxError::ExpectedIdent),
+        span: span(0, 1),
+        note,
+    };
+    Ok(SyntaxError::WithLabel(Boxed::new(alloc, labelled)?))
 }
 
 /// A kind of this name.
 fn kind(alloc: Global, name: &str) -> Result<SyntaxError, AllocError> {
     let kind = match name {
-        "Expected" => SyntaxError::Expected(Atom::new(alloc, "from")?, Atom::new(alloc, ",")?),
-        "Unexpected" => SyntaxError::Unexpected {
-            got: Atom::new(alloc, ")")?,
-            expected: Atom::new(alloc, "an expression")?,
-        },
+        "Expected" => SyntaxError::expected(alloc, "from", ",")?,
+        "Unexpected" => SyntaxError::unexpected(alloc, "an expression", ")")?,
         "WithLabel" => labelled(alloc)?,
         "ExpectedSemiForExprStmt" => SyntaxError::ExpectedSemiForExprStmt { expr: span(0, 1) },
         _ => SyntaxError::TooDeep,

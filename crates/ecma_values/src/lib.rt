@@ -8,6 +8,8 @@ mod faults;
 #[cfg(test)]
 mod places;
 #[cfg(test)]
+mod sizes;
+#[cfg(test)]
 mod sources;
 #[cfg(test)]
 mod tokens;

@@ -26,16 +26,38 @@ fn put(tokens: &mut Vec<TokenAndSpan>) -> Result<(), AllocError> {
     made(tokens.push(place(Token::RBrace, 7, 8)))
 }
 
-/// A source of them.
-fn list(alloc: Global) -> Result<TokensInput, AllocError> {
-    let mut tokens = Vec::new(alloc);
-    let are_put = put(&mut tokens).is_ok();
+/// An error token that says that memory ran out.
+fn put_want(tokens: &mut Vec<TokenAndSpan>) -> Result<(), AllocError> {
+    let error = out_of_memory(span(5, 6));
+    made(tokens.push(place(Token::Error(error), 5, 6)))
+}
+
+/// A source of tokens, if they were put.
+fn source_of(
+    alloc: Global,
+    tokens: Vec<TokenAndSpan>,
+    are_put: bool,
+) -> Result<TokensInput, AllocError> {
     if are_put && spans_ordered(tokens.as_slice()) {
         let plain = Context::default();
         return Ok(TokensInput::new(alloc, tokens, plain, Syntax::default()));
     }
     let_go(tokens);
     Err(AllocError)
+}
+
+/// A source of the tokens of `;{}`.
+fn list(alloc: Global) -> Result<TokensInput, AllocError> {
+    let mut tokens = Vec::new(alloc);
+    let are_put = put(&mut tokens).is_ok();
+    source_of(alloc, tokens, are_put)
+}
+
+/// A source of that error token.
+fn want(alloc: Global) -> Result<TokensInput, AllocError> {
+    let mut tokens = Vec::new(alloc);
+    let is_put = put_want(&mut tokens).is_ok();
+    source_of(alloc, tokens, is_put)
 }
 
 fn write_token(out: &mut String, found: TokenAndSpan) -> Result<(), AllocError> {
@@ -142,6 +164,16 @@ fn copies_are_kept_of_what_is_drawn(rt: HostRuntime) {
     let written = write_source(&mut out, &mut source);
     expect(&rt, out, written, SOURCE);
     shows(&rt, rt.alloc(), kept(&mut source), "Ok((3, 0, 3))\n");
+    let_go(source);
+}
+
+#[test]
+fn a_drawn_want_of_memory_is_kept(rt: HostRuntime) {
+    let mut out = String::new(rt.alloc());
+    let mut source = Capturing::new(rt.alloc(), found(&rt, want(rt.alloc())));
+    let written = write_drawn(&mut out, &mut source);
+    expect(&rt, out, written, "(Error, 5, 6)\n|\n");
+    shows(&rt, rt.alloc(), kept(&mut source), "Ok((1, 0, 1))\n");
     let_go(source);
 }
 

@@ -2,6 +2,7 @@
 //! (sections 11 to 16). What it promises stands on the functions of [`Parser`].
 #![tactic(auto)]
 
+pub mod headline;
 mod lexing;
 mod parser;
 

@@ -7,17 +7,20 @@ ghost use Rattle.swc_ecma_parser_error.specs.Kind.{fault_of, faults_of, kind_of,
 ghost use Rattle.swc_ecma_parser_error.specs.declared.error.Error.{Error};
 ghost use Rattle.swc_ecma_parser_forward.specs.Forward.{in_order, AnswersForward};
 ghost use Rattle.swc_ecma_parser_input.specs.Place as place;
+ghost use Rattle.swc_ecma_parser_input.specs.Setting.{setting_of};
 ghost use Rattle.swc_ecma_parser_module_reader.specs.Entry.{IsEntered, SoundModule};
-ghost use Rattle.swc_ecma_parser_module_reader.specs.ItemEntry.{SoundItemAlone};
-ghost use Rattle.swc_ecma_parser_module_reader.specs.ProgramEntry.{SoundProgram};
+ghost use Rattle.swc_ecma_parser_module_reader.specs.ItemEntry.{SoundItemAlone, item_walk};
+ghost use Rattle.swc_ecma_parser_module_reader.specs.ProgramEntry.{SoundProgram, program_walk};
 ghost use Rattle.swc_ecma_parser_reader.specs.Notes.{held_of};
 ghost use Rattle.swc_ecma_parser_reader.specs.State as reader;
-ghost use Rattle.swc_ecma_parser_reader.specs.Entry.{unmarked, SoundScript, SoundStatement, IsRestored, Stays};
-ghost use Rattle.swc_ecma_parser_reader.specs.Limits.{has_too_deep_token, has_out_of_memory_token};
+ghost use Rattle.swc_ecma_parser_reader.specs.Entry.{unmarked, SoundScript, SoundStatement, IsRestored, Stays, script_walk, statement_walk};
+ghost use Rattle.swc_ecma_parser_reader.specs.Calls.{Leaves, MemoryLasts, TellsMark, lacks_ahead};
+ghost use Rattle.swc_ecma_parser_reader.specs.Limits.{has_too_deep_token};
 ghost use Rattle.swc_ecma_parser_exactness.specs.Completes.{CompletesScript, CompletesModule, CompletesProgram, CompletesItem, CompletesStatement};
 ghost use Rattle.swc_ecma_parser_exactness.specs.Decides.{DecidesScript, DecidesStatement};
 ghost use Rattle.swc_ecma_parser_exactness.specs.ModuleDecides.{DecidesModule, DecidesItem, DecidesProgram};
 ghost use Rattle.swc_ecma_parser_exactness.specs.Supports.{Ordered};
+ghost use Rattle.swc_ecma_parser_exactness.specs.Walked.{Walked, whole_module_walk};
 ghost use Rattle.swc_ecma_parser_state.specs.Opened.{opened};
 ghost use Rattle.swc_ecma_parser_token.specs.declared.token.Token.TheVariants as token;
 ghost use Rattle.swc_ecma_parser_token.specs.declared.token.TokenAndSpan.{TokenAndSpan};
@@ -41,12 +44,13 @@ pub const DEFAULT_LIMIT: u32 = 1000;
 #[derive(Drop)]
 pub struct Parser<I: Tokens> {
     alloc: Global,
-    state: State<I>,
+    /// Nothing while a call has it.
+    state: Option<State<I>>,
     limit: u32,
 }
 
 impl<I: Tokens> Model for Parser<I> {
-    ghost use Rattle.swc_ecma_parser.specs.Parsing.{Parsing};
+    ghost use Rattle.swc_ecma_parser.specs.Parsing.{Parsing, kept, IsKept};
 
     ghost Value = { Parsing };
 
@@ -55,7 +59,9 @@ impl<I: Tokens> Model for Parser<I> {
 
     ghost coded = { Prim.hlevel (codes, token.the_row.coded) };
 
-    ghost view = { λ p. record { state = p.state; limit = p.limit } };
+    ghost view = { λ p. record { state = kept p.state; limit = p.limit } };
+
+    ghost invariant = { λ p. IsKept p.state };
 }
 
 impl<I: Tokens> Parser<I> {
@@ -84,7 +90,7 @@ impl<I: Tokens> Parser<I> {
     {
         Parser {
             alloc,
-            state: State::new(alloc, input),
+            state: Some(State::new(alloc, input)),
             limit,
         }
     }
@@ -104,11 +110,18 @@ impl<I: Tokens> Parser<I> {
         // spell it within the limit.
         ensures decides { DecidesScript view_script self.old.limit (unmarked self.old.state) result self.new.state }
 
+        // Where nothing had been held back, no error token was read and nothing was dropped: the faults of the walk's kinds among
+        // those that the call added are the walk.
+        ensures walk { Walked view_script (script_walk self.old.state) self.old.state result self.new.state }
+
         // Of tokens in order, whatever is recorded: no span of an answer starts after its end, and what is left is in order.
         ensures forward { in_order self.old.state.at ≡ true → AnswersForward view_script result self.new.state.at }
 
-        // No token of an answer is one that memory ran out for.
-        ensures memory { IfOk result (λ x. has_out_of_memory_token self.old.state.at.left ≡ false) }
+        // Where memory ran out for one of the two tokens that are read ahead, that is the answer.
+        ensures ahead { lacks_ahead self.old.state.at ≡ true → IsErrAnd result (λ e. kind_of e.kind ≡ kinds.OutOfMemory) }
+
+        // Memory ran out for no token that an answer read, and for neither of the two that are read ahead of it.
+        ensures memory { IfOk result (λ x. MemoryLasts self.old.state.at self.new.state.at) }
 
         // A limit of twice the tokens and two is never met.
         ensures fits { 2 * length self.old.state.at.left + 2 ≤ self.old.limit → has_too_deep_token self.old.state.at.left ≡ false
@@ -124,11 +137,23 @@ impl<I: Tokens> Parser<I> {
         // Whatever comes but want of memory: the tokens that are left are the last of those that were, what was read last is the
         // token before them, and no recorded fault is lost.
         ensures stays { Stays self.old.state result self.new.state }
+
+        // Whatever comes, want of memory too: the same, but that some of the tokens that are left may be drawn as ones that memory ran
+        // out for; the setting stays, and what was held back is recorded or stays held back.
+        ensures leaves { Leaves self.old.state self.new.state }
+
+        // So tokens in order stay in order.
+        ensures order { in_order self.old.state.at ≡ true → in_order self.new.state.at ≡ true }
+
+        // A refusal is what was marked, if anything was; nothing is marked behind an answer, whatever was before the call.
+        ensures mark { TellsMark result self.new.state }
     {
         let alloc = self.alloc;
         let limit = self.limit as usize;
-        let state = &mut self.state;
-        script::<I, Ast>(alloc, state, limit)
+        let state = self.state.take().unwrap();
+        let (state, read) = script::<I, Ast>(alloc, state, limit);
+        self.state = Some(state);
+        read
     }
 
     /// Reads the whole list as a module: ECMA-262, section 16.2. The code is a module's and strict then, also after the call; what
@@ -151,11 +176,18 @@ impl<I: Tokens> Parser<I> {
         ensures decides { (from : ℕ) → Ordered from self.old.state.at → (u : reader.State) × IsEntered (unmarked self.old.state) u
             × DecidesModule view_module self.old.limit u result self.new.state }
 
+        // Where nothing had been held back, no error token was read and nothing was dropped: the faults of the walk's kinds among
+        // those that the call added are the walk.
+        ensures walk { Walked view_module (whole_module_walk self.old.state) self.old.state result self.new.state }
+
         // Of tokens in order, whatever is recorded: no span of an answer starts after its end, and what is left is in order.
         ensures forward { in_order self.old.state.at ≡ true → AnswersForward view_module result self.new.state.at }
 
-        // No token of an answer is one that memory ran out for.
-        ensures memory { IfOk result (λ x. has_out_of_memory_token self.old.state.at.left ≡ false) }
+        // Where memory ran out for one of the two tokens that are read ahead, that is the answer.
+        ensures ahead { lacks_ahead self.old.state.at ≡ true → IsErrAnd result (λ e. kind_of e.kind ≡ kinds.OutOfMemory) }
+
+        // Memory ran out for no token that an answer read, and for neither of the two that are read ahead of it.
+        ensures memory { IfOk result (λ x. MemoryLasts self.old.state.at self.new.state.at) }
 
         // A limit of twice the tokens and two is never met.
         ensures fits { 2 * length self.old.state.at.left + 2 ≤ self.old.limit → has_too_deep_token self.old.state.at.left ≡ false
@@ -172,11 +204,23 @@ impl<I: Tokens> Parser<I> {
         // Whatever comes but want of memory: the tokens that are left are the last of those that were, what was read last is the
         // token before them, and no recorded fault is lost.
         ensures stays { Stays self.old.state result self.new.state }
+
+        // Whatever comes, want of memory too: the same, but that some of the tokens that are left may be drawn as ones that memory ran
+        // out for; the setting stays, and what was held back is recorded or stays held back.
+        ensures leaves { Leaves self.old.state self.new.state }
+
+        // So tokens in order stay in order.
+        ensures order { in_order self.old.state.at ≡ true → in_order self.new.state.at ≡ true }
+
+        // A refusal is what was marked, if anything was; nothing is marked behind an answer, whatever was before the call.
+        ensures mark { TellsMark result self.new.state }
     {
         let alloc = self.alloc;
         let limit = self.limit as usize;
-        let state = &mut self.state;
-        module::<I, Ast>(alloc, state, limit)
+        let state = self.state.take().unwrap();
+        let (state, read) = module::<I, Ast>(alloc, state, limit);
+        self.state = Some(state);
+        read
     }
 
     /// Reads the whole list as a program, which turns out to be a script or a module: ECMA-262, sections 16.1 and 16.2. It is a
@@ -199,11 +243,18 @@ impl<I: Tokens> Parser<I> {
         // had been held back, exactly where the tokens up to there spell it within the limit.
         ensures decides { (from : ℕ) → Ordered from self.old.state.at → DecidesProgram view_program self.old.limit (unmarked self.old.state) result self.new.state }
 
+        // Where nothing had been held back, no error token was read and nothing was dropped: the faults of the walk's kinds among
+        // those that the call added are the walk.
+        ensures walk { Walked view_program (program_walk self.old.state) self.old.state result self.new.state }
+
         // Of tokens in order, whatever is recorded: no span of an answer starts after its end, and what is left is in order.
         ensures forward { in_order self.old.state.at ≡ true → AnswersForward view_program result self.new.state.at }
 
-        // No token of an answer is one that memory ran out for.
-        ensures memory { IfOk result (λ x. has_out_of_memory_token self.old.state.at.left ≡ false) }
+        // Where memory ran out for one of the two tokens that are read ahead, that is the answer.
+        ensures ahead { lacks_ahead self.old.state.at ≡ true → IsErrAnd result (λ e. kind_of e.kind ≡ kinds.OutOfMemory) }
+
+        // Memory ran out for no token that an answer read, and for neither of the two that are read ahead of it.
+        ensures memory { IfOk result (λ x. MemoryLasts self.old.state.at self.new.state.at) }
 
         // A limit of twice the tokens and two is never met.
         ensures fits { 2 * length self.old.state.at.left + 2 ≤ self.old.limit → has_too_deep_token self.old.state.at.left ≡ false
@@ -220,11 +271,23 @@ impl<I: Tokens> Parser<I> {
         // Whatever comes but want of memory: the tokens that are left are the last of those that were, what was read last is the
         // token before them, and no recorded fault is lost.
         ensures stays { Stays self.old.state result self.new.state }
+
+        // Whatever comes, want of memory too: the same, but that some of the tokens that are left may be drawn as ones that memory ran
+        // out for; the setting stays, and what was held back is recorded or stays held back.
+        ensures leaves { Leaves self.old.state self.new.state }
+
+        // So tokens in order stay in order.
+        ensures order { in_order self.old.state.at ≡ true → in_order self.new.state.at ≡ true }
+
+        // A refusal is what was marked, if anything was; nothing is marked behind an answer, whatever was before the call.
+        ensures mark { TellsMark result self.new.state }
     {
         let alloc = self.alloc;
         let limit = self.limit as usize;
-        let state = &mut self.state;
-        program::<I, Ast>(alloc, state, limit)
+        let state = self.state.take().unwrap();
+        let (state, read) = program::<I, Ast>(alloc, state, limit);
+        self.state = Some(state);
+        read
     }
 
     /// Reads one item of a module, behind which anything may stand: ECMA-262, section 16.2. An import or an export makes module code
@@ -247,30 +310,51 @@ impl<I: Tokens> Parser<I> {
         // had been held back, exactly where the tokens up to there spell it within the limit.
         ensures decides { (from : ℕ) → Ordered from self.old.state.at → DecidesItem view_module_item self.old.limit (unmarked self.old.state) result self.new.state }
 
+        // Where nothing had been held back, no error token was read and nothing was dropped: the faults of the walk's kinds among
+        // those that the call added are the walk.
+        ensures walk { Walked view_module_item (item_walk self.old.state) self.old.state result self.new.state }
+
         // Of tokens in order, whatever is recorded: no span of an answer starts after its end, and what is left is in order.
         ensures forward { in_order self.old.state.at ≡ true → AnswersForward view_module_item result self.new.state.at }
 
-        // No token that an answer read is one that memory ran out for.
-        ensures memory { IfOk result (λ x. has_out_of_memory_token self.new.state.at.left ≡ false → has_out_of_memory_token self.old.state.at.left ≡ false) }
+        // Where memory ran out for one of the two tokens that are read ahead, that is the answer.
+        ensures ahead { lacks_ahead self.old.state.at ≡ true → IsErrAnd result (λ e. kind_of e.kind ≡ kinds.OutOfMemory) }
+
+        // Memory ran out for no token that an answer read, and for neither of the two that are read ahead of it.
+        ensures memory { IfOk result (λ x. MemoryLasts self.old.state.at self.new.state.at) }
 
         // A limit of twice the tokens and two is never met.
         ensures fits { 2 * length self.old.state.at.left + 2 ≤ self.old.limit → has_too_deep_token self.old.state.at.left ≡ false
             → IfErr result (λ e. kind_of e.kind ≢ kinds.TooDeep) }
 
-        // An error token in first place is answered, unless memory ran out; and so is the end of the list.
+        // An error token in first place is answered, unless memory ran out.
         ensures error_token { (t : TokenAndSpan) (ts : _) (d : Error) → self.old.state.at.left ≡ t ∷ ts → t.token ≡ token.Error d
             → IsErrAnd result (λ e. kind_of e.kind ≢ kinds.OutOfMemory → fault_of e ≡ fault_of d) }
-        ensures at_end { self.old.state.at.left ≡ [] → IsErrAnd result (λ e. kind_of e.kind ≢ kinds.OutOfMemory → kind_of e.kind ≡ kinds.Eof) }
+
+        // At the end of the list the answer is `Eof`, at the end of what was read last, whatever memory is left.
+        ensures at_end { self.old.state.at.left ≡ [] → IsErrAnd result (λ e. fault_of e ≡ reader.fault_at (reader.end_of self.old.state.at.last) kinds.Eof) }
         ensures refused { OnErr result (IsRestored self.old.state self.new.state) }
 
         // Whatever comes but want of memory: the tokens that are left are the last of those that were, what was read last is the
         // token before them, and no recorded fault is lost.
         ensures stays { Stays self.old.state result self.new.state }
+
+        // Whatever comes, want of memory too: the same, but that some of the tokens that are left may be drawn as ones that memory ran
+        // out for; the setting stays, and what was held back is recorded or stays held back.
+        ensures leaves { Leaves self.old.state self.new.state }
+
+        // So tokens in order stay in order.
+        ensures order { in_order self.old.state.at ≡ true → in_order self.new.state.at ≡ true }
+
+        // A refusal is what was marked, if anything was; nothing is marked behind an answer, whatever was before the call.
+        ensures mark { TellsMark result self.new.state }
     {
         let alloc = self.alloc;
         let limit = self.limit as usize;
-        let state = &mut self.state;
-        item::<I, Ast>(alloc, state, limit)
+        let state = self.state.take().unwrap();
+        let (state, read) = item::<I, Ast>(alloc, state, limit);
+        self.state = Some(state);
+        read
     }
 
     /// Reads one statement that is no declaration but one of `var`, behind which anything may stand: ECMA-262, section 14. At the
@@ -289,34 +373,55 @@ impl<I: Tokens> Parser<I> {
         // spell it within the limit.
         ensures decides { DecidesStatement view_stmt self.old.limit false top_level (unmarked self.old.state) result self.new.state }
 
+        // Where nothing had been held back, no error token was read and nothing was dropped: the faults of the walk's kinds among
+        // those that the call added are the walk.
+        ensures walk { Walked view_stmt (statement_walk self.old.state) self.old.state result self.new.state }
+
         // Of tokens in order, whatever is recorded: no span of an answer starts after its end, and what is left is in order.
         ensures forward { in_order self.old.state.at ≡ true → AnswersForward view_stmt result self.new.state.at }
 
-        // No token that an answer read is one that memory ran out for.
-        ensures memory { IfOk result (λ x. has_out_of_memory_token self.new.state.at.left ≡ false → has_out_of_memory_token self.old.state.at.left ≡ false) }
+        // Where memory ran out for one of the two tokens that are read ahead, that is the answer.
+        ensures ahead { lacks_ahead self.old.state.at ≡ true → IsErrAnd result (λ e. kind_of e.kind ≡ kinds.OutOfMemory) }
+
+        // Memory ran out for no token that an answer read, and for neither of the two that are read ahead of it.
+        ensures memory { IfOk result (λ x. MemoryLasts self.old.state.at self.new.state.at) }
 
         // A limit of twice the tokens and two is never met.
         ensures fits { 2 * length self.old.state.at.left + 2 ≤ self.old.limit → has_too_deep_token self.old.state.at.left ≡ false
             → IfErr result (λ e. kind_of e.kind ≢ kinds.TooDeep) }
 
-        // An error token in first place is answered, unless memory ran out; and so is the end of the list.
+        // An error token in first place is answered, unless memory ran out.
         ensures error_token { (t : TokenAndSpan) (ts : _) (d : Error) → self.old.state.at.left ≡ t ∷ ts → t.token ≡ token.Error d
             → IsErrAnd result (λ e. kind_of e.kind ≢ kinds.OutOfMemory → fault_of e ≡ fault_of d) }
-        ensures at_end { self.old.state.at.left ≡ [] → IsErrAnd result (λ e. kind_of e.kind ≢ kinds.OutOfMemory → kind_of e.kind ≡ kinds.Eof) }
+
+        // At the end of the list the answer is `Eof`, at the end of what was read last, whatever memory is left.
+        ensures at_end { self.old.state.at.left ≡ [] → IsErrAnd result (λ e. fault_of e ≡ reader.fault_at (reader.end_of self.old.state.at.last) kinds.Eof) }
         ensures refused { OnErr result (IsRestored self.old.state self.new.state) }
 
         // Whatever comes but want of memory: the tokens that are left are the last of those that were, what was read last is the
         // token before them, and no recorded fault is lost.
         ensures stays { Stays self.old.state result self.new.state }
+
+        // Whatever comes, want of memory too: the same, but that some of the tokens that are left may be drawn as ones that memory ran
+        // out for; the setting stays, and what was held back is recorded or stays held back.
+        ensures leaves { Leaves self.old.state self.new.state }
+
+        // So tokens in order stay in order.
+        ensures order { in_order self.old.state.at ≡ true → in_order self.new.state.at ≡ true }
+
+        // A refusal is what was marked, if anything was; nothing is marked behind an answer, whatever was before the call.
+        ensures mark { TellsMark result self.new.state }
     {
         let alloc = self.alloc;
         let limit = self.limit as usize;
-        let state = &mut self.state;
+        let state = self.state.take().unwrap();
         let at = Position {
             include_decl: false,
             top_level,
         };
-        statement::<I, Ast>(alloc, state, limit, at)
+        let (state, read) = statement::<I, Ast>(alloc, state, limit, at);
+        self.state = Some(state);
+        read
     }
 
     /// The same of a statement or a declaration: StatementListItem of section 14.2.
@@ -334,34 +439,55 @@ impl<I: Tokens> Parser<I> {
         // spell it within the limit.
         ensures decides { DecidesStatement view_stmt self.old.limit true top_level (unmarked self.old.state) result self.new.state }
 
+        // Where nothing had been held back, no error token was read and nothing was dropped: the faults of the walk's kinds among
+        // those that the call added are the walk.
+        ensures walk { Walked view_stmt (statement_walk self.old.state) self.old.state result self.new.state }
+
         // Of tokens in order, whatever is recorded: no span of an answer starts after its end, and what is left is in order.
         ensures forward { in_order self.old.state.at ≡ true → AnswersForward view_stmt result self.new.state.at }
 
-        // No token that an answer read is one that memory ran out for.
-        ensures memory { IfOk result (λ x. has_out_of_memory_token self.new.state.at.left ≡ false → has_out_of_memory_token self.old.state.at.left ≡ false) }
+        // Where memory ran out for one of the two tokens that are read ahead, that is the answer.
+        ensures ahead { lacks_ahead self.old.state.at ≡ true → IsErrAnd result (λ e. kind_of e.kind ≡ kinds.OutOfMemory) }
+
+        // Memory ran out for no token that an answer read, and for neither of the two that are read ahead of it.
+        ensures memory { IfOk result (λ x. MemoryLasts self.old.state.at self.new.state.at) }
 
         // A limit of twice the tokens and two is never met.
         ensures fits { 2 * length self.old.state.at.left + 2 ≤ self.old.limit → has_too_deep_token self.old.state.at.left ≡ false
             → IfErr result (λ e. kind_of e.kind ≢ kinds.TooDeep) }
 
-        // An error token in first place is answered, unless memory ran out; and so is the end of the list.
+        // An error token in first place is answered, unless memory ran out.
         ensures error_token { (t : TokenAndSpan) (ts : _) (d : Error) → self.old.state.at.left ≡ t ∷ ts → t.token ≡ token.Error d
             → IsErrAnd result (λ e. kind_of e.kind ≢ kinds.OutOfMemory → fault_of e ≡ fault_of d) }
-        ensures at_end { self.old.state.at.left ≡ [] → IsErrAnd result (λ e. kind_of e.kind ≢ kinds.OutOfMemory → kind_of e.kind ≡ kinds.Eof) }
+
+        // At the end of the list the answer is `Eof`, at the end of what was read last, whatever memory is left.
+        ensures at_end { self.old.state.at.left ≡ [] → IsErrAnd result (λ e. fault_of e ≡ reader.fault_at (reader.end_of self.old.state.at.last) kinds.Eof) }
         ensures refused { OnErr result (IsRestored self.old.state self.new.state) }
 
         // Whatever comes but want of memory: the tokens that are left are the last of those that were, what was read last is the
         // token before them, and no recorded fault is lost.
         ensures stays { Stays self.old.state result self.new.state }
+
+        // Whatever comes, want of memory too: the same, but that some of the tokens that are left may be drawn as ones that memory ran
+        // out for; the setting stays, and what was held back is recorded or stays held back.
+        ensures leaves { Leaves self.old.state self.new.state }
+
+        // So tokens in order stay in order.
+        ensures order { in_order self.old.state.at ≡ true → in_order self.new.state.at ≡ true }
+
+        // A refusal is what was marked, if anything was; nothing is marked behind an answer, whatever was before the call.
+        ensures mark { TellsMark result self.new.state }
     {
         let alloc = self.alloc;
         let limit = self.limit as usize;
-        let state = &mut self.state;
+        let state = self.state.take().unwrap();
         let at = Position {
             include_decl: true,
             top_level,
         };
-        statement::<I, Ast>(alloc, state, limit, at)
+        let (state, read) = statement::<I, Ast>(alloc, state, limit, at);
+        self.state = Some(state);
+        read
     }
 
     /// Whether memory ran out for one of the two tokens that were read ahead, as by the functions that make a parser. A call
@@ -369,7 +495,10 @@ impl<I: Tokens> Parser<I> {
     pub fn lacks_memory(&self) -> bool
         ensures { result ≡ (place.lacks_memory (place.first self.now.state.at.left) || place.lacks_memory (place.second self.now.state.at.left)) }
     {
-        self.state.lacks_memory()
+        match &self.state {
+            Some(state) => state.lacks_memory(),
+            None => false,
+        }
     }
 
     /// Hands out the recorded faults, in the order of recording. It takes no memory.
@@ -377,24 +506,29 @@ impl<I: Tokens> Parser<I> {
         ensures errors { faults_of result.items ≡ self.old.state.faults }
         ensures state { self.new ≡ record self.old { state = record self.old.state { faults = [] } } }
     {
-        self.state.take_errors()
+        let mut state = self.state.take().unwrap();
+        let errors = state.take_errors();
+        self.state = Some(state);
+        errors
     }
 
-    /// An equal parser over an equal source, or a fault of kind `OutOfMemory`.
+    /// An equal parser over an equal source, or a fault of kind `OutOfMemory` at the end of what was read last.
     pub fn try_clone(&self) -> PResult<Parser<I>>
         ensures ok { IfOk result (λ it. it ≡ self.now) }
         ensures err { IfErr result IsOutOfMemory }
+        ensures place { IfErr result (λ e. e.span ≡ reader.end_of self.now.state.at.last) }
     {
-        let state = self.state.try_clone()?;
+        let state = self.state.as_ref().unwrap().try_clone()?;
         Ok(Parser {
             alloc: self.alloc,
-            state,
+            state: Some(state),
             limit: self.limit,
         })
     }
 
     /// The source as the calls left it, without the tokens that were read ahead: at most two. It takes no memory.
     pub fn into_input(self) -> I
+        ensures syntax { setting_of (I.seen result).syntax ≡ self.state.code.setting }
         ensures left { (I.seen result).left ≡ drop 2 self.state.at.left }
         ensures context { (I.seen result).context ≡ self.state.code.flags }
         ensures faults { faults_of (I.seen result).recorded ≡ self.state.faults }
@@ -405,7 +539,7 @@ impl<I: Tokens> Parser<I> {
             state,
             limit: _,
         } = self;
-        state.into_input()
+        state.unwrap().into_input()
     }
 }
 
@@ -416,6 +550,9 @@ impl<I: CommentSource> Parser<I> {
         ensures parser { self.new ≡ self.old }
         ensures err { IfErr result IsOutOfMemory }
     {
-        self.state.take_comments()
+        let mut state = self.state.take().unwrap();
+        let comments = state.take_comments();
+        self.state = Some(state);
+        comments
     }
 }

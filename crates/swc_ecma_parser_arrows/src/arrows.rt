@@ -52,7 +52,7 @@ fn in_arrow(flags: Context, is_async: bool) -> Context
     }
 }
 
-/// A block that is a body: no string in it turns what follows strict.
+/// A block that is a body.
 #[tactic(auto, unfolding(swc_ecma_parser_reader::specs::Reader::function, swc_ecma_parser_reader::specs::Reader::function_by, swc_ecma_parser_reader::specs::Reader::arrow_block))]
 fn arrow_block<
     P: Source,
@@ -74,7 +74,7 @@ fn arrow_block<
         is_async,
         is_generator: false,
     };
-    inner_body(g, t, p, manner, false)
+    inner_body(g, t, p, manner)
 }
 
 /// An expression that is a body: no label stands around it, and nothing in it makes a program a module.
@@ -203,6 +203,7 @@ pub fn only_parameter<
 }
 
 /// An arrow function with one parameter, from its `=>` on.
+#[inline(never)]
 pub fn arrow_of_one<
     P: Source,
     T: BuildsFunction + BuildsPattern,
@@ -227,6 +228,7 @@ pub fn arrow_of_one<
 
 /// An arrow function whose only parameter is a name with no parentheses.
 #[tactic(auto, unfolding(swc_ecma_parser_reader::specs::Arrows::named_arrow))]
+#[inline(never)]
 pub fn named_arrow<
     P: Source,
     T: BuildsFunction + BuildsPattern,
@@ -244,6 +246,7 @@ pub fn named_arrow<
 
 /// An async arrow function whose only parameter is a name with no parentheses, on the line of `async`.
 #[tactic(auto, unfolding(swc_ecma_parser_reader::specs::AsyncArrows::async_named_arrow))]
+#[inline(never)]
 pub fn async_named_arrow<
     P: Source,
     T: BuildsFunction + BuildsPattern,

@@ -35,6 +35,7 @@ fn await_allowed<P: Source>(p: &mut P, word: Span) -> PResult<()>
 
 /// `await` and its operand: section 15.8.
 #[tactic(auto, unfolding(swc_ecma_parser_reader::specs::Expressions::await_expr))]
+#[inline(never)]
 pub fn await_expr<
     P: Source,
     T: BuildsOperator,

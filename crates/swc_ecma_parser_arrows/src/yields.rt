@@ -54,6 +54,7 @@ fn yielded<
 
 /// `yield`, with what it yields, where that or a `*` stands on its line.
 #[tactic(auto, unfolding(swc_ecma_parser_reader::specs::Yields::yield_expr, swc_ecma_parser_reader::specs::Yields::behind_yield, swc_ecma_parser_reader::specs::Yields::bare_yield))]
+#[inline(never)]
 pub fn yield_expr<
     P: Source,
     T: BuildsOperator,

@@ -1,5 +1,5 @@
 -- At nodes, equality is that of the codes of the views.
-use Rattle.std.proofs.Common.{◌≡◌, List, [], ◌∷◌, refl, Bool, ◌&&◌, Option, Some, None, map, sym}
+use Rattle.std.proofs.Common.{◌≡◌, List, [], ◌∷◌, refl, Bool, false, ◌&&◌, Option, Some, None, map, sym}
 use Rattle.std.specs.Option.{option_eq}
 use Rattle.std.specs.Cmp.Lexicographic.{pointwise}
 use Rattle.swc_ecma_parser_model.specs.Tree.{Tree, trees, listed}
@@ -230,7 +230,7 @@ pub alike_function : (x y : Function Held) → equal_function same_held x y ≡ 
 alike_function x y = λ k. equal_span x.span y.span && (alike_each (equal_decorator same_held) view_decorator alike_decorator x.decorators.items y.decorators.items k && (alike_each (equal_param same_held) view_param alike_param x.params.items y.params.items k && (alike_option (equal_block_stmt same_held) view_block_stmt alike_block_stmt there_block_stmt x.body y.body k && (alike (put_bool x.is_async) (put_bool y.is_async) && alike (put_bool x.is_generator) (put_bool y.is_generator)))))
 
 pub alike_method_prop : (x y : MethodProp Held) → equal_method_prop same_held x y ≡ same (view_method_prop x) (view_method_prop y)
-alike_method_prop x y = λ k. equal_span x.span y.span && (alike_prop_name x.key y.key k && alike_function x.function y.function k)
+alike_method_prop x y = λ k. equal_span x.span y.span && (alike_prop_name x.key y.key k && alike_function x.function.value y.function.value k)
 
 pub alike_prop : (x y : Prop Held) → equal_prop same_held x y ≡ same (view_prop x) (view_prop y)
 alike_prop (v_prop.Shorthand x) (v_prop.Shorthand y) = refl
@@ -241,27 +241,34 @@ alike_prop (v_prop.Setter x) (v_prop.Setter y) = alike_setter_prop x y
 alike_prop (v_prop.Method x) (v_prop.Method y) = alike_method_prop x y
 alike_prop _ _ = refl
 
+-- a property looks like no spread
+prop_spread : (x : Prop Held) (y : SpreadElement Held) → false ≡ same (view_prop x) (view_spread_element y)
+prop_spread (v_prop.Shorthand _) _ = refl
+prop_spread (v_prop.KeyValue _) _ = refl
+prop_spread (v_prop.Assign _) _ = refl
+prop_spread (v_prop.Getter _) _ = refl
+prop_spread (v_prop.Setter _) _ = refl
+prop_spread (v_prop.Method _) _ = refl
+
+spread_prop : (x : SpreadElement Held) (y : Prop Held) → false ≡ same (view_spread_element x) (view_prop y)
+spread_prop _ (v_prop.Shorthand _) = refl
+spread_prop _ (v_prop.KeyValue _) = refl
+spread_prop _ (v_prop.Assign _) = refl
+spread_prop _ (v_prop.Getter _) = refl
+spread_prop _ (v_prop.Setter _) = refl
+spread_prop _ (v_prop.Method _) = refl
+
 pub alike_prop_or_spread : (x y : PropOrSpread Held) → equal_prop_or_spread same_held x y ≡ same (view_prop_or_spread x) (view_prop_or_spread y)
 alike_prop_or_spread (v_prop_or_spread.Spread x) (v_prop_or_spread.Spread y) = alike_spread_element x y
-alike_prop_or_spread (v_prop_or_spread.Prop x) (v_prop_or_spread.Prop y) = alike_prop x y
-alike_prop_or_spread (v_prop_or_spread.Prop (v_prop.Shorthand _)) _ = refl
-alike_prop_or_spread (v_prop_or_spread.Prop (v_prop.KeyValue _)) _ = refl
-alike_prop_or_spread (v_prop_or_spread.Prop (v_prop.Assign _)) _ = refl
-alike_prop_or_spread (v_prop_or_spread.Prop (v_prop.Getter _)) _ = refl
-alike_prop_or_spread (v_prop_or_spread.Prop (v_prop.Setter _)) _ = refl
-alike_prop_or_spread (v_prop_or_spread.Prop (v_prop.Method _)) _ = refl
-alike_prop_or_spread _ (v_prop_or_spread.Prop (v_prop.Shorthand _)) = refl
-alike_prop_or_spread _ (v_prop_or_spread.Prop (v_prop.KeyValue _)) = refl
-alike_prop_or_spread _ (v_prop_or_spread.Prop (v_prop.Assign _)) = refl
-alike_prop_or_spread _ (v_prop_or_spread.Prop (v_prop.Getter _)) = refl
-alike_prop_or_spread _ (v_prop_or_spread.Prop (v_prop.Setter _)) = refl
-alike_prop_or_spread _ (v_prop_or_spread.Prop (v_prop.Method _)) = refl
+alike_prop_or_spread (v_prop_or_spread.Prop x) (v_prop_or_spread.Prop y) = alike_prop x.value y.value
+alike_prop_or_spread (v_prop_or_spread.Prop x) (v_prop_or_spread.Spread y) = prop_spread x.value y
+alike_prop_or_spread (v_prop_or_spread.Spread x) (v_prop_or_spread.Prop y) = spread_prop x y.value
 
 pub alike_object_lit : (x y : ObjectLit Held) → equal_object_lit same_held x y ≡ same (view_object_lit x) (view_object_lit y)
 alike_object_lit x y = λ k. equal_span x.span y.span && alike_each (equal_prop_or_spread same_held) view_prop_or_spread alike_prop_or_spread x.props.items y.props.items k
 
 pub alike_fn_expr : (x y : FnExpr Held) → equal_fn_expr same_held x y ≡ same (view_fn_expr x) (view_fn_expr y)
-alike_fn_expr x y = λ k. equal_span x.span y.span && (alike_option equal_ident view_ident (λ a b. refl) (λ x. tt) x.ident y.ident k && alike_function x.function y.function k)
+alike_fn_expr x y = λ k. equal_span x.span y.span && (alike_option equal_ident view_ident (λ a b. refl) (λ x. tt) x.ident y.ident k && alike_function x.function.value y.function.value k)
 
 pub alike_unary_expr : (x y : UnaryExpr Held) → equal_unary_expr same_held x y ≡ same (view_unary_expr x) (view_unary_expr y)
 alike_unary_expr x y = refl
@@ -328,7 +335,7 @@ alike_assign_target (v_assign_target.Pat (v_assign_target_pat.Object _)) (v_assi
 alike_assign_target (v_assign_target.Pat (v_assign_target_pat.Object _)) (v_assign_target.Simple (v_simple_assign_target.Paren _)) = refl
 
 pub alike_assign_expr : (x y : AssignExpr Held) → equal_assign_expr same_held x y ≡ same (view_assign_expr x) (view_assign_expr y)
-alike_assign_expr x y = λ k. equal_span x.span y.span && (alike (put_assign x.op) (put_assign y.op) && (alike_assign_target x.left y.left k && same_held x.right.node y.right.node))
+alike_assign_expr x y = λ k. equal_span x.span y.span && (alike (put_assign x.op) (put_assign y.op) && (alike_assign_target x.left.value y.left.value k && same_held x.right.node y.right.node))
 
 pub alike_cond_expr : (x y : CondExpr Held) → equal_cond_expr same_held x y ≡ same (view_cond_expr x) (view_cond_expr y)
 alike_cond_expr x y = refl
@@ -379,10 +386,10 @@ pub alike_constructor : (x y : Constructor Held) → equal_constructor same_held
 alike_constructor x y = λ k. equal_span x.span y.span && (alike_prop_name x.key y.key k && (alike_each (equal_param_or_ts_param_prop same_held) view_param_or_ts_param_prop alike_param_or_ts_param_prop x.params.items y.params.items k && alike_option (equal_block_stmt same_held) view_block_stmt alike_block_stmt there_block_stmt x.body y.body k))
 
 pub alike_class_method : (x y : ClassMethod Held) → equal_class_method same_held x y ≡ same (view_class_method x) (view_class_method y)
-alike_class_method x y = λ k. equal_span x.span y.span && (alike_prop_name x.key y.key k && (alike_function x.function y.function k && (alike (put_method x.kind) (put_method y.kind) && alike (put_bool x.is_static) (put_bool y.is_static))))
+alike_class_method x y = λ k. equal_span x.span y.span && (alike_prop_name x.key y.key k && (alike_function x.function.value y.function.value k && (alike (put_method x.kind) (put_method y.kind) && alike (put_bool x.is_static) (put_bool y.is_static))))
 
 pub alike_private_method : (x y : PrivateMethod Held) → equal_private_method same_held x y ≡ same (view_private_method x) (view_private_method y)
-alike_private_method x y = λ k. equal_span x.span y.span && (equal_private_name x.key y.key && (alike_function x.function y.function k && (alike (put_method x.kind) (put_method y.kind) && alike (put_bool x.is_static) (put_bool y.is_static))))
+alike_private_method x y = λ k. equal_span x.span y.span && (equal_private_name x.key y.key && (alike_function x.function.value y.function.value k && (alike (put_method x.kind) (put_method y.kind) && alike (put_bool x.is_static) (put_bool y.is_static))))
 
 pub alike_class_prop : (x y : ClassProp Held) → equal_class_prop same_held x y ≡ same (view_class_prop x) (view_class_prop y)
 alike_class_prop x y = λ k. equal_span x.span y.span && (alike_prop_name x.key y.key k && (alike_option (λ a b. same_held a.node b.node) (λ b. b.node.tree) (λ a b. refl) (λ b. b.node.there) x.value y.value k && (alike (put_bool x.is_static) (put_bool y.is_static) && alike_each (equal_decorator same_held) view_decorator alike_decorator x.decorators.items y.decorators.items k)))
@@ -414,21 +421,21 @@ pub alike_auto_accessor : (x y : AutoAccessor Held) → equal_auto_accessor same
 alike_auto_accessor x y = λ k. equal_span x.span y.span && (alike_key x.key y.key k && (alike_option (λ a b. same_held a.node b.node) (λ b. b.node.tree) (λ a b. refl) (λ b. b.node.there) x.value y.value k && (alike (put_bool x.is_static) (put_bool y.is_static) && alike_each (equal_decorator same_held) view_decorator alike_decorator x.decorators.items y.decorators.items k)))
 
 pub alike_class_member : (x y : ClassMember Held) → equal_class_member same_held x y ≡ same (view_class_member x) (view_class_member y)
-alike_class_member (v_class_member.Constructor x) (v_class_member.Constructor y) = alike_constructor x y
-alike_class_member (v_class_member.Method x) (v_class_member.Method y) = alike_class_method x y
-alike_class_member (v_class_member.PrivateMethod x) (v_class_member.PrivateMethod y) = alike_private_method x y
-alike_class_member (v_class_member.ClassProp x) (v_class_member.ClassProp y) = alike_class_prop x y
-alike_class_member (v_class_member.PrivateProp x) (v_class_member.PrivateProp y) = alike_private_prop x y
+alike_class_member (v_class_member.Constructor x) (v_class_member.Constructor y) = alike_constructor x.value y.value
+alike_class_member (v_class_member.Method x) (v_class_member.Method y) = alike_class_method x.value y.value
+alike_class_member (v_class_member.PrivateMethod x) (v_class_member.PrivateMethod y) = alike_private_method x.value y.value
+alike_class_member (v_class_member.ClassProp x) (v_class_member.ClassProp y) = alike_class_prop x.value y.value
+alike_class_member (v_class_member.PrivateProp x) (v_class_member.PrivateProp y) = alike_private_prop x.value y.value
 alike_class_member (v_class_member.Empty x) (v_class_member.Empty y) = refl
 alike_class_member (v_class_member.StaticBlock x) (v_class_member.StaticBlock y) = alike_static_block x y
-alike_class_member (v_class_member.AutoAccessor x) (v_class_member.AutoAccessor y) = alike_auto_accessor x y
+alike_class_member (v_class_member.AutoAccessor x) (v_class_member.AutoAccessor y) = alike_auto_accessor x.value y.value
 alike_class_member _ _ = refl
 
 pub alike_class : (x y : Class Held) → equal_class same_held x y ≡ same (view_class x) (view_class y)
 alike_class x y = λ k. equal_span x.span y.span && (alike_each (equal_decorator same_held) view_decorator alike_decorator x.decorators.items y.decorators.items k && (alike_each (equal_class_member same_held) view_class_member alike_class_member x.body.items y.body.items k && alike_option (λ a b. same_held a.node b.node) (λ b. b.node.tree) (λ a b. refl) (λ b. b.node.there) x.super_class y.super_class k))
 
 pub alike_class_expr : (x y : ClassExpr Held) → equal_class_expr same_held x y ≡ same (view_class_expr x) (view_class_expr y)
-alike_class_expr x y = λ k. equal_span x.span y.span && (alike_option equal_ident view_ident (λ a b. refl) (λ x. tt) x.ident y.ident k && alike_class x.class y.class k)
+alike_class_expr x y = λ k. equal_span x.span y.span && (alike_option equal_ident view_ident (λ a b. refl) (λ x. tt) x.ident y.ident k && alike_class x.class.value y.class.value k)
 
 pub alike_yield_expr : (x y : YieldExpr Held) → equal_yield_expr same_held x y ≡ same (view_yield_expr x) (view_yield_expr y)
 alike_yield_expr x y = λ k. equal_span x.span y.span && (alike_option (λ a b. same_held a.node b.node) (λ b. b.node.tree) (λ a b. refl) (λ b. b.node.there) x.arg y.arg k && alike (put_bool x.delegate) (put_bool y.delegate))
@@ -476,10 +483,10 @@ alike_expr _ (v_expr.Lit (v_lit.BigInt _)) = refl
 alike_expr _ _ = refl
 
 pub alike_class_decl : (x y : ClassDecl Held) → equal_class_decl same_held x y ≡ same (view_class_decl x) (view_class_decl y)
-alike_class_decl x y = λ k. equal_ident x.ident y.ident && alike_class x.class y.class k
+alike_class_decl x y = λ k. equal_ident x.ident y.ident && alike_class x.class.value y.class.value k
 
 pub alike_fn_decl : (x y : FnDecl Held) → equal_fn_decl same_held x y ≡ same (view_fn_decl x) (view_fn_decl y)
-alike_fn_decl x y = λ k. equal_ident x.ident y.ident && alike_function x.function y.function k
+alike_fn_decl x y = λ k. equal_ident x.ident y.ident && alike_function x.function.value y.function.value k
 
 pub alike_declarator : (x y : VarDeclarator Held) → equal_declarator same_held x y ≡ same (view_declarator x) (view_declarator y)
 alike_declarator x y = λ k. equal_span x.span y.span && (alike_pat x.name y.name k && alike_option (λ a b. same_held a.node b.node) (λ b. b.node.tree) (λ a b. refl) (λ b. b.node.there) x.init y.init k)
@@ -589,12 +596,12 @@ alike_stmt (v_stmt.Continue x) (v_stmt.Continue y) = alike_continue_stmt x y
 alike_stmt (v_stmt.If x) (v_stmt.If y) = alike_if_stmt x y
 alike_stmt (v_stmt.Switch x) (v_stmt.Switch y) = alike_switch_stmt x y
 alike_stmt (v_stmt.Throw x) (v_stmt.Throw y) = alike_throw_stmt x y
-alike_stmt (v_stmt.Try x) (v_stmt.Try y) = alike_try_stmt x y
+alike_stmt (v_stmt.Try x) (v_stmt.Try y) = alike_try_stmt x.value y.value
 alike_stmt (v_stmt.While x) (v_stmt.While y) = alike_while_stmt x y
 alike_stmt (v_stmt.DoWhile x) (v_stmt.DoWhile y) = alike_do_while_stmt x y
-alike_stmt (v_stmt.For x) (v_stmt.For y) = alike_for_stmt x y
-alike_stmt (v_stmt.ForIn x) (v_stmt.ForIn y) = alike_for_in_stmt x y
-alike_stmt (v_stmt.ForOf x) (v_stmt.ForOf y) = alike_for_of_stmt x y
+alike_stmt (v_stmt.For x) (v_stmt.For y) = alike_for_stmt x.value y.value
+alike_stmt (v_stmt.ForIn x) (v_stmt.ForIn y) = alike_for_in_stmt x.value y.value
+alike_stmt (v_stmt.ForOf x) (v_stmt.ForOf y) = alike_for_of_stmt x.value y.value
 alike_stmt (v_stmt.Decl x) (v_stmt.Decl y) = alike_decl x y
 alike_stmt (v_stmt.Expr x) (v_stmt.Expr y) = alike_expr_stmt x y
 alike_stmt (v_stmt.Decl (v_decl.Class _)) _ = refl

@@ -310,7 +310,7 @@ derived_assign_op o_assign_op.OrAssign o_assign_op.OrAssign = refl
 derived_assign_op o_assign_op.NullishAssign o_assign_op.NullishAssign = refl
 derived_assign_op _ _ = refl
 
-derived_binary_op : (k l : BinaryOp) → i_binary_op.ghosts.eq k l ≡ alike (put_binary k) (put_binary l)
+pub derived_binary_op : (k l : BinaryOp) → i_binary_op.ghosts.eq k l ≡ alike (put_binary k) (put_binary l)
 derived_binary_op o_binary_op.EqEq o_binary_op.EqEq = refl
 derived_binary_op o_binary_op.NotEq o_binary_op.NotEq = refl
 derived_binary_op o_binary_op.EqEqEq o_binary_op.EqEqEq = refl
@@ -515,7 +515,7 @@ module _ (R : RattleType) (g : Ghosts R.Denot) (dict : Dict) where
   derived_function x y = λ k. equal_span x.span y.span && (derived_each _ (equal_decorator g.eq) derived_decorator x.decorators.items y.decorators.items k && (derived_each _ (equal_param g.eq) derived_param x.params.items y.params.items k && (derived_option _ (equal_block_stmt g.eq) derived_block_stmt x.body y.body k && (derived_flag x.is_async y.is_async k && derived_flag x.is_generator y.is_generator k))))
 
   pub derived_method_prop : (x y : MethodProp R.Denot) → (i_method_prop.eq-value R g dict).it x y ≡ equal_method_prop g.eq x y
-  derived_method_prop x y = λ k. equal_span x.span y.span && (derived_prop_name x.key y.key k && derived_function x.function y.function k)
+  derived_method_prop x y = λ k. equal_span x.span y.span && (derived_prop_name x.key y.key k && derived_function x.function.value y.function.value k)
 
   pub derived_prop : (x y : Prop R.Denot) → (i_prop.eq-value R g dict).it x y ≡ equal_prop g.eq x y
   derived_prop (v_prop.Shorthand x) (v_prop.Shorthand y) = derived_ident x y
@@ -528,14 +528,14 @@ module _ (R : RattleType) (g : Ghosts R.Denot) (dict : Dict) where
 
   pub derived_prop_or_spread : (x y : PropOrSpread R.Denot) → (i_prop_or_spread.eq-value R g dict).it x y ≡ equal_prop_or_spread g.eq x y
   derived_prop_or_spread (v_prop_or_spread.Spread x) (v_prop_or_spread.Spread y) = derived_spread_element x y
-  derived_prop_or_spread (v_prop_or_spread.Prop x) (v_prop_or_spread.Prop y) = derived_prop x y
+  derived_prop_or_spread (v_prop_or_spread.Prop x) (v_prop_or_spread.Prop y) = derived_prop x.value y.value
   derived_prop_or_spread _ _ = refl
 
   pub derived_object_lit : (x y : ObjectLit R.Denot) → (i_object_lit.eq-value R g dict).it x y ≡ equal_object_lit g.eq x y
   derived_object_lit x y = λ k. equal_span x.span y.span && derived_each _ (equal_prop_or_spread g.eq) derived_prop_or_spread x.props.items y.props.items k
 
   pub derived_fn_expr : (x y : FnExpr R.Denot) → (i_fn_expr.eq-value R g dict).it x y ≡ equal_fn_expr g.eq x y
-  derived_fn_expr x y = λ k. equal_span x.span y.span && (derived_option _ equal_ident derived_ident x.ident y.ident k && derived_function x.function y.function k)
+  derived_fn_expr x y = λ k. equal_span x.span y.span && (derived_option _ equal_ident derived_ident x.ident y.ident k && derived_function x.function.value y.function.value k)
 
   pub derived_unary_expr : (x y : UnaryExpr R.Denot) → (i_unary_expr.eq-value R g dict).it x y ≡ equal_unary_expr g.eq x y
   derived_unary_expr x y = λ k. equal_span x.span y.span && (derived_unary_op x.op y.op k && g.eq x.arg.node y.arg.node)
@@ -584,7 +584,7 @@ module _ (R : RattleType) (g : Ghosts R.Denot) (dict : Dict) where
   derived_assign_target _ _ = refl
 
   pub derived_assign_expr : (x y : AssignExpr R.Denot) → (i_assign_expr.eq-value R g dict).it x y ≡ equal_assign_expr g.eq x y
-  derived_assign_expr x y = λ k. equal_span x.span y.span && (derived_assign_op x.op y.op k && (derived_assign_target x.left y.left k && g.eq x.right.node y.right.node))
+  derived_assign_expr x y = λ k. equal_span x.span y.span && (derived_assign_op x.op y.op k && (derived_assign_target x.left.value y.left.value k && g.eq x.right.node y.right.node))
 
   pub derived_cond_expr : (x y : CondExpr R.Denot) → (i_cond_expr.eq-value R g dict).it x y ≡ equal_cond_expr g.eq x y
   derived_cond_expr x y = refl
@@ -619,10 +619,10 @@ module _ (R : RattleType) (g : Ghosts R.Denot) (dict : Dict) where
   derived_constructor x y = λ k. equal_span x.span y.span && (derived_prop_name x.key y.key k && (derived_each _ (equal_param_or_ts_param_prop g.eq) derived_param_or_ts_param_prop x.params.items y.params.items k && derived_option _ (equal_block_stmt g.eq) derived_block_stmt x.body y.body k))
 
   pub derived_class_method : (x y : ClassMethod R.Denot) → (i_class_method.eq-value R g dict).it x y ≡ equal_class_method g.eq x y
-  derived_class_method x y = λ k. equal_span x.span y.span && (derived_prop_name x.key y.key k && (derived_function x.function y.function k && (derived_method_kind x.kind y.kind k && derived_flag x.is_static y.is_static k)))
+  derived_class_method x y = λ k. equal_span x.span y.span && (derived_prop_name x.key y.key k && (derived_function x.function.value y.function.value k && (derived_method_kind x.kind y.kind k && derived_flag x.is_static y.is_static k)))
 
   pub derived_private_method : (x y : PrivateMethod R.Denot) → (i_private_method.eq-value R g dict).it x y ≡ equal_private_method g.eq x y
-  derived_private_method x y = λ k. equal_span x.span y.span && (derived_private_name x.key y.key k && (derived_function x.function y.function k && (derived_method_kind x.kind y.kind k && derived_flag x.is_static y.is_static k)))
+  derived_private_method x y = λ k. equal_span x.span y.span && (derived_private_name x.key y.key k && (derived_function x.function.value y.function.value k && (derived_method_kind x.kind y.kind k && derived_flag x.is_static y.is_static k)))
 
   pub derived_class_prop : (x y : ClassProp R.Denot) → (i_class_prop.eq-value R g dict).it x y ≡ equal_class_prop g.eq x y
   derived_class_prop x y = λ k. equal_span x.span y.span && (derived_prop_name x.key y.key k && (option_eq (λ a b. g.eq a.node b.node) x.value y.value && (derived_flag x.is_static y.is_static k && derived_each _ (equal_decorator g.eq) derived_decorator x.decorators.items y.decorators.items k)))
@@ -642,21 +642,21 @@ module _ (R : RattleType) (g : Ghosts R.Denot) (dict : Dict) where
   derived_auto_accessor x y = λ k. equal_span x.span y.span && (derived_key x.key y.key k && (option_eq (λ a b. g.eq a.node b.node) x.value y.value && (derived_flag x.is_static y.is_static k && derived_each _ (equal_decorator g.eq) derived_decorator x.decorators.items y.decorators.items k)))
 
   pub derived_class_member : (x y : ClassMember R.Denot) → (i_class_member.eq-value R g dict).it x y ≡ equal_class_member g.eq x y
-  derived_class_member (v_class_member.Constructor x) (v_class_member.Constructor y) = derived_constructor x y
-  derived_class_member (v_class_member.Method x) (v_class_member.Method y) = derived_class_method x y
-  derived_class_member (v_class_member.PrivateMethod x) (v_class_member.PrivateMethod y) = derived_private_method x y
-  derived_class_member (v_class_member.ClassProp x) (v_class_member.ClassProp y) = derived_class_prop x y
-  derived_class_member (v_class_member.PrivateProp x) (v_class_member.PrivateProp y) = derived_private_prop x y
+  derived_class_member (v_class_member.Constructor x) (v_class_member.Constructor y) = derived_constructor x.value y.value
+  derived_class_member (v_class_member.Method x) (v_class_member.Method y) = derived_class_method x.value y.value
+  derived_class_member (v_class_member.PrivateMethod x) (v_class_member.PrivateMethod y) = derived_private_method x.value y.value
+  derived_class_member (v_class_member.ClassProp x) (v_class_member.ClassProp y) = derived_class_prop x.value y.value
+  derived_class_member (v_class_member.PrivateProp x) (v_class_member.PrivateProp y) = derived_private_prop x.value y.value
   derived_class_member (v_class_member.Empty x) (v_class_member.Empty y) = derived_empty_stmt x y
   derived_class_member (v_class_member.StaticBlock x) (v_class_member.StaticBlock y) = derived_static_block x y
-  derived_class_member (v_class_member.AutoAccessor x) (v_class_member.AutoAccessor y) = derived_auto_accessor x y
+  derived_class_member (v_class_member.AutoAccessor x) (v_class_member.AutoAccessor y) = derived_auto_accessor x.value y.value
   derived_class_member _ _ = refl
 
   pub derived_class : (x y : Class R.Denot) → (i_class.eq-value R g dict).it x y ≡ equal_class g.eq x y
   derived_class x y = λ k. equal_span x.span y.span && (derived_each _ (equal_decorator g.eq) derived_decorator x.decorators.items y.decorators.items k && (derived_each _ (equal_class_member g.eq) derived_class_member x.body.items y.body.items k && option_eq (λ a b. g.eq a.node b.node) x.super_class y.super_class))
 
   pub derived_class_expr : (x y : ClassExpr R.Denot) → (i_class_expr.eq-value R g dict).it x y ≡ equal_class_expr g.eq x y
-  derived_class_expr x y = λ k. equal_span x.span y.span && (derived_option _ equal_ident derived_ident x.ident y.ident k && derived_class x.class y.class k)
+  derived_class_expr x y = λ k. equal_span x.span y.span && (derived_option _ equal_ident derived_ident x.ident y.ident k && derived_class x.class.value y.class.value k)
 
   pub derived_yield_expr : (x y : YieldExpr R.Denot) → (i_yield_expr.eq-value R g dict).it x y ≡ equal_yield_expr g.eq x y
   derived_yield_expr x y = λ k. equal_span x.span y.span && (option_eq (λ a b. g.eq a.node b.node) x.arg y.arg && derived_flag x.delegate y.delegate k)
@@ -691,10 +691,10 @@ module _ (R : RattleType) (g : Ghosts R.Denot) (dict : Dict) where
   derived_expr _ _ = refl
 
   pub derived_class_decl : (x y : ClassDecl R.Denot) → (i_class_decl.eq-value R g dict).it x y ≡ equal_class_decl g.eq x y
-  derived_class_decl x y = λ k. derived_ident x.ident y.ident k && derived_class x.class y.class k
+  derived_class_decl x y = λ k. derived_ident x.ident y.ident k && derived_class x.class.value y.class.value k
 
   pub derived_fn_decl : (x y : FnDecl R.Denot) → (i_fn_decl.eq-value R g dict).it x y ≡ equal_fn_decl g.eq x y
-  derived_fn_decl x y = λ k. derived_ident x.ident y.ident k && derived_function x.function y.function k
+  derived_fn_decl x y = λ k. derived_ident x.ident y.ident k && derived_function x.function.value y.function.value k
 
   pub derived_declarator : (x y : VarDeclarator R.Denot) → (i_declarator.eq-value R g dict).it x y ≡ equal_declarator g.eq x y
   derived_declarator x y = λ k. equal_span x.span y.span && (derived_pat x.name y.name k && option_eq (λ a b. g.eq a.node b.node) x.init y.init)
@@ -780,12 +780,12 @@ module _ (R : RattleType) (g : Ghosts R.Denot) (dict : Dict) where
   derived_stmt (v_stmt.If x) (v_stmt.If y) = derived_if_stmt x y
   derived_stmt (v_stmt.Switch x) (v_stmt.Switch y) = derived_switch_stmt x y
   derived_stmt (v_stmt.Throw x) (v_stmt.Throw y) = derived_throw_stmt x y
-  derived_stmt (v_stmt.Try x) (v_stmt.Try y) = derived_try_stmt x y
+  derived_stmt (v_stmt.Try x) (v_stmt.Try y) = derived_try_stmt x.value y.value
   derived_stmt (v_stmt.While x) (v_stmt.While y) = derived_while_stmt x y
   derived_stmt (v_stmt.DoWhile x) (v_stmt.DoWhile y) = derived_do_while_stmt x y
-  derived_stmt (v_stmt.For x) (v_stmt.For y) = derived_for_stmt x y
-  derived_stmt (v_stmt.ForIn x) (v_stmt.ForIn y) = derived_for_in_stmt x y
-  derived_stmt (v_stmt.ForOf x) (v_stmt.ForOf y) = derived_for_of_stmt x y
+  derived_stmt (v_stmt.For x) (v_stmt.For y) = derived_for_stmt x.value y.value
+  derived_stmt (v_stmt.ForIn x) (v_stmt.ForIn y) = derived_for_in_stmt x.value y.value
+  derived_stmt (v_stmt.ForOf x) (v_stmt.ForOf y) = derived_for_of_stmt x.value y.value
   derived_stmt (v_stmt.Decl x) (v_stmt.Decl y) = derived_decl x y
   derived_stmt (v_stmt.Expr x) (v_stmt.Expr y) = derived_expr_stmt x y
   derived_stmt _ _ = refl

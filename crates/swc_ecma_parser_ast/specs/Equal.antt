@@ -338,7 +338,7 @@ module _ {N : Type 0} (equal : N → N → Bool) where
   equal_function x y = equal_span x.span y.span && (pointwise equal_decorator x.decorators.items y.decorators.items && (pointwise equal_param x.params.items y.params.items && (option_eq equal_block_stmt x.body y.body && (alike (put_bool x.is_async) (put_bool y.is_async) && alike (put_bool x.is_generator) (put_bool y.is_generator)))))
 
   abbrev pub equal_method_prop : MethodProp N → MethodProp N → Bool
-  equal_method_prop x y = equal_span x.span y.span && (equal_prop_name x.key y.key && equal_function x.function y.function)
+  equal_method_prop x y = equal_span x.span y.span && (equal_prop_name x.key y.key && equal_function x.function.value y.function.value)
 
   abbrev pub equal_prop : Prop N → Prop N → Bool
   equal_prop (v_prop.Shorthand x) (v_prop.Shorthand y) = equal_ident x y
@@ -351,14 +351,14 @@ module _ {N : Type 0} (equal : N → N → Bool) where
 
   abbrev pub equal_prop_or_spread : PropOrSpread N → PropOrSpread N → Bool
   equal_prop_or_spread (v_prop_or_spread.Spread x) (v_prop_or_spread.Spread y) = equal_spread_element x y
-  equal_prop_or_spread (v_prop_or_spread.Prop x) (v_prop_or_spread.Prop y) = equal_prop x y
+  equal_prop_or_spread (v_prop_or_spread.Prop x) (v_prop_or_spread.Prop y) = equal_prop x.value y.value
   equal_prop_or_spread _ _ = false
 
   abbrev pub equal_object_lit : ObjectLit N → ObjectLit N → Bool
   equal_object_lit x y = equal_span x.span y.span && pointwise equal_prop_or_spread x.props.items y.props.items
 
   abbrev pub equal_fn_expr : FnExpr N → FnExpr N → Bool
-  equal_fn_expr x y = equal_span x.span y.span && (option_eq equal_ident x.ident y.ident && equal_function x.function y.function)
+  equal_fn_expr x y = equal_span x.span y.span && (option_eq equal_ident x.ident y.ident && equal_function x.function.value y.function.value)
 
   abbrev pub equal_unary_expr : UnaryExpr N → UnaryExpr N → Bool
   equal_unary_expr x y = equal_span x.span y.span && (alike (put_unary x.op) (put_unary y.op) && equal x.arg.node y.arg.node)
@@ -407,7 +407,7 @@ module _ {N : Type 0} (equal : N → N → Bool) where
   equal_assign_target _ _ = false
 
   abbrev pub equal_assign_expr : AssignExpr N → AssignExpr N → Bool
-  equal_assign_expr x y = equal_span x.span y.span && (alike (put_assign x.op) (put_assign y.op) && (equal_assign_target x.left y.left && equal x.right.node y.right.node))
+  equal_assign_expr x y = equal_span x.span y.span && (alike (put_assign x.op) (put_assign y.op) && (equal_assign_target x.left.value y.left.value && equal x.right.node y.right.node))
 
   abbrev pub equal_cond_expr : CondExpr N → CondExpr N → Bool
   equal_cond_expr x y = equal_span x.span y.span && (equal x.test.node y.test.node && (equal x.cons.node y.cons.node && equal x.alt.node y.alt.node))
@@ -442,10 +442,10 @@ module _ {N : Type 0} (equal : N → N → Bool) where
   equal_constructor x y = equal_span x.span y.span && (equal_prop_name x.key y.key && (pointwise equal_param_or_ts_param_prop x.params.items y.params.items && option_eq equal_block_stmt x.body y.body))
 
   abbrev pub equal_class_method : ClassMethod N → ClassMethod N → Bool
-  equal_class_method x y = equal_span x.span y.span && (equal_prop_name x.key y.key && (equal_function x.function y.function && (alike (put_method x.kind) (put_method y.kind) && alike (put_bool x.is_static) (put_bool y.is_static))))
+  equal_class_method x y = equal_span x.span y.span && (equal_prop_name x.key y.key && (equal_function x.function.value y.function.value && (alike (put_method x.kind) (put_method y.kind) && alike (put_bool x.is_static) (put_bool y.is_static))))
 
   abbrev pub equal_private_method : PrivateMethod N → PrivateMethod N → Bool
-  equal_private_method x y = equal_span x.span y.span && (equal_private_name x.key y.key && (equal_function x.function y.function && (alike (put_method x.kind) (put_method y.kind) && alike (put_bool x.is_static) (put_bool y.is_static))))
+  equal_private_method x y = equal_span x.span y.span && (equal_private_name x.key y.key && (equal_function x.function.value y.function.value && (alike (put_method x.kind) (put_method y.kind) && alike (put_bool x.is_static) (put_bool y.is_static))))
 
   abbrev pub equal_class_prop : ClassProp N → ClassProp N → Bool
   equal_class_prop x y = equal_span x.span y.span && (equal_prop_name x.key y.key && (option_eq (λ a b. equal a.node b.node) x.value y.value && (alike (put_bool x.is_static) (put_bool y.is_static) && pointwise equal_decorator x.decorators.items y.decorators.items)))
@@ -465,21 +465,21 @@ module _ {N : Type 0} (equal : N → N → Bool) where
   equal_auto_accessor x y = equal_span x.span y.span && (equal_key x.key y.key && (option_eq (λ a b. equal a.node b.node) x.value y.value && (alike (put_bool x.is_static) (put_bool y.is_static) && pointwise equal_decorator x.decorators.items y.decorators.items)))
 
   abbrev pub equal_class_member : ClassMember N → ClassMember N → Bool
-  equal_class_member (v_class_member.Constructor x) (v_class_member.Constructor y) = equal_constructor x y
-  equal_class_member (v_class_member.Method x) (v_class_member.Method y) = equal_class_method x y
-  equal_class_member (v_class_member.PrivateMethod x) (v_class_member.PrivateMethod y) = equal_private_method x y
-  equal_class_member (v_class_member.ClassProp x) (v_class_member.ClassProp y) = equal_class_prop x y
-  equal_class_member (v_class_member.PrivateProp x) (v_class_member.PrivateProp y) = equal_private_prop x y
+  equal_class_member (v_class_member.Constructor x) (v_class_member.Constructor y) = equal_constructor x.value y.value
+  equal_class_member (v_class_member.Method x) (v_class_member.Method y) = equal_class_method x.value y.value
+  equal_class_member (v_class_member.PrivateMethod x) (v_class_member.PrivateMethod y) = equal_private_method x.value y.value
+  equal_class_member (v_class_member.ClassProp x) (v_class_member.ClassProp y) = equal_class_prop x.value y.value
+  equal_class_member (v_class_member.PrivateProp x) (v_class_member.PrivateProp y) = equal_private_prop x.value y.value
   equal_class_member (v_class_member.Empty x) (v_class_member.Empty y) = equal_empty_stmt x y
   equal_class_member (v_class_member.StaticBlock x) (v_class_member.StaticBlock y) = equal_static_block x y
-  equal_class_member (v_class_member.AutoAccessor x) (v_class_member.AutoAccessor y) = equal_auto_accessor x y
+  equal_class_member (v_class_member.AutoAccessor x) (v_class_member.AutoAccessor y) = equal_auto_accessor x.value y.value
   equal_class_member _ _ = false
 
   abbrev pub equal_class : Class N → Class N → Bool
   equal_class x y = equal_span x.span y.span && (pointwise equal_decorator x.decorators.items y.decorators.items && (pointwise equal_class_member x.body.items y.body.items && option_eq (λ a b. equal a.node b.node) x.super_class y.super_class))
 
   abbrev pub equal_class_expr : ClassExpr N → ClassExpr N → Bool
-  equal_class_expr x y = equal_span x.span y.span && (option_eq equal_ident x.ident y.ident && equal_class x.class y.class)
+  equal_class_expr x y = equal_span x.span y.span && (option_eq equal_ident x.ident y.ident && equal_class x.class.value y.class.value)
 
   abbrev pub equal_yield_expr : YieldExpr N → YieldExpr N → Bool
   equal_yield_expr x y = equal_span x.span y.span && (option_eq (λ a b. equal a.node b.node) x.arg y.arg && alike (put_bool x.delegate) (put_bool y.delegate))
@@ -514,10 +514,10 @@ module _ {N : Type 0} (equal : N → N → Bool) where
   equal_expr _ _ = false
 
   abbrev pub equal_class_decl : ClassDecl N → ClassDecl N → Bool
-  equal_class_decl x y = equal_ident x.ident y.ident && equal_class x.class y.class
+  equal_class_decl x y = equal_ident x.ident y.ident && equal_class x.class.value y.class.value
 
   abbrev pub equal_fn_decl : FnDecl N → FnDecl N → Bool
-  equal_fn_decl x y = equal_ident x.ident y.ident && equal_function x.function y.function
+  equal_fn_decl x y = equal_ident x.ident y.ident && equal_function x.function.value y.function.value
 
   abbrev pub equal_declarator : VarDeclarator N → VarDeclarator N → Bool
   equal_declarator x y = equal_span x.span y.span && (equal_pat x.name y.name && option_eq (λ a b. equal a.node b.node) x.init y.init)
@@ -603,12 +603,12 @@ module _ {N : Type 0} (equal : N → N → Bool) where
   equal_stmt (v_stmt.If x) (v_stmt.If y) = equal_if_stmt x y
   equal_stmt (v_stmt.Switch x) (v_stmt.Switch y) = equal_switch_stmt x y
   equal_stmt (v_stmt.Throw x) (v_stmt.Throw y) = equal_throw_stmt x y
-  equal_stmt (v_stmt.Try x) (v_stmt.Try y) = equal_try_stmt x y
+  equal_stmt (v_stmt.Try x) (v_stmt.Try y) = equal_try_stmt x.value y.value
   equal_stmt (v_stmt.While x) (v_stmt.While y) = equal_while_stmt x y
   equal_stmt (v_stmt.DoWhile x) (v_stmt.DoWhile y) = equal_do_while_stmt x y
-  equal_stmt (v_stmt.For x) (v_stmt.For y) = equal_for_stmt x y
-  equal_stmt (v_stmt.ForIn x) (v_stmt.ForIn y) = equal_for_in_stmt x y
-  equal_stmt (v_stmt.ForOf x) (v_stmt.ForOf y) = equal_for_of_stmt x y
+  equal_stmt (v_stmt.For x) (v_stmt.For y) = equal_for_stmt x.value y.value
+  equal_stmt (v_stmt.ForIn x) (v_stmt.ForIn y) = equal_for_in_stmt x.value y.value
+  equal_stmt (v_stmt.ForOf x) (v_stmt.ForOf y) = equal_for_of_stmt x.value y.value
   equal_stmt (v_stmt.Decl x) (v_stmt.Decl y) = equal_decl x y
   equal_stmt (v_stmt.Expr x) (v_stmt.Expr y) = equal_expr_stmt x y
   equal_stmt _ _ = false

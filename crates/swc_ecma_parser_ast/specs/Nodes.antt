@@ -109,7 +109,7 @@ there_var_decl_or_expr (v_var_decl_or_expr.Expr x) = there_marked (is_expr x.nod
 
 abbrev pub view_any : Any → Held
 view_any (a.Expr x) = record { tree = view_expr x.value; there = there_expr x.value }
-view_any (a.Stmts x) = record { tree = listed (map view_stmt x.items); there = tt }
+view_any (a.Stmts x) = record { tree = listed (map view_stmt x.value.items); there = tt }
 view_any (a.Stmt x) = record { tree = view_stmt x.value; there = there_stmt x.value }
 view_any (a.Pat x) = record { tree = view_pat x.value; there = there_pat x.value }
 

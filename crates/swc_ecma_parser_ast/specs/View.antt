@@ -262,7 +262,7 @@ abbrev pub view_function : Function Held → Tree
 view_function x = tree.function x.span (listed (map view_decorator x.decorators.items)) (listed (map view_param x.params.items)) (view_option view_block_stmt x.body) x.is_async x.is_generator
 
 abbrev pub view_method_prop : MethodProp Held → Tree
-view_method_prop x = tree.method_prop x.span (view_prop_name x.key) (view_function x.function)
+view_method_prop x = tree.method_prop x.span (view_prop_name x.key) (view_function x.function.value)
 
 abbrev pub view_prop : Prop Held → Tree
 view_prop (v_prop.Shorthand x) = tree.shorthand_prop x.span x.sym
@@ -274,13 +274,13 @@ view_prop (v_prop.Method x) = view_method_prop x
 
 abbrev pub view_prop_or_spread : PropOrSpread Held → Tree
 view_prop_or_spread (v_prop_or_spread.Spread x) = view_spread_element x
-view_prop_or_spread (v_prop_or_spread.Prop x) = view_prop x
+view_prop_or_spread (v_prop_or_spread.Prop x) = view_prop x.value
 
 abbrev pub view_object_lit : ObjectLit Held → Tree
 view_object_lit x = tree.object x.span (listed (map view_prop_or_spread x.props.items))
 
 abbrev pub view_fn_expr : FnExpr Held → Tree
-view_fn_expr x = tree.fn_expr x.span (view_option view_ident x.ident) (view_function x.function)
+view_fn_expr x = tree.fn_expr x.span (view_option view_ident x.ident) (view_function x.function.value)
 
 abbrev pub view_unary_expr : UnaryExpr Held → Tree
 view_unary_expr x = tree.unary x.span x.op x.arg.node.tree
@@ -327,7 +327,7 @@ view_assign_target (v_assign_target.Simple x) = view_simple_assign_target x
 view_assign_target (v_assign_target.Pat x) = view_assign_target_pat x
 
 abbrev pub view_assign_expr : AssignExpr Held → Tree
-view_assign_expr x = tree.assign x.span x.op (view_assign_target x.left) x.right.node.tree
+view_assign_expr x = tree.assign x.span x.op (view_assign_target x.left.value) x.right.node.tree
 
 abbrev pub view_cond_expr : CondExpr Held → Tree
 view_cond_expr x = tree.cond x.span x.test.node.tree x.cons.node.tree x.alt.node.tree
@@ -370,10 +370,10 @@ abbrev pub view_constructor : Constructor Held → Tree
 view_constructor x = tree.constructor x.span (view_prop_name x.key) (listed (map view_param_or_ts_param_prop x.params.items)) (view_option view_block_stmt x.body)
 
 abbrev pub view_class_method : ClassMethod Held → Tree
-view_class_method x = tree.method x.span (view_prop_name x.key) (view_function x.function) x.kind x.is_static
+view_class_method x = tree.method x.span (view_prop_name x.key) (view_function x.function.value) x.kind x.is_static
 
 abbrev pub view_private_method : PrivateMethod Held → Tree
-view_private_method x = tree.private_method x.span (view_private_name x.key) (view_function x.function) x.kind x.is_static
+view_private_method x = tree.private_method x.span (view_private_name x.key) (view_function x.function.value) x.kind x.is_static
 
 abbrev pub view_class_prop : ClassProp Held → Tree
 view_class_prop x = tree.class_prop x.span (view_prop_name x.key) (view_option (λ b. b.node.tree) x.value) x.is_static (listed (map view_decorator x.decorators.items))
@@ -395,20 +395,20 @@ abbrev pub view_auto_accessor : AutoAccessor Held → Tree
 view_auto_accessor x = tree.auto_accessor x.span (view_key x.key) (view_option (λ b. b.node.tree) x.value) x.is_static (listed (map view_decorator x.decorators.items))
 
 abbrev pub view_class_member : ClassMember Held → Tree
-view_class_member (v_class_member.Constructor x) = view_constructor x
-view_class_member (v_class_member.Method x) = view_class_method x
-view_class_member (v_class_member.PrivateMethod x) = view_private_method x
-view_class_member (v_class_member.ClassProp x) = view_class_prop x
-view_class_member (v_class_member.PrivateProp x) = view_private_prop x
+view_class_member (v_class_member.Constructor x) = view_constructor x.value
+view_class_member (v_class_member.Method x) = view_class_method x.value
+view_class_member (v_class_member.PrivateMethod x) = view_private_method x.value
+view_class_member (v_class_member.ClassProp x) = view_class_prop x.value
+view_class_member (v_class_member.PrivateProp x) = view_private_prop x.value
 view_class_member (v_class_member.Empty x) = tree.empty_member x.span
 view_class_member (v_class_member.StaticBlock x) = view_static_block x
-view_class_member (v_class_member.AutoAccessor x) = view_auto_accessor x
+view_class_member (v_class_member.AutoAccessor x) = view_auto_accessor x.value
 
 abbrev pub view_class : Class Held → Tree
 view_class x = tree.class x.span (listed (map view_decorator x.decorators.items)) (listed (map view_class_member x.body.items)) (view_option (λ b. b.node.tree) x.super_class)
 
 abbrev pub view_class_expr : ClassExpr Held → Tree
-view_class_expr x = tree.class_expr x.span (view_option view_ident x.ident) (view_class x.class)
+view_class_expr x = tree.class_expr x.span (view_option view_ident x.ident) (view_class x.class.value)
 
 abbrev pub view_yield_expr : YieldExpr Held → Tree
 view_yield_expr x = tree.yield x.span (view_option (λ b. b.node.tree) x.arg) x.delegate
@@ -445,10 +445,10 @@ view_expr (v_expr.Paren x) = view_paren_expr x
 view_expr (v_expr.Invalid x) = view_invalid x
 
 abbrev pub view_class_decl : ClassDecl Held → Tree
-view_class_decl x = tree.class_decl (view_ident x.ident) (view_class x.class)
+view_class_decl x = tree.class_decl (view_ident x.ident) (view_class x.class.value)
 
 abbrev pub view_fn_decl : FnDecl Held → Tree
-view_fn_decl x = tree.fn_decl (view_ident x.ident) (view_function x.function)
+view_fn_decl x = tree.fn_decl (view_ident x.ident) (view_function x.function.value)
 
 abbrev pub view_declarator : VarDeclarator Held → Tree
 view_declarator x = tree.declarator x.span (view_pat x.name) (view_option (λ b. b.node.tree) x.init)
@@ -540,12 +540,12 @@ view_stmt (v_stmt.Continue x) = view_continue_stmt x
 view_stmt (v_stmt.If x) = view_if_stmt x
 view_stmt (v_stmt.Switch x) = view_switch_stmt x
 view_stmt (v_stmt.Throw x) = view_throw_stmt x
-view_stmt (v_stmt.Try x) = view_try_stmt x
+view_stmt (v_stmt.Try x) = view_try_stmt x.value
 view_stmt (v_stmt.While x) = view_while_stmt x
 view_stmt (v_stmt.DoWhile x) = view_do_while_stmt x
-view_stmt (v_stmt.For x) = view_for_stmt x
-view_stmt (v_stmt.ForIn x) = view_for_in_stmt x
-view_stmt (v_stmt.ForOf x) = view_for_of_stmt x
+view_stmt (v_stmt.For x) = view_for_stmt x.value
+view_stmt (v_stmt.ForIn x) = view_for_in_stmt x.value
+view_stmt (v_stmt.ForOf x) = view_for_of_stmt x.value
 view_stmt (v_stmt.Decl x) = view_decl x
 view_stmt (v_stmt.Expr x) = view_expr_stmt x
 

@@ -13,14 +13,14 @@ use swc_ecma_parser_model::{Ident, MethodKind, PrivateName};
 pub struct ClassExpr<N = Node> {
     pub span: Span,
     pub ident: Option<Ident>,
-    pub class: Class<N>,
+    pub class: Box<Class<N>>,
 }
 
 /// A class as a declaration (ECMA-262, 15.7).
 #[derive(Debug, PartialEq, Eq, Drop)]
 pub struct ClassDecl<N = Node> {
     pub ident: Ident,
-    pub class: Class<N>,
+    pub class: Box<Class<N>>,
 }
 
 /// A class (ECMA-262, 15.7).
@@ -35,14 +35,14 @@ pub struct Class<N = Node> {
 /// A member of a class (ECMA-262, 15.7).
 #[derive(Debug, PartialEq, Eq, Drop)]
 pub enum ClassMember<N = Node> {
-    Constructor(Constructor<N>),
-    Method(ClassMethod<N>),
-    PrivateMethod(PrivateMethod<N>),
-    ClassProp(ClassProp<N>),
-    PrivateProp(PrivateProp<N>),
+    Constructor(Box<Constructor<N>>),
+    Method(Box<ClassMethod<N>>),
+    PrivateMethod(Box<PrivateMethod<N>>),
+    ClassProp(Box<ClassProp<N>>),
+    PrivateProp(Box<PrivateProp<N>>),
     Empty(EmptyStmt),
     StaticBlock(StaticBlock<N>),
-    AutoAccessor(AutoAccessor<N>),
+    AutoAccessor(Box<AutoAccessor<N>>),
 }
 
 /// A constructor (ECMA-262, 15.7).
@@ -65,7 +65,7 @@ pub enum ParamOrTsParamProp<N = Node> {
 pub struct ClassMethod<N = Node> {
     pub span: Span,
     pub key: PropName<N>,
-    pub function: Function<N>,
+    pub function: Box<Function<N>>,
     pub kind: MethodKind,
     pub is_static: bool,
 }
@@ -75,7 +75,7 @@ pub struct ClassMethod<N = Node> {
 pub struct PrivateMethod<N = Node> {
     pub span: Span,
     pub key: PrivateName,
-    pub function: Function<N>,
+    pub function: Box<Function<N>>,
     pub kind: MethodKind,
     pub is_static: bool,
 }
@@ -89,7 +89,7 @@ impl<N> Spanned for ClassExpr<N> {
 }
 
 impl<N> Spanned for ClassDecl<N> {
-    ghost span_of = { λ x. x.class.span };
+    ghost span_of = { λ x. x.class.value.span };
 
     fn span(&self) -> Span {
         self.class.span

@@ -11,7 +11,7 @@ use swc_ecma_parser_model::Ident;
 pub struct FnExpr<N = Node> {
     pub span: Span,
     pub ident: Option<Ident>,
-    pub function: Function<N>,
+    pub function: Box<Function<N>>,
 }
 
 /// A function, whatever it stands in; a body that is left out is `None` (ECMA-262, 15.2).
@@ -60,7 +60,7 @@ pub enum BlockStmtOrExpr<N = Node> {
 #[derive(Debug, PartialEq, Eq, Drop)]
 pub struct FnDecl<N = Node> {
     pub ident: Ident,
-    pub function: Function<N>,
+    pub function: Box<Function<N>>,
 }
 
 impl<N> Spanned for FnExpr<N> {
@@ -118,7 +118,7 @@ impl Spanned for BlockStmtOrExpr {
 }
 
 impl<N> Spanned for FnDecl<N> {
-    ghost span_of = { λ x. x.function.span };
+    ghost span_of = { λ x. x.function.value.span };
 
     fn span(&self) -> Span {
         self.function.span

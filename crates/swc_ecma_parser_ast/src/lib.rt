@@ -1,8 +1,10 @@
 //! The syntax tree. Each type is generic over the type `N` of a node, and `Node` closes the circle, so that a user writes `Expr` or `Stmt`.
 #![tactic(auto)]
 
+mod boxed;
 mod branch;
 mod call;
+mod chain;
 mod class;
 mod decl;
 mod discard;

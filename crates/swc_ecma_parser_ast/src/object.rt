@@ -26,7 +26,7 @@ pub struct ObjectLit<N = Node> {
 #[derive(Debug, PartialEq, Eq, Drop)]
 pub enum PropOrSpread<N = Node> {
     Spread(SpreadElement<N>),
-    Prop(Prop<N>),
+    Prop(Box<Prop<N>>),
 }
 
 /// `...` and what is spread (ECMA-262, 13.2.5). `dot3_token` is where the dots stand.
@@ -102,7 +102,7 @@ pub struct SetterProp<N = Node> {
 pub struct MethodProp<N = Node> {
     pub span: Span,
     pub key: PropName<N>,
-    pub function: Function<N>,
+    pub function: Box<Function<N>>,
 }
 
 impl<N> Spanned for ArrayLit<N> {

@@ -12,7 +12,7 @@ use swc_ecma_parser_model::AssignOp;
 pub struct AssignExpr<N = Node> {
     pub span: Span,
     pub op: AssignOp,
-    pub left: AssignTarget<N>,
+    pub left: Box<AssignTarget<N>>,
     pub right: ExprBox<N>,
 }
 

@@ -176,12 +176,13 @@ pub fn constructor(
 {
     let params = all::<ParamOrTsParamProp>(alloc, params);
     let (params, (key, body)) = beside(params, (key, body))?;
-    Ok(ClassMember::Constructor(Constructor {
+    let constructor = Constructor {
         span,
         key,
         params,
         body: Some(body),
-    }))
+    };
+    Ok(ClassMember::Constructor(constructor.boxed(alloc)?))
 }
 
 /// A key with its pattern; here as `pattern_elements` is.

@@ -154,7 +154,7 @@ fn property(
     ensures { IfOk result (λ x. as_property_at last (view_prop_or_spread prop) ≡ option_map view_object_pat_prop x) }
 {
     match prop {
-        PropOrSpread::Prop(x) => plain_property(alloc, x),
+        PropOrSpread::Prop(x) => plain_property(alloc, Box::into_inner(x)),
         PropOrSpread::Spread(x) => {
             if last {
                 rest_property(alloc, x)
@@ -298,10 +298,13 @@ fn assignment(alloc: Global, assign: AssignExpr, defaults: bool) -> Result<Optio
 
 /// An assignment with `=` as a pattern with its default.
 fn with_default(alloc: Global, assign: AssignExpr) -> Result<Pat, AllocError>
-    ensures { IfOk result (λ x. tree.assign_pat assign.span (targets.left_pattern (view_assign_target assign.left)) assign.right.node.tree
+    ensures { IfOk result (λ x. tree.assign_pat assign.span (targets.left_pattern (view_assign_target assign.left.value)) assign.right.node.tree
         ≡ view_pat x) }
 {
-    let (left, right) = beside(left_pattern(alloc, assign.left), assign.right)?;
+    let (left, right) = beside(
+        left_pattern(alloc, Box::into_inner(assign.left)),
+        assign.right,
+    )?;
     let (left, right) = beside(PatBox::new(alloc, left), right)?;
     Ok(Pat::Assign(AssignPat {
         span: assign.span,

@@ -16,15 +16,11 @@ impl BuildsBlock for Ast {
     fn body(alloc: Global, span: Span, stmts: Vec<Stmt>) -> Result<BlockStmt, AllocError>
         ensures { IfOk result (λ x. view_block_stmt x ≡ tree.block span (tree.listed (map view_stmt stmts.items))) }
     {
-        let stmts = StmtList::new(stmts);
+        let stmts = StmtList::new(alloc, stmts)?;
         Ok(BlockStmt { span, stmts })
     }
 
     fn stmt_span(stmt: &Stmt) -> Span {
         stmt.span()
-    }
-
-    fn is_string_statement(stmt: &Stmt) -> bool {
-        stmt.can_precede_directive()
     }
 }

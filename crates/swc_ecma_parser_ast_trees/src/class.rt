@@ -19,11 +19,11 @@ impl BuildsClass for Ast {
 
     type Member = ClassMember;
 
-    type Class = Class;
+    type Class = Box<Class>;
 
     ghost member_of = { view_class_member };
 
-    ghost class_of = { view_class };
+    ghost class_of = { λ c. view_class c.value };
 
     fn constructor(
         alloc: Global,
@@ -42,34 +42,36 @@ impl BuildsClass for Ast {
         alloc: Global,
         span: Span,
         key: PropName,
-        function: Function,
+        function: Box<Function>,
         kind: MethodKind,
         is_static: bool,
     ) -> Result<ClassMember, AllocError> {
-        Ok(ClassMember::Method(ClassMethod {
+        let found = ClassMethod {
             span,
             key,
             function,
             kind,
             is_static,
-        }))
+        };
+        Ok(ClassMember::Method(found.boxed(alloc)?))
     }
 
     fn private_method(
         alloc: Global,
         span: Span,
         key: PrivateName,
-        function: Function,
+        function: Box<Function>,
         kind: MethodKind,
         is_static: bool,
     ) -> Result<ClassMember, AllocError> {
-        Ok(ClassMember::PrivateMethod(PrivateMethod {
+        let found = PrivateMethod {
             span,
             key,
             function,
             kind,
             is_static,
-        }))
+        };
+        Ok(ClassMember::PrivateMethod(found.boxed(alloc)?))
     }
 
     fn class_prop(
@@ -85,13 +87,14 @@ impl BuildsClass for Ast {
             (tree.listed (map view_decorator decorators.items))) }
     {
         let value = Made::optional(value);
-        Ok(ClassMember::ClassProp(ClassProp {
+        let found = ClassProp {
             span,
             key,
             value,
             is_static,
             decorators,
-        }))
+        };
+        Ok(ClassMember::ClassProp(found.boxed(alloc)?))
     }
 
     fn private_prop(
@@ -107,13 +110,14 @@ impl BuildsClass for Ast {
             (tree.listed (map view_decorator decorators.items))) }
     {
         let value = Made::optional(value);
-        Ok(ClassMember::PrivateProp(PrivateProp {
+        let found = PrivateProp {
             span,
             key,
             value,
             is_static,
             decorators,
-        }))
+        };
+        Ok(ClassMember::PrivateProp(found.boxed(alloc)?))
     }
 
     fn auto_accessor(
@@ -130,13 +134,14 @@ impl BuildsClass for Ast {
     {
         let value = Made::optional(value);
         let key = Key::Public(key);
-        Ok(ClassMember::AutoAccessor(AutoAccessor {
+        let found = AutoAccessor {
             span,
             key,
             value,
             is_static,
             decorators,
-        }))
+        };
+        Ok(ClassMember::AutoAccessor(found.boxed(alloc)?))
     }
 
     fn private_auto_accessor(
@@ -153,13 +158,14 @@ impl BuildsClass for Ast {
     {
         let value = Made::optional(value);
         let key = Key::Private(key);
-        Ok(ClassMember::AutoAccessor(AutoAccessor {
+        let found = AutoAccessor {
             span,
             key,
             value,
             is_static,
             decorators,
-        }))
+        };
+        Ok(ClassMember::AutoAccessor(found.boxed(alloc)?))
     }
 
     fn static_block(alloc: Global, span: Span, body: BlockStmt) -> Result<ClassMember, AllocError> {
@@ -176,25 +182,26 @@ impl BuildsClass for Ast {
         decorators: Vec<Decorator>,
         body: Vec<ClassMember>,
         super_class: Option<Made>,
-    ) -> Result<Class, AllocError>
-        ensures { IfOk result (λ x. view_class x
+    ) -> Result<Box<Class>, AllocError>
+        ensures { IfOk result (λ x. view_class x.value
             ≡ tree.class span (tree.listed (map view_decorator decorators.items))
             (tree.listed (map view_class_member body.items)) (parts.part_of view_made super_class)) }
     {
         let super_class = Made::optional(super_class);
-        Ok(Class {
+        let class = Class {
             span,
             decorators,
             body,
             super_class,
-        })
+        };
+        class.boxed(alloc)
     }
 
     fn class_expr(
         alloc: Global,
         span: Span,
         name: Option<Ident>,
-        class: Class,
+        class: Box<Class>,
     ) -> Result<Made, AllocError> {
         let class = ClassExpr {
             span,
@@ -215,7 +222,7 @@ impl BuildsClass for Ast {
         }
     }
 
-    fn class_span(class: &Class) -> Span {
+    fn class_span(class: &Box<Class>) -> Span {
         class.span
     }
 }

@@ -110,7 +110,7 @@ impl BuildsSwitch for Ast {
             ≡ tree.case span (parts.part_of view_made test) (tree.listed (map view_stmt cons.items))) }
     {
         let test = Made::optional(test);
-        let cons = StmtList::new(cons);
+        let (cons, test) = beside(StmtList::new(alloc, cons), test)?;
         Ok(SwitchCase { span, test, cons })
     }
 }
@@ -133,12 +133,13 @@ impl BuildsTry for Ast {
         ensures { IfOk result (λ x. view_stmt x
             ≡ tree.try span (view_block_stmt block) (parts.part_of view_catch_clause handler) (parts.part_of view_block_stmt finalizer)) }
     {
-        Ok(Stmt::Try(TryStmt {
+        let found = TryStmt {
             span,
             block,
             handler,
             finalizer,
-        }))
+        };
+        Ok(Stmt::Try(found.boxed(alloc)?))
     }
 
     fn catch(

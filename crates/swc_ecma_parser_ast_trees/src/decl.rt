@@ -14,7 +14,7 @@ impl BuildsDecl for Ast {
 
     ghost decl_of = { view_decl };
 
-    fn fn_decl(alloc: Global, name: Ident, function: Function) -> Result<Decl, AllocError> {
+    fn fn_decl(alloc: Global, name: Ident, function: Box<Function>) -> Result<Decl, AllocError> {
         Ok(Decl::Fn(FnDecl {
             ident: name,
             function,
@@ -31,7 +31,7 @@ impl BuildsDecl for Ast {
 }
 
 impl BuildsClassDecl for Ast {
-    fn class_decl(alloc: Global, name: Ident, class: Class) -> Result<Decl, AllocError> {
+    fn class_decl(alloc: Global, name: Ident, class: Box<Class>) -> Result<Decl, AllocError> {
         Ok(Decl::Class(ClassDecl { ident: name, class }))
     }
 }

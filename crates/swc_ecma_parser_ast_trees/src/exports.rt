@@ -98,7 +98,7 @@ impl BuildsExport for Ast {
         alloc: Global,
         span: Span,
         name: Option<Ident>,
-        function: Function,
+        function: Box<Function>,
     ) -> Result<DefaultDecl, AllocError> {
         Ok(DefaultDecl::Fn(FnExpr {
             span,
@@ -111,7 +111,7 @@ impl BuildsExport for Ast {
         alloc: Global,
         span: Span,
         name: Option<Ident>,
-        class: Class,
+        class: Box<Class>,
     ) -> Result<DefaultDecl, AllocError> {
         Ok(DefaultDecl::Class(ClassExpr {
             span,

@@ -18,13 +18,13 @@ impl BuildsFunction for Ast {
 
     type Param = Param;
 
-    type Function = Function;
+    type Function = Box<Function>;
 
     ghost decorator_of = { view_decorator };
 
     ghost param_of = { view_param };
 
-    ghost function_of = { view_function };
+    ghost function_of = { λ f. view_function f.value };
 
     fn decorator(alloc: Global, span: Span, expr: Made) -> Result<Decorator, AllocError> {
         let expr = expr.into_handle();
@@ -54,26 +54,27 @@ impl BuildsFunction for Ast {
         body: BlockStmt,
         is_async: bool,
         is_generator: bool,
-    ) -> Result<Function, AllocError>
-        ensures { IfOk result (λ x. view_function x
+    ) -> Result<Box<Function>, AllocError>
+        ensures { IfOk result (λ x. view_function x.value
             ≡ tree.function span (tree.listed (map view_decorator decorators.items))
             (tree.listed (map view_param params.items)) (view_block_stmt body) is_async is_generator) }
     {
-        Ok(Function {
+        let function = Function {
             span,
             decorators,
             params,
             body: Some(body),
             is_async,
             is_generator,
-        })
+        };
+        function.boxed(alloc)
     }
 
     fn fn_expr(
         alloc: Global,
         span: Span,
         name: Option<Ident>,
-        function: Function,
+        function: Box<Function>,
     ) -> Result<Made, AllocError> {
         let function = FnExpr {
             span,
@@ -143,11 +144,11 @@ impl BuildsFunction for Ast {
         }
     }
 
-    fn function_span(function: &Function) -> Span {
+    fn function_span(function: &Box<Function>) -> Span {
         function.span
     }
 
-    fn is_generator(function: &Function) -> bool {
+    fn is_generator(function: &Box<Function>) -> bool {
         function.is_generator
     }
 

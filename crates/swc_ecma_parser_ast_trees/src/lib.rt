@@ -51,6 +51,10 @@ impl Trees for Ast {
         stmt.is_use_strict()
     }
 
+    fn is_string_statement(stmt: &Stmt) -> bool {
+        stmt.can_precede_directive()
+    }
+
     fn expr_span(expr: &Made) -> Span {
         expr.get().span()
     }
@@ -120,7 +124,7 @@ impl BuildsStmt for Ast {
     fn block(alloc: Global, span: Span, stmts: Vec<Stmt>) -> Result<Stmt, AllocError>
         ensures { IfOk result (λ x. view_stmt x ≡ tree.block span (tree.listed (map view_stmt stmts.items))) }
     {
-        let stmts = StmtList::new(stmts);
+        let stmts = StmtList::new(alloc, stmts)?;
         Ok(Stmt::Block(BlockStmt { span, stmts }))
     }
 

@@ -50,13 +50,16 @@ impl BuildsFor for Ast {
     {
         let others = (Made::optional(test), Made::optional(update));
         match beside(StmtBox::new(alloc, body), others) {
-            Ok((body, (test, update))) => Ok(Stmt::For(ForStmt {
-                span,
-                init,
-                test,
-                update,
-                body,
-            })),
+            Ok((body, (test, update))) => {
+                let found = ForStmt {
+                    span,
+                    init,
+                    test,
+                    update,
+                    body,
+                };
+                Ok(Stmt::For(found.boxed(alloc)?))
+            }
             Err(e) => {
                 discard_init(init);
                 Err(e)
@@ -87,12 +90,15 @@ impl BuildsFor for Ast {
         body: Stmt,
     ) -> Result<Stmt, AllocError> {
         match beside(StmtBox::new(alloc, body), right.into_handle()) {
-            Ok((body, right)) => Ok(Stmt::ForIn(ForInStmt {
-                span,
-                left,
-                right,
-                body,
-            })),
+            Ok((body, right)) => {
+                let found = ForInStmt {
+                    span,
+                    left,
+                    right,
+                    body,
+                };
+                Ok(Stmt::ForIn(found.boxed(alloc)?))
+            }
             Err(e) => {
                 discard_head(left);
                 Err(e)
@@ -109,13 +115,16 @@ impl BuildsFor for Ast {
         body: Stmt,
     ) -> Result<Stmt, AllocError> {
         match beside(StmtBox::new(alloc, body), right.into_handle()) {
-            Ok((body, right)) => Ok(Stmt::ForOf(ForOfStmt {
-                span,
-                is_await,
-                left,
-                right,
-                body,
-            })),
+            Ok((body, right)) => {
+                let found = ForOfStmt {
+                    span,
+                    is_await,
+                    left,
+                    right,
+                    body,
+                };
+                Ok(Stmt::ForOf(found.boxed(alloc)?))
+            }
             Err(e) => {
                 discard_head(left);
                 Err(e)

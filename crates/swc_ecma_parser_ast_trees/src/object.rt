@@ -33,7 +33,7 @@ impl BuildsObject for Ast {
     }
 
     fn shorthand_prop(alloc: Global, ident: Ident) -> Result<PropOrSpread, AllocError> {
-        Ok(PropOrSpread::Prop(Prop::Shorthand(ident)))
+        Ok(PropOrSpread::Prop(Prop::Shorthand(ident).boxed(alloc)?))
     }
 
     fn key_value_prop(
@@ -44,7 +44,7 @@ impl BuildsObject for Ast {
     ) -> Result<PropOrSpread, AllocError> {
         let value = value.into_handle();
         let prop = Prop::KeyValue(KeyValueProp { span, key, value });
-        Ok(PropOrSpread::Prop(prop))
+        Ok(PropOrSpread::Prop(prop.boxed(alloc)?))
     }
 
     fn assign_prop(
@@ -55,7 +55,7 @@ impl BuildsObject for Ast {
     ) -> Result<PropOrSpread, AllocError> {
         let value = value.into_handle();
         let prop = Prop::Assign(AssignProp { span, key, value });
-        Ok(PropOrSpread::Prop(prop))
+        Ok(PropOrSpread::Prop(prop.boxed(alloc)?))
     }
 }
 
@@ -68,7 +68,7 @@ impl BuildsMethod for Ast {
     ) -> Result<PropOrSpread, AllocError> {
         let body = Some(body);
         let prop = Prop::Getter(GetterProp { span, key, body });
-        Ok(PropOrSpread::Prop(prop))
+        Ok(PropOrSpread::Prop(prop.boxed(alloc)?))
     }
 
     fn setter_prop(
@@ -84,20 +84,20 @@ impl BuildsMethod for Ast {
             param,
             body: Some(body),
         });
-        Ok(PropOrSpread::Prop(prop))
+        Ok(PropOrSpread::Prop(prop.boxed(alloc)?))
     }
 
     fn method_prop(
         alloc: Global,
         span: Span,
         key: PropName,
-        function: Function,
+        function: Box<Function>,
     ) -> Result<PropOrSpread, AllocError> {
         let prop = Prop::Method(MethodProp {
             span,
             key,
             function,
         });
-        Ok(PropOrSpread::Prop(prop))
+        Ok(PropOrSpread::Prop(prop.boxed(alloc)?))
     }
 }

@@ -11,7 +11,7 @@ use swc_ecma_parser_ast::{
     SeqExpr, SimpleAssignTarget, Span, ThisExpr, UnaryExpr, UnaryOp, UpdateExpr, UpdateOp,
     YieldExpr,
 };
-use swc_ecma_parser_ast_parts::boxes::all;
+use swc_ecma_parser_ast_parts::boxes::{all, beside};
 use swc_ecma_parser_ast_parts::made::Made;
 use swc_ecma_parser_ast_parts::target::is_simple;
 use swc_ecma_parser_trees::BuildsOperator;
@@ -76,11 +76,13 @@ impl BuildsOperator for Ast {
         left: Made,
         right: Made,
     ) -> Result<Made, AllocError> {
+        let target = AssignTarget::Simple(simple_target(left)).boxed(alloc);
+        let (left, right) = beside(target, right.into_handle())?;
         let assign = AssignExpr {
             span,
             op,
-            left: AssignTarget::Simple(simple_target(left)),
-            right: right.into_handle(),
+            left,
+            right,
         };
         Made::new(alloc, Expr::Assign(assign))
     }
@@ -92,11 +94,13 @@ impl BuildsOperator for Ast {
         left: Pat,
         right: Made,
     ) -> Result<Made, AllocError> {
+        let target = AssignTarget::Pat(pattern_target(left)).boxed(alloc);
+        let (left, right) = beside(target, right.into_handle())?;
         let assign = AssignExpr {
             span,
             op,
-            left: AssignTarget::Pat(pattern_target(left)),
-            right: right.into_handle(),
+            left,
+            right,
         };
         Made::new(alloc, Expr::Assign(assign))
     }

@@ -1,17 +1,16 @@
 //! Statements one behind another: blocks, and the bodies of functions and clauses (ECMA-262, sections 14.2, 14.12 and 15.2).
 
-ghost use Rattle.std.specs.Prelude.{◌≡◌, ◌&&◌, true, false, map, IfOk, IfErr};
+ghost use Rattle.std.specs.Prelude.{◌≡◌, true, false, map, IfOk, IfErr};
 ghost use Rattle.swc_ecma_parser_error.specs.Kind as kinds;
 ghost use Rattle.swc_ecma_parser_error.specs.Kind.{kind_of, IsOutOfMemory};
 ghost use Rattle.swc_ecma_parser_bodies.specs.Bodies.{ends_of, directs_of};
-ghost use Rattle.swc_ecma_parser_grammar.specs.Reads.{directed, nested_item};
+ghost use Rattle.swc_ecma_parser_grammar.specs.Reads.{directed, directs_on, nested_item};
 ghost use Rattle.swc_ecma_parser_inner.specs.Nests.{Nests};
 ghost use Rattle.swc_ecma_parser_reader.specs.Reader as rules;
 ghost use Rattle.swc_ecma_parser_reader.specs.State as reader;
 ghost use Rattle.swc_ecma_parser_reader.specs.State.{Gives, GivesAs};
 
 use std::alloc::Global;
-use swc_ecma_parser_common::Atom;
 use swc_ecma_parser_error::{PResult, SyntaxError};
 use swc_ecma_parser_grammar::Position;
 use swc_ecma_parser_inner::cover::{Cover, Reading};
@@ -31,20 +30,6 @@ pub enum Body {
     Function,
     /// A clause of a `switch`, up to the next one or to the `}` behind all.
     Clause,
-}
-
-impl Body {
-    /// What holds statements up to a `}`, with directives or without.
-    pub fn in_braces(directives: bool) -> Body
-        ensures ends { ends_of result ≡ rules.closes }
-        ensures directs { directs_of result ≡ directives }
-    {
-        if directives {
-            Body::Function
-        } else {
-            Body::Block
-        }
-    }
 }
 
 /// A statement in a block or a body.
@@ -67,13 +52,12 @@ fn missing_brace<P: Source>(alloc: Global, p: &mut P) -> PResult<SyntaxError>
     ensures state { IfOk result (λ kind. P.seen p.new ≡ P.seen p.old) }
     ensures err { IfErr result IsOutOfMemory }
 {
-    let wanted = grown(p, Atom::new(alloc, "}"))?;
-    let found = grown(p, Atom::new(alloc, "<eof>"))?;
-    Ok(SyntaxError::Expected(wanted, found))
+    grown(p, SyntaxError::expected(alloc, "}", "<eof>"))
 }
 
 /// The `}` of a block, or a fault where the list has ended.
 #[tactic(auto, unfolding(swc_ecma_parser_reader::specs::Reader::close))]
+#[inline(never)]
 pub fn close<P: Source>(alloc: Global, p: &mut P) -> PResult<()>
     ensures { Gives (rules.close (P.seen p.old)) result (P.seen p.new) }
 {
@@ -121,28 +105,30 @@ fn in_strict(flags: Context) -> Context
     }
 }
 
-/// Turns strict what follows a directive.
-pub fn direct<P: Source, T: Trees>(p: &mut P, directives: bool, x: &T::Stmt)
-    ensures { P.seen p.new ≡ reader.coded (directed (P.seen p.old).code directives (T.stmt_of x.now)) (P.seen p.old) }
+/// Turns strict what follows a directive that says so, and says whether the next statement can be a directive too.
+pub fn direct<P: Source, T: Trees>(p: &mut P, directives: bool, x: &T::Stmt) -> bool
+    ensures state { P.seen p.new ≡ reader.coded (directed (P.seen p.old).code directives (T.stmt_of x.now)) (P.seen p.old) }
+    ensures next { result ≡ directs_on directives (T.stmt_of x.now) }
 {
     if directives && T::is_use_strict(x) {
         let flags = p.flags();
         p.set_flags(in_strict(flags));
     }
+    directives && T::is_string_statement(x)
 }
 
-/// Whether the next statement can be a directive.
-fn may_direct(body: Body, is_first: bool) -> bool
-    ensures { result ≡ (directs_of body && is_first) }
+/// Whether the strings that stand first are directives.
+fn has_directives(body: Body) -> bool
+    ensures { result ≡ directs_of body }
 {
     match body {
-        Body::Function => is_first,
+        Body::Function => true,
         Body::Block | Body::Clause => false,
     }
 }
 
 /// The statements of a block, a body or a clause.
-#[tactic(auto, unfolding(swc_ecma_parser_reader::specs::Reader::items), using(swc_ecma_parser_reader::proofs::Loops::items_stop, swc_ecma_parser_reader::proofs::Loops::items_err, crate::proofs::Items::body_more, swc_ecma_parser_reader::proofs::Loops::stmt_shorter, std::proofs::lemmas::List::map_push))]
+#[tactic(auto, unfolding(swc_ecma_parser_reader::specs::Reader::items), using(swc_ecma_parser_reader::proofs::Loops::items_stop, swc_ecma_parser_reader::proofs::Loops::items_err, crate::proofs::Items::body_more, crate::proofs::Items::body_next, swc_ecma_parser_reader::proofs::Loops::stmt_shorter, std::proofs::lemmas::List::map_push))]
 pub fn body_items<
     P: Source,
     T: Trees,
@@ -154,9 +140,10 @@ pub fn body_items<
     ensures { GivesAs (λ found. map T.stmt_of found.items) (rules.items (rules.stmt g.now.depth nested_item) (ends_of body) (directs_of body) (P.seen p.old)) result (P.seen p.new) }
 {
     let mut found = Vec::new(t.alloc);
+    let mut directives = has_directives(body);
     'items: while !ends(p, body) {
         let stmt = (g.stmt)(t, p, g.depth, NESTED_ITEM)?;
-        direct::<P, T>(p, may_direct(body, found.is_empty()), &stmt);
+        directives = direct::<P, T>(p, directives, &stmt);
         pushed(p, &mut found, stmt)?;
     }
     Ok(found)
@@ -164,6 +151,7 @@ pub fn body_items<
 
 /// A block as a statement.
 #[tactic(auto, unfolding(swc_ecma_parser_reader::specs::Reader::block, swc_ecma_parser_reader::specs::Reader::block_from, swc_ecma_parser_grammar::specs::Looks::spanned))]
+#[inline(never)]
 pub fn block<
     P: Source,
     T: BuildsStmt,

@@ -16,7 +16,7 @@ ghost use Rattle.swc_ecma_parser_trees.specs.Parts.{part_of};
 
 use std::alloc::{AllocError, Global};
 use swc_ecma_parser_common::{Atom, Boxed, Span};
-use swc_ecma_parser_error::{Error, PResult, SyntaxError};
+use swc_ecma_parser_error::{Error, Labelled, PResult, SyntaxError};
 use swc_ecma_parser_grammar::{Class, Position};
 use swc_ecma_parser_inner::cover::{Cover, Reading, inside};
 use swc_ecma_parser_inner::grammar::{Grammar, Part};
@@ -41,14 +41,18 @@ fn in_condition(alloc: Global, inner: Error, word: Span) -> Result<SyntaxError, 
     ensures { IfOk result (λ kind. kind_of kind ≡ kinds.WithLabel) }
 {
     let note = Atom::new(alloc, "Tried to parse the condition for an if statement")?;
-    Ok(SyntaxError::WithLabel {
-        inner: Boxed::new(alloc, inner)?,
-        span: word,
-        note,
-    })
+    Ok(SyntaxError::WithLabel(Boxed::new(
+        alloc,
+        Labelled {
+            inner,
+            span: word,
+            note,
+        },
+    )?))
 }
 
 /// The refusal of a condition behind the word `if`. One for want of memory or depth stays as it is.
+#[inline(never)]
 fn labelled<P: Source>(alloc: Global, p: &mut P, error: Error, word: Span) -> Error
     ensures memory { kind_of result.kind ≢ kinds.OutOfMemory → kind_of error.kind ≢ kinds.OutOfMemory }
     ensures gives { kind_of result.kind ≢ kinds.OutOfMemory
@@ -66,6 +70,7 @@ fn labelled<P: Source>(alloc: Global, p: &mut P, error: Error, word: Span) -> Er
 
 /// `( Expression )` behind the word `if`.
 #[tactic(auto, unfolding(swc_ecma_parser_reader::specs::Reader::condition, swc_ecma_parser_reader::specs::State::labelled, swc_ecma_parser_reader::specs::Expressions::inside))]
+#[inline(never)]
 fn condition<
     P: Source,
     T: Trees,
@@ -106,6 +111,7 @@ fn next_link<
 
 /// What stands behind an `else`, if there is one.
 #[tactic(auto, unfolding(swc_ecma_parser_reader::specs::Reader::alternative))]
+#[inline(never)]
 fn alternative<
     P: Source,
     T: Trees,
@@ -168,6 +174,7 @@ fn enclosed<P: Source, T: BuildsControl>(
 }
 
 /// An `if` statement.
+#[inline(never)]
 pub fn if_stmt<
     P: Source,
     T: BuildsControl,

@@ -45,6 +45,7 @@ fn closes<P: Source>(p: &P) -> bool
 }
 
 /// Records a constructor behind another.
+#[inline(never)]
 fn second_constructor<P: Source, T: BuildsClass>(
     p: &mut P,
     has_constructor: bool,
@@ -160,6 +161,7 @@ fn surplus<
 
 /// A class that begins at `start`, from behind its name, with the decorators before it.
 #[tactic(auto, unfolding(swc_ecma_parser_reader::specs::Dressed::class_parts_with, swc_ecma_parser_reader::specs::Members::class_parts))]
+#[inline(never)]
 pub fn class_parts_with<
     P: Source,
     T: BuildsClass,
@@ -247,6 +249,7 @@ pub fn class_decl_with<
 
 /// The name of a class that is an expression, if it has one.
 #[tactic(auto, unfolding(swc_ecma_parser_reader::specs::Members::class_name, swc_ecma_parser_reader::specs::Reader::named))]
+#[inline(never)]
 fn class_name<
     P: Source,
     T: BuildsClass,

@@ -60,6 +60,7 @@ fn parameter<
 
 /// A catch, if one stands here.
 #[tactic(auto, unfolding(swc_ecma_parser_reader::specs::Reader::handler, swc_ecma_parser_reader::specs::Reader::caught, swc_ecma_parser_grammar::specs::Looks::spanned))]
+#[inline(never)]
 fn handler<
     P: Source,
     T: BuildsTry,
@@ -126,6 +127,7 @@ fn is_handled<P: Source>(p: &P) -> bool
 
 /// A `try` statement. One with neither a catch nor a finally is a fault.
 #[tactic(auto, unfolding(swc_ecma_parser_reader::specs::Reader::try_stmt, swc_ecma_parser_reader::specs::Reader::handled, swc_ecma_parser_grammar::specs::Looks::spanned))]
+#[inline(never)]
 pub(crate) fn try_stmt<
     P: Source,
     T: BuildsTry,
@@ -186,6 +188,7 @@ fn dropped_finalizer<
 
 /// A catch or a finally behind no `try`: a fault of its word, which stands for it in the tree. What stands behind it is dropped.
 #[tactic(auto, unfolding(swc_ecma_parser_reader::specs::Reader::stray))]
+#[inline(never)]
 pub(crate) fn stray<
     P: Source,
     T: BuildsTry + BuildsStmt + BuildsOperator,

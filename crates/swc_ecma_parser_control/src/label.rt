@@ -1,7 +1,8 @@
 //! Labels: ECMA-262, section 14.13.
 
-ghost use Rattle.std.specs.Prelude.{◌≡◌, if◌then◌else◌, true, [], ◌++◌, replicate};
+ghost use Rattle.std.specs.Prelude.{◌≡◌, if◌then◌else◌, true, [], ◌++◌, replicate, IfOk, IfErr};
 ghost use Rattle.swc_ecma_parser_error.specs.Kind as kinds;
+ghost use Rattle.swc_ecma_parser_error.specs.Kind.{IsOutOfMemory};
 ghost use Rattle.swc_ecma_parser_grammar.specs.Own as own;
 ghost use Rattle.swc_ecma_parser_grammar.specs.language.Goals.{expression};
 ghost use Rattle.swc_ecma_parser_inner.specs.Nests.{Nests};
@@ -11,7 +12,8 @@ ghost use Rattle.swc_ecma_parser_reader.specs.Reader as rules;
 ghost use Rattle.swc_ecma_parser_reader.specs.State.{Gives, GivesAs};
 
 use crate::switch::in_breakable;
-use swc_ecma_parser_common::{Atom, Span};
+use std::alloc::Global;
+use swc_ecma_parser_common::{Atom, Boxed, Span};
 use swc_ecma_parser_error::{PResult, SyntaxError};
 use swc_ecma_parser_grammar::Position;
 use swc_ecma_parser_inner::cover::{Cover, Reading};
@@ -35,14 +37,23 @@ fn begins_label<P: Source>(p: &P) -> bool
     p.name_at() && p.next_sees(TokenKind::Colon)
 }
 
+/// The text of a label, as a fault holds it.
+fn label_text<P: Source>(alloc: Global, p: &mut P, label: &Ident) -> PResult<Boxed<Atom>>
+    ensures state { IfOk result (λ text. P.seen p.new ≡ P.seen p.old) }
+    ensures err { IfErr result IsOutOfMemory }
+{
+    let text = grown(p, label.sym.try_clone())?;
+    grown(p, Boxed::new(alloc, text))
+}
+
 /// Records so many times that a label stands around already.
 #[tactic(auto, using(swc_ecma_parser_reader::proofs::Plain::told_none, swc_ecma_parser_reader::proofs::Plain::told_more, swc_ecma_parser_reader::proofs::Plain::told_err))]
-fn duplicate<P: Source>(p: &mut P, label: &Ident, times: usize) -> PResult<()>
+fn duplicate<P: Source>(alloc: Global, p: &mut P, label: &Ident, times: usize) -> PResult<()>
     ensures { Gives (rules.told (replicate times (duplicate label.now.span)) (P.seen p.old)) result (P.seen p.new) }
 {
     let mut left = times;
     'times: while left > 0 {
-        let text = grown(p, label.sym.try_clone())?;
+        let text = label_text(alloc, p, label)?;
         p.fault(SyntaxError::DuplicateLabel(text), label.span)?;
         left -= 1;
     }
@@ -51,14 +62,16 @@ fn duplicate<P: Source>(p: &mut P, label: &Ident, times: usize) -> PResult<()>
 
 /// Records each equal label around.
 #[tactic(auto, using(swc_ecma_parser_reader::proofs::Plain::duplicates_counted))]
-fn duplicates<P: Source>(p: &mut P, label: &Ident) -> PResult<()>
+#[inline(never)]
+fn duplicates<P: Source>(alloc: Global, p: &mut P, label: &Ident) -> PResult<()>
     ensures { Gives (rules.told (own.duplicates (P.seen p.old).scope.labels (tree.ident label.now.span label.now.sym)) (P.seen p.old)) result (P.seen p.new) }
 {
     let times = p.count_labels(label.sym.as_str());
-    duplicate(p, label, times)
+    duplicate(alloc, p, label, times)
 }
 
 /// Records a function behind a label: that of strict code, and a generator.
+#[inline(never)]
 fn labelled_function<P: Source>(
     p: &mut P,
     is_function: bool,
@@ -78,6 +91,7 @@ fn labelled_function<P: Source>(
 
 /// What a label stands at, which may break off there.
 #[tactic(auto, unfolding(swc_ecma_parser_reader::specs::Reader::labelled_body))]
+#[inline(never)]
 fn labelled_body<
     P: Source,
     T: Trees,
@@ -103,6 +117,7 @@ fn labelled_body<
 
 /// A statement with a label.
 #[tactic(auto, unfolding(swc_ecma_parser_reader::specs::Reader::labeled_stmt), using(swc_ecma_parser_reader::proofs::Plain::relabels_told))]
+#[inline(never)]
 fn labeled_stmt<
     P: Source,
     T: BuildsControl + BuildsBlock,
@@ -122,7 +137,7 @@ fn labeled_stmt<
     let body = labelled_body(g, t, p, text)?;
     let span = since(p, start);
     labelled_function(p, is_function, is_starred, T::stmt_span(&body))?;
-    duplicates(p, &label)?;
+    duplicates(t.alloc, p, &label)?;
     grown(p, T::labeled(t.alloc, span, label, body))
 }
 
@@ -146,6 +161,7 @@ pub(crate) fn other_stmt<
 
 /// A statement that begins with `let`: a declaration before what can be declared, where declarations are read; else `let` is a name.
 #[tactic(auto, unfolding(swc_ecma_parser_reader::specs::Reader::let_stmt))]
+#[inline(never)]
 pub(crate) fn let_stmt<
     P: Source,
     T: BuildsPattern + BuildsStmt + BuildsOperator + BuildsVariables + BuildsControl + BuildsBlock,

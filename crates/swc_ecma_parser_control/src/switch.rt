@@ -139,6 +139,7 @@ pub(crate) fn in_breakable(flags: Context) -> Context
 
 /// A `switch` statement.
 #[tactic(auto, unfolding(swc_ecma_parser_reader::specs::Reader::switch_stmt, swc_ecma_parser_grammar::specs::Looks::spanned))]
+#[inline(never)]
 pub(crate) fn switch_stmt<
     P: Source,
     T: BuildsSwitch,

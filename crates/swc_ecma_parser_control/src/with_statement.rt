@@ -58,6 +58,7 @@ fn scoped<
 
 /// A `with` statement.
 #[tactic(auto, unfolding(swc_ecma_parser_reader::specs::Reader::with_stmt))]
+#[inline(never)]
 pub(crate) fn with_stmt<
     P: Source,
     T: BuildsControl,

@@ -454,6 +454,7 @@ pub fn declared_class_with<P: Source, T: BuildsStatements>(
 /// A class as a statement behind decorators, where declarations are read or with a fault of its word.
 #[cycle(knot)]
 #[tactic(auto, unfolding(swc_ecma_parser_reader::specs::Dressed::class_stmt_with))]
+#[inline(never)]
 fn class_statement_with<P: Source, T: BuildsStatements>(
     t: &MakerOf<T>,
     p: &mut P,
@@ -489,6 +490,7 @@ fn class_expression<P: Source, T: BuildsStatements>(
 /// A class as a statement, where declarations are read or with a fault of its word.
 #[cycle(knot)]
 #[tactic(auto, unfolding(swc_ecma_parser_reader::specs::Members::class_stmt))]
+#[inline(never)]
 fn class_statement<P: Source, T: BuildsStatements>(
     t: &MakerOf<T>,
     p: &mut P,
@@ -636,6 +638,7 @@ pub fn declared_function_with<P: Source, T: BuildsStatements>(
 /// A function as a statement behind decorators, where declarations are read or with a fault of its word.
 #[cycle(knot)]
 #[tactic(auto, unfolding(swc_ecma_parser_reader::specs::Dressed::function_stmt_with))]
+#[inline(never)]
 fn function_statement_with<P: Source, T: BuildsStatements>(
     t: &MakerOf<T>,
     p: &mut P,
@@ -678,6 +681,7 @@ pub fn declared_function<P: Source, T: BuildsStatements>(
 /// A declaration of `var`, in so many levels.
 #[cycle(knot)]
 #[tactic(auto, unfolding(swc_ecma_parser_reader::specs::Reader::variables, swc_ecma_parser_grammar::specs::Looks::spanned))]
+#[inline(never)]
 fn declared_variables<P: Source, T: BuildsStatements>(
     t: &MakerOf<T>,
     p: &mut P,

@@ -58,8 +58,8 @@ pub fn whole_stmt<P: Source, T: BuildsStatements>(
     stmt::<P, T>(t, p, limit, at)
 }
 
-/// The statements of a script, the first of which can be a directive.
-#[tactic(auto, unfolding(swc_ecma_parser_reader::specs::Reader::items), using(swc_ecma_parser_reader::proofs::Loops::items_stop, swc_ecma_parser_reader::proofs::Loops::items_err, crate::proofs::Items::script_more, swc_ecma_parser_reader::proofs::Loops::whole_shorter, std::proofs::lemmas::List::map_push))]
+/// The statements of a script, the first of which can be directives.
+#[tactic(auto, unfolding(swc_ecma_parser_reader::specs::Reader::items), using(swc_ecma_parser_reader::proofs::Loops::items_stop, swc_ecma_parser_reader::proofs::Loops::items_err, swc_ecma_parser_bodies::proofs::Items::body_more, swc_ecma_parser_bodies::proofs::Items::body_next, swc_ecma_parser_reader::proofs::Loops::whole_shorter, std::proofs::lemmas::List::map_push))]
 fn items<P: Source, T: BuildsStatements>(
     t: &MakerOf<T>,
     p: &mut P,
@@ -69,9 +69,10 @@ fn items<P: Source, T: BuildsStatements>(
     ensures outright { (P.seen p.old).at.left ≡ [] → IsOk result }
 {
     let mut found = Vec::new(t.alloc);
+    let mut directives = true;
     'items: while !at_end(p) {
         let stmt = whole_stmt::<P, T>(t, p, limit, TOP_ITEM)?;
-        direct::<P, T>(p, found.is_empty(), &stmt);
+        directives = direct::<P, T>(p, directives, &stmt);
         pushed(p, &mut found, stmt)?;
     }
     Ok(found)

@@ -1,2 +1,4 @@
 mod ItemAlone
 mod SetBack
+mod Begun
+mod Read

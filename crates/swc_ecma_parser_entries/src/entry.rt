@@ -1,60 +1,168 @@
 //! What every entry does around its rules: the context is set and set back, and what a call met is answered.
 
-ghost use Rattle.std.specs.Prelude.{◌≡◌, ◌++◌, true, List, map, Some, None, [], IfErr, IfOk, OnErr, IsOk};
-ghost use Rattle.swc_ecma_parser_error.specs.Kind.{IsOutOfMemory};
+ghost use Rattle.std.specs.Prelude.{◌≡◌, ◌≢◌, true, List, map, Some, None, [], IfErr, IsErrAnd, IsOk, OnErr};
+ghost use Rattle.swc_ecma_parser_error.specs.Kind.{Eof, Fault, OutOfMemory, fault_of, kind_of};
 ghost use Rattle.swc_ecma_parser_module_reader.specs.Entry.{IsEntered, AnswersModule};
-ghost use Rattle.swc_ecma_parser_error.specs.Kind.{Fault};
 ghost use Rattle.swc_ecma_parser_grammar.specs.Notes.{as_note};
 ghost use Rattle.swc_ecma_parser_module_reader.specs.ItemEntry.{AnswersItem};
 ghost use Rattle.swc_ecma_parser_module_reader.specs.Items.{begun_item, held_at, item_whole};
 ghost use Rattle.swc_ecma_parser_module_reader.specs.ProgramEntry.{AnswersProgram};
+ghost use Rattle.swc_ecma_parser_reader.specs.Calls.{Leaves, Says, lacks_ahead};
 ghost use Rattle.swc_ecma_parser_reader.specs.State as reader;
 ghost use Rattle.swc_ecma_parser_reader.specs.State.{GivesAs};
-ghost use Rattle.swc_ecma_parser_reader.specs.Entry.{unmarked, AnswersScript, AnswersStatement, IsRestored};
+ghost use Rattle.swc_ecma_parser_reader.specs.Entry.{unmarked, AnswersScript, AnswersStatement, IsRestored, IsSetBack};
+ghost use Rattle.swc_ecma_parser_reader.specs.declared.mark.Mark.TheVariants as mark;
+ghost use Rattle.swc_ecma_parser_state.specs.Opened.{begun};
 
 use crate::program::program_body;
 use std::alloc::Global;
+use std::marker::Brand;
 use swc_ecma_parser_core::grammar::leading;
 use swc_ecma_parser_core::script::{script_body, whole_stmt};
-use swc_ecma_parser_error::PResult;
+use swc_ecma_parser_error::{Error, PResult};
 use swc_ecma_parser_grammar::Position;
-use swc_ecma_parser_input::Tokens;
+use swc_ecma_parser_input::{Context, Tokens};
 use swc_ecma_parser_module_items::decorated::begins_decorators;
 use swc_ecma_parser_module_items::items::{item_behind, module_body, module_item};
 use swc_ecma_parser_module_items::programs::begins_module;
 use swc_ecma_parser_source::Source;
-use swc_ecma_parser_state::State;
+use swc_ecma_parser_state::{Call, Origin, State};
+use swc_ecma_parser_token::TokenKind;
 use swc_ecma_parser_trees::{
     BuildsExport, BuildsScript, BuildsStatements, BuildsVarDecl, Maker, MakerOf,
 };
 
-/// A script, whose items may stand so many levels deep.
-#[tactic(auto, unfolding(swc_ecma_parser_reader::specs::Reader::script))]
-pub fn script<I: Tokens, T: BuildsStatements + BuildsScript>(
+/// Ends a call that is refused: the context and what was noted are as before it, no label is left, and what was marked is said.
+fn refused<O: Origin, I: Tokens>(
+    call: Call<O, I>,
+    error: Error,
+    outer: Context,
+    found_module_item: bool,
+) -> (State<I>, Error)
+    ensures same { kind_of result.1.kind ≢ OutOfMemory → fault_of result.1 ≡ fault_of error }
+    ensures plain { call.scope.mark ≡ None → result.1 ≡ error }
+    ensures back { IsSetBack call result.0 }
+    ensures flags { result.0.code.flags ≡ outer }
+    ensures labels { result.0.scope.labels ≡ [] }
+    ensures noted { result.0.notes.found_module_item ≡ found_module_item }
+    ensures leaves { Leaves O.start result.0 }
+    ensures says { Says result.0.scope.mark (kind_of result.1.kind) }
+    ensures memory { call.scope.mark ≡ Some mark.OutOfMemory → kind_of result.1.kind ≡ OutOfMemory }
+{
+    let mut call = call;
+    call.restore(outer, found_module_item);
+    let told = call.told(error);
+    (call.end(), told)
+}
+
+/// Reads a script.
+fn script_in<O: Origin, I: Tokens, T: BuildsStatements + BuildsScript>(
     alloc: Global,
-    state: &mut State<I>,
+    call: &mut Call<O, I>,
     limit: usize,
 ) -> PResult<T::Script>
-    ensures answers { AnswersScript T.script_of limit (unmarked state.old) result state.new }
-    ensures outright { state.old.at.left ≡ [] → IsOk result }
-    ensures refused { OnErr result (IsRestored state.old state.new) }
+    ensures answers { (s : reader.State) → call.old ≡ begun s → AnswersScript T.script_of limit (unmarked s) result call.new }
+    ensures outright { (s : reader.State) → call.old ≡ begun s → s.at.left ≡ [] → IsOk result }
+    ensures ahead { (s : reader.State) → call.old ≡ begun s → lacks_ahead s.at ≡ true → IsErrAnd result (λ e. call.new.scope.mark ≡ Some mark.OutOfMemory) }
+{
+    if call.is_marked() {
+        return Err(call.lost());
+    }
+    call.enter_script();
+    let inner = call.flags();
+    let maker: MakerOf<T> = Maker::new(alloc);
+    let read = script_body::<Call<O, I>, T>(&maker, call, limit);
+    maker.finish();
+    let script = read?;
+    call.leave_script(inner);
+    Ok(script)
+}
+
+/// A script, from where the call begins.
+fn script_from<O: Origin, I: Tokens, T: BuildsStatements + BuildsScript>(
+    alloc: Global,
+    state: State<I>,
+    limit: usize,
+) -> (State<I>, PResult<T::Script>)
+    requires { O.start ≡ state }
+    ensures answers { AnswersScript T.script_of limit (unmarked state) result.1 result.0 }
+    ensures outright { state.at.left ≡ [] → IsOk result.1 }
+    ensures refused { OnErr result.1 (IsRestored state result.0) }
+    ensures leaves { Leaves O.start result.0 }
+    ensures says { IfErr result.1 (λ e. Says result.0.scope.mark (kind_of e.kind)) }
+    ensures ahead { lacks_ahead state.at ≡ true → IsErrAnd result.1 (λ e. kind_of e.kind ≡ OutOfMemory) }
 {
     let outer = state.flags();
     let found_module_item = state.found_module_item();
-    state.begin();
-    state.enter_script();
-    let inner = state.flags();
-    let maker: MakerOf<T> = Maker::new(alloc);
-    let read = script_body::<State<I>, T>(&maker, state, limit);
-    maker.finish();
-    match read {
-        Ok(script) => {
-            state.leave_script(inner);
-            Ok(script)
-        }
+    let mut call = state.begin::<O>();
+    match script_in::<O, I, T>(alloc, &mut call, limit) {
+        Ok(script) => (call.end(), Ok(script)),
         Err(error) => {
-            state.restore(outer, found_module_item);
-            Err(error)
+            let (state, told) = refused(call, error, outer, found_module_item);
+            (state, Err(told))
+        }
+    }
+}
+
+/// A script, whose items may stand so many levels deep.
+pub fn script<I: Tokens, T: BuildsStatements + BuildsScript>(
+    alloc: Global,
+    state: State<I>,
+    limit: usize,
+) -> (State<I>, PResult<T::Script>)
+    ensures answers { AnswersScript T.script_of limit (unmarked state) result.1 result.0 }
+    ensures outright { state.at.left ≡ [] → IsOk result.1 }
+    ensures refused { OnErr result.1 (IsRestored state result.0) }
+    ensures leaves { Leaves state result.0 }
+    ensures says { IfErr result.1 (λ e. Says result.0.scope.mark (kind_of e.kind)) }
+    ensures ahead { lacks_ahead state.at ≡ true → IsErrAnd result.1 (λ e. kind_of e.kind ≡ OutOfMemory) }
+{
+    script_from::<Brand, I, T>(alloc, state, limit)
+}
+
+/// Reads a module.
+fn module_in<O: Origin, I: Tokens, T: BuildsStatements + BuildsExport + BuildsVarDecl>(
+    alloc: Global,
+    call: &mut Call<O, I>,
+    limit: usize,
+) -> PResult<T::Module>
+    ensures answers { (s : reader.State) → call.old ≡ begun s → (u : reader.State) × IsEntered (unmarked s) u × AnswersModule T.module_of limit u result call.new }
+    ensures outright { (s : reader.State) → call.old ≡ begun s → s.at.left ≡ [] → IsOk result }
+    ensures ahead { (s : reader.State) → call.old ≡ begun s → lacks_ahead s.at ≡ true → IsErrAnd result (λ e. call.new.scope.mark ≡ Some mark.OutOfMemory) }
+{
+    let is_lost = call.is_marked();
+    call.enter_module();
+    if is_lost {
+        return Err(call.lost());
+    }
+    let maker: MakerOf<T> = Maker::new(alloc);
+    let read = module_body::<Call<O, I>, T>(&maker, call, limit);
+    maker.finish();
+    read
+}
+
+/// A module, from where the call begins.
+fn module_from<O: Origin, I: Tokens, T: BuildsStatements + BuildsExport + BuildsVarDecl>(
+    alloc: Global,
+    state: State<I>,
+    limit: usize,
+) -> (State<I>, PResult<T::Module>)
+    requires { O.start ≡ state }
+    ensures answers { (u : reader.State) × IsEntered (unmarked state) u × AnswersModule T.module_of limit u result.1 result.0 }
+    ensures outright { state.at.left ≡ [] → IsOk result.1 }
+    ensures refused { OnErr result.1 (IsRestored state result.0) }
+    ensures leaves { Leaves O.start result.0 }
+    ensures says { IfErr result.1 (λ e. Says result.0.scope.mark (kind_of e.kind)) }
+    ensures ahead { lacks_ahead state.at ≡ true → IsErrAnd result.1 (λ e. kind_of e.kind ≡ OutOfMemory) }
+{
+    let outer = state.flags();
+    let found_module_item = state.found_module_item();
+    let mut call = state.begin::<O>();
+    match module_in::<O, I, T>(alloc, &mut call, limit) {
+        Ok(module) => (call.end(), Ok(module)),
+        Err(error) => {
+            let (state, told) = refused(call, error, outer, found_module_item);
+            (state, Err(told))
         }
     }
 }
@@ -62,25 +170,62 @@ pub fn script<I: Tokens, T: BuildsStatements + BuildsScript>(
 /// A module, whose items may stand so many levels deep.
 pub fn module<I: Tokens, T: BuildsStatements + BuildsExport + BuildsVarDecl>(
     alloc: Global,
-    state: &mut State<I>,
+    state: State<I>,
     limit: usize,
-) -> PResult<T::Module>
-    ensures answers { (u : reader.State) × IsEntered (unmarked state.old) u × AnswersModule T.module_of limit u result state.new }
-    ensures outright { state.old.at.left ≡ [] → IsOk result }
-    ensures refused { OnErr result (IsRestored state.old state.new) }
+) -> (State<I>, PResult<T::Module>)
+    ensures answers { (u : reader.State) × IsEntered (unmarked state) u × AnswersModule T.module_of limit u result.1 result.0 }
+    ensures outright { state.at.left ≡ [] → IsOk result.1 }
+    ensures refused { OnErr result.1 (IsRestored state result.0) }
+    ensures leaves { Leaves state result.0 }
+    ensures says { IfErr result.1 (λ e. Says result.0.scope.mark (kind_of e.kind)) }
+    ensures ahead { lacks_ahead state.at ≡ true → IsErrAnd result.1 (λ e. kind_of e.kind ≡ OutOfMemory) }
+{
+    module_from::<Brand, I, T>(alloc, state, limit)
+}
+
+/// Reads a program. A script leaves the context `outer` behind it, which stood before.
+fn program_in<O: Origin, I: Tokens, T: BuildsStatements + BuildsExport + BuildsVarDecl>(
+    alloc: Global,
+    call: &mut Call<O, I>,
+    limit: usize,
+    outer: Context,
+) -> PResult<T::Program>
+    ensures answers { (s : reader.State) → call.old ≡ begun s → outer ≡ s.code.flags → AnswersProgram T.program_of limit (unmarked s) result call.new }
+    ensures outright { (s : reader.State) → call.old ≡ begun s → s.at.left ≡ [] → IsOk result }
+    ensures ahead { (s : reader.State) → call.old ≡ begun s → lacks_ahead s.at ≡ true → IsErrAnd result (λ e. call.new.scope.mark ≡ Some mark.OutOfMemory) }
+{
+    if call.is_marked() {
+        return Err(call.lost());
+    }
+    call.enter_program();
+    let maker: MakerOf<T> = Maker::new(alloc);
+    let read = program_body::<O, I, T>(&maker, call, limit, outer);
+    maker.finish();
+    read
+}
+
+/// A program, from where the call begins.
+fn program_from<O: Origin, I: Tokens, T: BuildsStatements + BuildsExport + BuildsVarDecl>(
+    alloc: Global,
+    state: State<I>,
+    limit: usize,
+) -> (State<I>, PResult<T::Program>)
+    requires { O.start ≡ state }
+    ensures answers { AnswersProgram T.program_of limit (unmarked state) result.1 result.0 }
+    ensures outright { state.at.left ≡ [] → IsOk result.1 }
+    ensures refused { OnErr result.1 (IsRestored state result.0) }
+    ensures leaves { Leaves O.start result.0 }
+    ensures says { IfErr result.1 (λ e. Says result.0.scope.mark (kind_of e.kind)) }
+    ensures ahead { lacks_ahead state.at ≡ true → IsErrAnd result.1 (λ e. kind_of e.kind ≡ OutOfMemory) }
 {
     let outer = state.flags();
     let found_module_item = state.found_module_item();
-    state.begin();
-    state.enter_module();
-    let maker: MakerOf<T> = Maker::new(alloc);
-    let read = module_body::<State<I>, T>(&maker, state, limit);
-    maker.finish();
-    match read {
-        Ok(module) => Ok(module),
+    let mut call = state.begin::<O>();
+    match program_in::<O, I, T>(alloc, &mut call, limit, outer) {
+        Ok(program) => (call.end(), Ok(program)),
         Err(error) => {
-            state.restore(outer, found_module_item);
-            Err(error)
+            let (state, told) = refused(call, error, outer, found_module_item);
+            (state, Err(told))
         }
     }
 }
@@ -88,79 +233,161 @@ pub fn module<I: Tokens, T: BuildsStatements + BuildsExport + BuildsVarDecl>(
 /// A program, whose items may stand so many levels deep.
 pub fn program<I: Tokens, T: BuildsStatements + BuildsExport + BuildsVarDecl>(
     alloc: Global,
-    state: &mut State<I>,
+    state: State<I>,
     limit: usize,
-) -> PResult<T::Program>
-    ensures answers { AnswersProgram T.program_of limit (unmarked state.old) result state.new }
-    ensures outright { state.old.at.left ≡ [] → IsOk result }
-    ensures refused { OnErr result (IsRestored state.old state.new) }
+) -> (State<I>, PResult<T::Program>)
+    ensures answers { AnswersProgram T.program_of limit (unmarked state) result.1 result.0 }
+    ensures outright { state.at.left ≡ [] → IsOk result.1 }
+    ensures refused { OnErr result.1 (IsRestored state result.0) }
+    ensures leaves { Leaves state result.0 }
+    ensures says { IfErr result.1 (λ e. Says result.0.scope.mark (kind_of e.kind)) }
+    ensures ahead { lacks_ahead state.at ≡ true → IsErrAnd result.1 (λ e. kind_of e.kind ≡ OutOfMemory) }
 {
-    let outer = state.flags();
-    let found_module_item = state.found_module_item();
-    state.begin();
-    state.enter_program();
-    let maker: MakerOf<T> = Maker::new(alloc);
-    let read = program_body::<I, T>(&maker, state, limit, outer);
-    maker.finish();
-    match read {
-        Ok(program) => Ok(program),
-        Err(error) => {
-            state.restore(outer, found_module_item);
-            Err(error)
-        }
-    }
+    program_from::<Brand, I, T>(alloc, state, limit)
 }
 
 /// Makes module code of what begins with an import or an export.
-fn begin_item<I: Tokens>(state: &mut State<I>)
-    ensures { (recorded : List Fault) × (map as_note recorded ≡ held_at state.old) × (state.new ≡ begun_item recorded state.old) }
+fn begin_item<O: Origin, I: Tokens>(call: &mut Call<O, I>)
+    ensures { (recorded : List Fault) × (map as_note recorded ≡ held_at call.old) × (call.new ≡ begun_item recorded call.old) }
 {
-    if !begins_module(state) {
+    if !begins_module(call) {
         return;
     }
-    state.turn_module();
+    call.turn_module();
 }
 
 /// One item of a module, in so many levels. Decorators before it are read as the code around.
-fn item_alone<I: Tokens, T: BuildsStatements + BuildsExport + BuildsVarDecl>(
+fn item_alone<O: Origin, I: Tokens, T: BuildsStatements + BuildsExport + BuildsVarDecl>(
     t: &MakerOf<T>,
-    state: &mut State<I>,
+    call: &mut Call<O, I>,
     limit: usize,
 ) -> PResult<T::Item>
-    ensures { (recorded : List Fault) × GivesAs (λ x. (T.item_of x, map as_note recorded)) (item_whole limit recorded state.old) result state.new }
+    ensures { (recorded : List Fault) × GivesAs (λ x. (T.item_of x, map as_note recorded)) (item_whole limit recorded call.old) result call.new }
 {
-    if !begins_decorators(state) {
-        begin_item(state);
-        return module_item::<State<I>, T>(t, state, limit);
+    if !begins_decorators(call) {
+        begin_item(call);
+        return module_item::<Call<O, I>, T>(t, call, limit);
     }
     if limit == 0 {
-        return Err(state.too_deep());
+        return Err(call.too_deep());
     }
-    let list = leading::<State<I>, T>(t, state, limit - 1)?;
-    begin_item(state);
-    item_behind::<State<I>, T>(t, state, limit - 1, list)
+    let list = leading::<Call<O, I>, T>(t, call, limit - 1)?;
+    begin_item(call);
+    item_behind::<Call<O, I>, T>(t, call, limit - 1, list)
+}
+
+/// Reads one item of a module.
+fn item_in<O: Origin, I: Tokens, T: BuildsStatements + BuildsExport + BuildsVarDecl>(
+    alloc: Global,
+    call: &mut Call<O, I>,
+    limit: usize,
+) -> PResult<T::Item>
+    ensures answers { (s : reader.State) → call.old ≡ begun s → AnswersItem T.item_of limit (unmarked s) result call.new }
+    ensures at_end { (s : reader.State) → call.old ≡ begun s → s.at.left ≡ []
+        → (call.new.scope.mark ≡ None) × IsErrAnd result (λ e. fault_of e ≡ reader.fault_at (reader.end_of s.at.last) Eof) }
+    ensures ahead { (s : reader.State) → call.old ≡ begun s → lacks_ahead s.at ≡ true → IsErrAnd result (λ e. call.new.scope.mark ≡ Some mark.OutOfMemory) }
+{
+    if call.is_marked() {
+        return Err(call.lost());
+    }
+    if call.sees(TokenKind::End) {
+        return Err(call.eof());
+    }
+    let maker: MakerOf<T> = Maker::new(alloc);
+    let read = item_alone::<O, I, T>(&maker, call, limit);
+    maker.finish();
+    read
+}
+
+/// One item of a module, from where the call begins.
+fn item_from<O: Origin, I: Tokens, T: BuildsStatements + BuildsExport + BuildsVarDecl>(
+    alloc: Global,
+    state: State<I>,
+    limit: usize,
+) -> (State<I>, PResult<T::Item>)
+    requires { O.start ≡ state }
+    ensures answers { AnswersItem T.item_of limit (unmarked state) result.1 result.0 }
+    ensures at_end { state.at.left ≡ [] → IsErrAnd result.1 (λ e. fault_of e ≡ reader.fault_at (reader.end_of state.at.last) Eof) }
+    ensures refused { OnErr result.1 (IsRestored state result.0) }
+    ensures leaves { Leaves O.start result.0 }
+    ensures says { IfErr result.1 (λ e. Says result.0.scope.mark (kind_of e.kind)) }
+    ensures ahead { lacks_ahead state.at ≡ true → IsErrAnd result.1 (λ e. kind_of e.kind ≡ OutOfMemory) }
+{
+    let outer = state.flags();
+    let found_module_item = state.found_module_item();
+    let mut call = state.begin::<O>();
+    match item_in::<O, I, T>(alloc, &mut call, limit) {
+        Ok(item) => (call.end(), Ok(item)),
+        Err(error) => {
+            let (state, told) = refused(call, error, outer, found_module_item);
+            (state, Err(told))
+        }
+    }
 }
 
 /// One item of a module, which may nest so many levels deep.
 pub fn item<I: Tokens, T: BuildsStatements + BuildsExport + BuildsVarDecl>(
     alloc: Global,
-    state: &mut State<I>,
+    state: State<I>,
     limit: usize,
-) -> PResult<T::Item>
-    ensures answers { AnswersItem T.item_of limit (unmarked state.old) result state.new }
-    ensures refused { OnErr result (IsRestored state.old state.new) }
+) -> (State<I>, PResult<T::Item>)
+    ensures answers { AnswersItem T.item_of limit (unmarked state) result.1 result.0 }
+    ensures at_end { state.at.left ≡ [] → IsErrAnd result.1 (λ e. fault_of e ≡ reader.fault_at (reader.end_of state.at.last) Eof) }
+    ensures refused { OnErr result.1 (IsRestored state result.0) }
+    ensures leaves { Leaves state result.0 }
+    ensures says { IfErr result.1 (λ e. Says result.0.scope.mark (kind_of e.kind)) }
+    ensures ahead { lacks_ahead state.at ≡ true → IsErrAnd result.1 (λ e. kind_of e.kind ≡ OutOfMemory) }
+{
+    item_from::<Brand, I, T>(alloc, state, limit)
+}
+
+/// Reads a statement in its place.
+fn statement_in<O: Origin, I: Tokens, T: BuildsStatements>(
+    alloc: Global,
+    call: &mut Call<O, I>,
+    limit: usize,
+    at: Position,
+) -> PResult<T::Stmt>
+    ensures answers { (s : reader.State) → call.old ≡ begun s → AnswersStatement T.stmt_of limit at.include_decl at.top_level (unmarked s) result call.new }
+    ensures at_end { (s : reader.State) → call.old ≡ begun s → s.at.left ≡ []
+        → (call.new.scope.mark ≡ None) × IsErrAnd result (λ e. fault_of e ≡ reader.fault_at (reader.end_of s.at.last) Eof) }
+    ensures ahead { (s : reader.State) → call.old ≡ begun s → lacks_ahead s.at ≡ true → IsErrAnd result (λ e. call.new.scope.mark ≡ Some mark.OutOfMemory) }
+{
+    if call.is_marked() {
+        return Err(call.lost());
+    }
+    if call.sees(TokenKind::End) {
+        return Err(call.eof());
+    }
+    let maker: MakerOf<T> = Maker::new(alloc);
+    let read = whole_stmt::<Call<O, I>, T>(&maker, call, limit, at);
+    maker.finish();
+    read
+}
+
+/// A statement in its place, from where the call begins.
+fn statement_from<O: Origin, I: Tokens, T: BuildsStatements>(
+    alloc: Global,
+    state: State<I>,
+    limit: usize,
+    at: Position,
+) -> (State<I>, PResult<T::Stmt>)
+    requires { O.start ≡ state }
+    ensures answers { AnswersStatement T.stmt_of limit at.include_decl at.top_level (unmarked state) result.1 result.0 }
+    ensures at_end { state.at.left ≡ [] → IsErrAnd result.1 (λ e. fault_of e ≡ reader.fault_at (reader.end_of state.at.last) Eof) }
+    ensures refused { OnErr result.1 (IsRestored state result.0) }
+    ensures leaves { Leaves O.start result.0 }
+    ensures says { IfErr result.1 (λ e. Says result.0.scope.mark (kind_of e.kind)) }
+    ensures ahead { lacks_ahead state.at ≡ true → IsErrAnd result.1 (λ e. kind_of e.kind ≡ OutOfMemory) }
 {
     let outer = state.flags();
     let found_module_item = state.found_module_item();
-    state.begin();
-    let maker: MakerOf<T> = Maker::new(alloc);
-    let read = item_alone::<I, T>(&maker, state, limit);
-    maker.finish();
-    match read {
-        Ok(item) => Ok(item),
+    let mut call = state.begin::<O>();
+    match statement_in::<O, I, T>(alloc, &mut call, limit, at) {
+        Ok(statement) => (call.end(), Ok(statement)),
         Err(error) => {
-            state.restore(outer, found_module_item);
-            Err(error)
+            let (state, told) = refused(call, error, outer, found_module_item);
+            (state, Err(told))
         }
     }
 }
@@ -168,24 +395,16 @@ pub fn item<I: Tokens, T: BuildsStatements + BuildsExport + BuildsVarDecl>(
 /// A statement in its place, which may nest so many levels deep.
 pub fn statement<I: Tokens, T: BuildsStatements>(
     alloc: Global,
-    state: &mut State<I>,
+    state: State<I>,
     limit: usize,
     at: Position,
-) -> PResult<T::Stmt>
-    ensures answers { AnswersStatement T.stmt_of limit at.include_decl at.top_level (unmarked state.old) result state.new }
-    ensures refused { OnErr result (IsRestored state.old state.new) }
+) -> (State<I>, PResult<T::Stmt>)
+    ensures answers { AnswersStatement T.stmt_of limit at.include_decl at.top_level (unmarked state) result.1 result.0 }
+    ensures at_end { state.at.left ≡ [] → IsErrAnd result.1 (λ e. fault_of e ≡ reader.fault_at (reader.end_of state.at.last) Eof) }
+    ensures refused { OnErr result.1 (IsRestored state result.0) }
+    ensures leaves { Leaves state result.0 }
+    ensures says { IfErr result.1 (λ e. Says result.0.scope.mark (kind_of e.kind)) }
+    ensures ahead { lacks_ahead state.at ≡ true → IsErrAnd result.1 (λ e. kind_of e.kind ≡ OutOfMemory) }
 {
-    let outer = state.flags();
-    let found_module_item = state.found_module_item();
-    state.begin();
-    let maker: MakerOf<T> = Maker::new(alloc);
-    let read = whole_stmt::<State<I>, T>(&maker, state, limit, at);
-    maker.finish();
-    match read {
-        Ok(statement) => Ok(statement),
-        Err(error) => {
-            state.restore(outer, found_module_item);
-            Err(error)
-        }
-    }
+    statement_from::<Brand, I, T>(alloc, state, limit, at)
 }

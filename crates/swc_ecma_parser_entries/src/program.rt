@@ -11,13 +11,13 @@ use swc_ecma_parser_inner::steps::since;
 use swc_ecma_parser_input::{Context, Tokens};
 use swc_ecma_parser_module_items::programs::{items_from, statements};
 use swc_ecma_parser_source::Source;
-use swc_ecma_parser_state::State;
+use swc_ecma_parser_state::{Call, Origin};
 use swc_ecma_parser_token::TokenKind;
 use swc_ecma_parser_trees::{BuildsExport, BuildsStatements, BuildsVarDecl, MakerOf};
 
 /// Whether statements that end here are a script: nothing was read that makes a module of them.
 #[tactic(auto, unfolding(swc_ecma_parser_reader::specs::Reader::at_end))]
-fn is_script<I: Tokens>(state: &State<I>) -> bool
+fn is_script<O: Origin, I: Tokens>(state: &Call<O, I>) -> bool
     ensures { result ≡ (at_end state.now.at && not state.now.notes.found_module_item) }
 {
     state.sees(TokenKind::End) && !state.found_module_item()
@@ -25,26 +25,25 @@ fn is_script<I: Tokens>(state: &State<I>) -> bool
 
 /// A program, whose items may stand so many levels deep, in code that can become a module's. A script leaves the context `outer`
 /// behind it, which stood before; a module leaves module code.
-pub(crate) fn program_body<I: Tokens, T: BuildsStatements + BuildsExport + BuildsVarDecl>(
-    t: &MakerOf<T>,
-    state: &mut State<I>,
-    limit: usize,
-    outer: Context,
-) -> PResult<T::Program>
+pub(crate) fn program_body<
+    O: Origin,
+    I: Tokens,
+    T: BuildsStatements + BuildsExport + BuildsVarDecl,
+>(t: &MakerOf<T>, state: &mut Call<O, I>, limit: usize, outer: Context) -> PResult<T::Program>
     ensures answers { (s : reader.State) → outer ≡ s.code.flags → state.old ≡ reader.coded (program_code s.code) s
         → AnswersProgram T.program_of limit s result state.new }
     ensures outright { state.old.at.left ≡ [] → IsOk result }
 {
     let start = state.span();
     let shebang = state.shebang()?;
-    let front = statements::<State<I>, T>(t, state, limit)?;
+    let front = statements::<Call<O, I>, T>(t, state, limit)?;
     if is_script(state) {
         let span = since(state, start);
         state.leave_program(outer);
         return Ok(T::script_program(T::script(span, front.before, shebang)));
     }
     state.enter_module();
-    let body = items_from::<State<I>, T>(t, state, limit, front)?;
+    let body = items_from::<Call<O, I>, T>(t, state, limit, front)?;
     let span = since(state, start);
     Ok(T::module_program(T::module(span, body, shebang)))
 }

@@ -1,5 +1,82 @@
+ghost use Rattle.std.specs.Prelude.{◌≡◌, IfOk};
+
 use crate::error::{Error, PResult};
+use std::alloc::{AllocError, Global};
 use swc_ecma_parser_common::{Atom, Boxed, Span};
+
+/// Two texts of a fault: of what was wanted and of the token that was found in its place.
+#[derive(Debug, PartialEq, Eq, Drop)]
+pub struct Texts {
+    pub wanted: Atom,
+    pub found: Atom,
+}
+
+impl Texts {
+    ghost use Rattle.std.specs.Prelude.{◌≡◌, IfOk};
+
+    /// Copies of both texts, in a block of their own; it fails only where memory runs out.
+    fn new(alloc: Global, wanted: &str, found: &str) -> Result<Boxed<Texts>, AllocError>
+        ensures wanted { IfOk result (λ texts. texts.wanted ≡ wanted.now) }
+        ensures found { IfOk result (λ texts. texts.found ≡ found.now) }
+    {
+        let texts = Texts {
+            wanted: Atom::new(alloc, wanted)?,
+            found: Atom::new(alloc, found)?,
+        };
+        Boxed::new(alloc, texts)
+    }
+
+    /// Equal texts, or no memory.
+    pub fn try_clone(&self) -> Result<Texts, AllocError>
+        ensures { IfOk result (λ texts. texts ≡ self.now) }
+    {
+        Ok(Texts {
+            wanted: self.wanted.try_clone()?,
+            found: self.found.try_clone()?,
+        })
+    }
+}
+
+/// A refusal with the place that it belongs to, and a note on it.
+#[cycle(error)]
+#[derive(Debug, PartialEq, Eq, Drop)]
+pub struct Labelled {
+    pub inner: Error,
+    pub span: Span,
+    pub note: Atom,
+}
+
+impl Labelled {
+    ghost use Rattle.std.specs.Prelude.{◌≡◌, IfOk, IfErr};
+    ghost use Rattle.swc_ecma_parser_error.specs.Kind.{fault_of, no_memory};
+
+    /// An equal one, or a fault of kind `OutOfMemory` at 0.
+    #[cycle(copy)]
+    pub fn try_clone(&self) -> PResult<Labelled>
+        ensures ok { IfOk result (λ labelled. labelled ≡ self.now) }
+        ensures err { IfErr result (λ e. fault_of e ≡ no_memory) }
+    {
+        Ok(Labelled {
+            inner: self.inner.try_clone()?,
+            span: self.span,
+            note: self.note.try_clone()?,
+        })
+    }
+}
+
+/// An equal text in a block of its own, or no memory.
+fn copied(text: &Boxed<Atom>) -> Result<Boxed<Atom>, AllocError>
+    ensures { IfOk result (λ copy. copy ≡ text.now) }
+{
+    Boxed::new(text.allocator(), text.get().try_clone()?)
+}
+
+/// Equal texts in a block of their own, or no memory.
+fn copied_texts(texts: &Boxed<Texts>) -> Result<Boxed<Texts>, AllocError>
+    ensures { IfOk result (λ copy. copy ≡ texts.now) }
+{
+    Boxed::new(texts.allocator(), texts.get().try_clone()?)
+}
 
 /// What is wrong. Kinds that the walk over a finished tree finds too stand first.
 #[cycle(error)]
@@ -17,7 +94,7 @@ pub enum SyntaxError {
     /// `return` outside functions.
     ReturnNotAllowed,
     /// A label inside an equal one, which it holds.
-    DuplicateLabel(Atom),
+    DuplicateLabel(Boxed<Atom>),
     /// A labelled function in strict code.
     LabelledFunctionInStrict,
     /// A labelled generator.
@@ -31,7 +108,7 @@ pub enum SyntaxError {
     /// An initializer in a `for` head before `in` or `of`.
     VarInitializerInForInHead,
     /// An export that needs `from`; it holds the name.
-    ExportExpectFrom(Atom),
+    ExportExpectFrom(Boxed<Atom>),
     /// A string exported without `from`.
     ExportBindingIsString,
     // Recorded where something was read that no tree holds, or may have been.
@@ -44,7 +121,7 @@ pub enum SyntaxError {
     /// A modifier that does not belong here.
     TS1184,
     /// `static` before a constructor; it holds the modifier.
-    TS1089(Atom),
+    TS1089(Boxed<Atom>),
     /// Decorators before what takes none.
     InvalidLeadingDecorator,
     // Recorded, and left to the reader of the list.
@@ -87,29 +164,22 @@ pub enum SyntaxError {
     /// `with` in module code.
     WithInStrict,
     /// A reserved word as a statement in module code; it holds the word.
-    InvalidIdentInStrict(Atom),
+    InvalidIdentInStrict(Boxed<Atom>),
     // Refused.
     /// The list of tokens has ended.
     Eof,
     /// Another token was wanted: its spelling, and the text of the one found.
-    Expected(Atom, Atom),
-    /// No rule takes this token.
-    Unexpected {
-        got: Atom,
-        expected: Atom,
-    },
+    Expected(Boxed<Texts>),
+    /// No rule takes this token: what stands here, and the text of the one found.
+    Unexpected(Boxed<Texts>),
     /// A name was wanted.
     ExpectedIdent,
     /// An expression statement without its end; `expr` is its expression.
-    ExpectedSemiForExprStmt {
-        expr: Span,
-    },
+    ExpectedSemiForExprStmt { expr: Span },
     /// `throw` at the end of a line.
     LineBreakInThrow,
     /// A second `default`; `previous` is the first one.
-    MultipleDefault {
-        previous: Span,
-    },
+    MultipleDefault { previous: Span },
     /// A pattern declared without initializer.
     PatVarWithoutInit,
     /// `for await` without `of`.
@@ -125,7 +195,7 @@ pub enum SyntaxError {
     /// A reserved word imported without `as`.
     ReservedWordInImport,
     /// A string imported without `as`; it holds the string.
-    ImportBindingIsString(Atom),
+    ImportBindingIsString(Boxed<Atom>),
     /// A field named `constructor`.
     PropertyNamedConstructor,
     /// An async method named `constructor`.
@@ -145,11 +215,7 @@ pub enum SyntaxError {
     /// `super` where it may not stand.
     InvalidSuper,
     /// A refusal with the place that it belongs to.
-    WithLabel {
-        inner: Boxed<Error>,
-        span: Span,
-        note: Atom,
-    },
+    WithLabel(Boxed<Labelled>),
     /// Memory ran out.
     OutOfMemory,
     /// Nested deeper than the limit.
@@ -189,6 +255,21 @@ macro_rules! copy {
 impl SyntaxError {
     ghost use Rattle.std.specs.Prelude.{◌≡◌, IfOk, IfErr};
     ghost use Rattle.swc_ecma_parser_error.specs.Kind.{fault_of, kind_of, name_of, no_memory};
+    ghost use Rattle.swc_ecma_parser_error.specs.Kind as kinds;
+
+    /// Another token was wanted: its spelling, and the text of the one found. It fails only where memory runs out.
+    pub fn expected(alloc: Global, wanted: &str, found: &str) -> Result<SyntaxError, AllocError>
+        ensures { IfOk result (λ k. kind_of k ≡ kinds.Expected) }
+    {
+        Ok(SyntaxError::Expected(Texts::new(alloc, wanted, found)?))
+    }
+
+    /// No rule takes the token found: what may stand here, and its text. It fails only where memory runs out.
+    pub fn unexpected(alloc: Global, wanted: &str, found: &str) -> Result<SyntaxError, AllocError>
+        ensures { IfOk result (λ k. kind_of k ≡ kinds.Unexpected) }
+    {
+        Ok(SyntaxError::Unexpected(Texts::new(alloc, wanted, found)?))
+    }
 
     /// The name of the kind, as the code spells it.
     pub fn name(&self) -> &'static str
@@ -237,34 +318,22 @@ impl SyntaxError {
             OutOfMemory TooDeep UnexpectedChar UnterminatedStrLit UnterminatedBlockComment
             InvalidNumber InvalidStrEscape
         ], {
-            SyntaxError::DuplicateLabel(text) => SyntaxError::DuplicateLabel(text.try_clone()?),
-            SyntaxError::ExportExpectFrom(text) => SyntaxError::ExportExpectFrom(text.try_clone()?),
-            SyntaxError::TS1089(text) => SyntaxError::TS1089(text.try_clone()?),
-            SyntaxError::InvalidIdentInStrict(text) => SyntaxError::InvalidIdentInStrict(
-                text.try_clone()?,
-            ),
-            SyntaxError::Expected(wanted, found) => SyntaxError::Expected(
-                wanted.try_clone()?,
-                found.try_clone()?,
-            ),
-            SyntaxError::Unexpected { got, expected } => SyntaxError::Unexpected {
-                got: got.try_clone()?,
-                expected: expected.try_clone()?,
-            },
+            SyntaxError::DuplicateLabel(text) => SyntaxError::DuplicateLabel(copied(text)?),
+            SyntaxError::ExportExpectFrom(text) => SyntaxError::ExportExpectFrom(copied(text)?),
+            SyntaxError::TS1089(text) => SyntaxError::TS1089(copied(text)?),
+            SyntaxError::InvalidIdentInStrict(text) => SyntaxError::InvalidIdentInStrict(copied(text)?),
+            SyntaxError::Expected(texts) => SyntaxError::Expected(copied_texts(texts)?),
+            SyntaxError::Unexpected(texts) => SyntaxError::Unexpected(copied_texts(texts)?),
             SyntaxError::ExpectedSemiForExprStmt { expr } => SyntaxError::ExpectedSemiForExprStmt {
                 expr: *expr,
             },
             SyntaxError::MultipleDefault { previous } => SyntaxError::MultipleDefault {
                 previous: *previous,
             },
-            SyntaxError::ImportBindingIsString(text) => SyntaxError::ImportBindingIsString(
-                text.try_clone()?,
+            SyntaxError::ImportBindingIsString(text) => SyntaxError::ImportBindingIsString(copied(text)?),
+            SyntaxError::WithLabel(labelled) => SyntaxError::WithLabel(
+                Boxed::new(labelled.allocator(), labelled.get().try_clone()?)?,
             ),
-            SyntaxError::WithLabel { inner, span, note } => SyntaxError::WithLabel {
-                inner: Boxed::new(inner.allocator(), inner.get().try_clone()?)?,
-                span: *span,
-                note: note.try_clone()?,
-            },
         });
         Ok(copy)
     }

@@ -6,4 +6,4 @@ mod kind;
 mod texts;
 
 pub use error::{Error, PResult};
-pub use kind::SyntaxError;
+pub use kind::{Labelled, SyntaxError, Texts};

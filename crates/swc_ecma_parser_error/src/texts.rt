@@ -8,12 +8,18 @@ impl fmt::Display for SyntaxError {
     #[cycle(display)]
     fn fmt<W: fmt::Write>(&self, f: &mut fmt::Formatter<W>) -> fmt::Result {
         match self {
-            SyntaxError::Expected(wanted, found) => write!(f, "Expected '{wanted}', got '{found}'"),
-            SyntaxError::Unexpected { got, expected } => {
+            SyntaxError::Expected(texts) => {
+                let wanted = &texts.get().wanted;
+                let found = &texts.get().found;
+                write!(f, "Expected '{wanted}', got '{found}'")
+            }
+            SyntaxError::Unexpected(texts) => {
+                let expected = &texts.get().wanted;
+                let got = &texts.get().found;
                 write!(f, "Unexpected token '{got}'. Expected {expected}")
             }
-            SyntaxError::WithLabel { inner, .. } => {
-                let inner = inner.get();
+            SyntaxError::WithLabel(labelled) => {
+                let inner = &labelled.get().inner;
                 write!(f, "{inner}")
             }
             SyntaxError::ExportBindingIsString => write!(

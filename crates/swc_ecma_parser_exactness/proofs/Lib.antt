@@ -12,3 +12,4 @@ pub mod Unique
 pub mod Decides
 pub mod ModuleDecides
 pub mod Decided
+pub mod Walked

@@ -49,7 +49,7 @@ module _ (In : Goal → Type 0) (small : (g : Goal) → In g → WholeGoal g) wh
   using_whole : {k : Code} {at : Position} {x : Tree} {c d : Place} → UsingRule In k at x c d → Whole x
   using_whole {k = k} {x = x} {c = c} {d = d} r =
       as_form x (tree.using (spanned c d) r.is_await (listed r.declarators)) r.is
-      (list_whole r.declarators (separated_whole (UsingDeclaratorRule In k) (using_declarator_whole k) r.declarators (after r.word) d r.reads))
+      (list_whole r.declarators (separated_whole (UsingDeclaratorRule In k) (using_declarator_whole k) r.declarators (after r.word) r.behind r.reads))
 
   -- ---- the heads of `for`
 
@@ -79,7 +79,7 @@ module _ (In : Goal → Type 0) (small : (g : Goal) → In g → WholeGoal g) wh
   using_head_whole : {k : Code} {x : Tree} {c d : Place} → UsingHeadRule In k x c d → Whole x
   using_head_whole {x = x} {c = c} {d = d} (heads.using_head_rule y r e) =
       as_form x (tree.using (spanned c d) false (listed (y ∷ []))) e (list_whole (y ∷ []) (using_name_whole r, tt))
-  using_head_whole {k = k} {x = x} {c = c} {d = d} (heads.await_using_head_rule y h i r e) =
+  using_head_whole {k = k} {x = x} {c = c} {d = d} (heads.await_using_head_rule y h i l r e) =
       as_form x (tree.using (spanned c d) true (listed (y ∷ []))) e (list_whole (y ∷ []) (small (using_goal k y (after c) d) r, tt))
 
   of_left_whole : {k : Code} {is_await : Bool} {x : Tree} {c d : Place} → OfLeftRule In k is_await x c d → Whole x

@@ -3,3 +3,4 @@ pub mod Completes
 pub mod Unique
 pub mod Decides
 pub mod ModuleDecides
+pub mod Walked

@@ -139,7 +139,7 @@ module _ (inner : Reader Tree) (below : Straight inner) (params : Reader (List T
 
   arrow_block_straight : (w : Bool) → Straight (arrow_block inner params w)
   unfolding arrow_block
-  arrow_block_straight w s f = within_reads (enclosed (braced inner false)) (λ t g. enclosed_reads (braced inner false) (braced_straight inner below false) t (first g)) (λ k. with_in (in_arrow k w)) s (first f)
+  arrow_block_straight w s f = within_reads (enclosed (braced inner true)) (λ t g. enclosed_reads (braced inner true) (braced_straight inner below true) t (first g)) (λ k. with_in (in_arrow k w)) s (first f)
 
   -- a function as a part of an expression
   pub functions_straight : (pat inner_class : Reader Tree) → Straight pat → Straight inner_class → FunctionsStraight (function_by inner params pat inner_class)

@@ -12,3 +12,4 @@ pub mod Loops
 pub mod Statements
 pub mod Levels
 pub mod Entries
+pub mod Leaves

@@ -22,15 +22,15 @@ use Rattle.swc_ecma_parser_grammar.specs.language.Contexts.{in_loop, without_in}
 use Rattle.swc_ecma_parser_grammar.specs.language.Goals.{Class, expression, assignment}
 use Rattle.swc_ecma_parser_reader.specs.Expressions.{Cover}
 use Rattle.swc_ecma_parser_forward.specs.Forward.{forward}
-use Rattle.swc_ecma_parser_reader.specs.Reader.{missing_initializer, uninitialized, ends_declarators, missing_at, no_declarator, initialized, declarator, declarators_turn, declarators, declaration_end, variables, misusing, using_from, using_stmt, await_using_stmt, await_using_or, Opening, Nothing, Variables, Resource, Named, Expression, unfollowed, as_init, as_left, undeclared, head_variables, using_head, named_head, await_or_expression, async_head, head_expression, await_head, async_or_expression, head_target, opening, head_part, await_here, unless_awaited, misdeclared, for_parts, for_in, for_of, for_behind, for_stmt}
-use Rattle.swc_ecma_parser_reader.specs.State.{State, Reader, moved, coded, within, fault, fault_at, expect}
+use Rattle.swc_ecma_parser_reader.specs.Reader.{missing_initializer, uninitialized, ends_declarators, missing_at, no_declarator, initialized, declarator, declarators_turn, declarators, declaration_end, variables, misusing, using_from, using_stmt, await_using_stmt, await_using_or, Opening, Nothing, Variables, Resource, Named, Expression, unfollowed, as_init, as_left, undeclared, head_variables, using_head, named_head, await_or_expression, async_head, head_expression, await_head, async_or_expression, head_target, opening, head_part, await_here, unless_awaited, misdeclared, for_parts, for_in, for_of, for_behind, for_stmt, begins_await_head}
+use Rattle.swc_ecma_parser_reader.specs.State.{State, Reader, moved, coded, within, fault, fault_at, expect, end}
 use Rattle.swc_ecma_parser_reader.proofs.Behind.{Passes, behind_self}
 use Rattle.swc_ecma_parser_reader.proofs.Recovered.{declaration_end_keeps}
 use Rattle.swc_ecma_parser_reader.proofs.Meets.{Meets, Refuses, meets_then, meets_if, wanted_meets, loop_answers}
 use Rattle.swc_ecma_parser_reader.proofs.expressions.SoundSteps.{reject_meets, meets_as}
 use Rattle.swc_ecma_parser_forward.proofs.Operands.{ReadCover, StraightCover, covers, close_meets, target_reads, moved_on}
 use Rattle.swc_ecma_parser_forward.proofs.Places.{far, Past, Ahead, Passed, Read, ReadPart, ReadMany, Straight, both, onward, first, taken, next, behind, node, reads, reads_part, since_forward, past_less, part_of}
-use Rattle.swc_ecma_parser_forward.proofs.Steps.{fault_past, told_past, expect_past, within_reads, kept_past}
+use Rattle.swc_ecma_parser_forward.proofs.Steps.{fault_past, told_past, expect_past, within_reads, kept_past, end_past}
 use Rattle.swc_ecma_parser_forward.proofs.Trees.{one_more}
 
 -- ---- variables
@@ -79,7 +79,8 @@ module _ (list : Reader (List Tree)) (below_list : (m : ℕ) (s : State) → Pas
   using_from_reads is_await m start b s a = meets_then _ (within with_in list (moved s)) _
       (meets_then (ReadMany m) (list (coded (with_in s.code) (moved s))) _ (below_list m (coded (with_in s.code) (moved s)) (taken a)) (λ xs t k. k)) (λ xs t h.
       meets_then _ (misusing (record { lo = start.lo; hi = t.at.last.hi }) xs t) _ (told_past m _ t h.place) (λ _ u g.
-      moved_on (node start (tree.using _ is_await (listed xs)) b h.place (λ e. both e h.straight) refl) g))
+      meets_then _ (end faults.Expected u) _ (end_past m faults.Expected u g) (λ _ v j.
+      node start (tree.using _ is_await (listed xs)) b j (λ e. both e h.straight) refl)))
 
   pub using_straight : Straight (using_stmt list)
   unfolding using_stmt
@@ -172,7 +173,7 @@ module _ (expr : Class → Reader Tree) (pat : Reader Tree) (below : (class : Cl
         (λ _. meets_if _ (sees kind.Const s.at) _ _ (λ _. head_variables_read decl.Const m s h)
         (λ _. meets_if _ (is_let_declaration s.at) _ _ (λ _. head_variables_read decl.Let m s h)
         (λ _. meets_if _ (may_declare_using s.code s.at) _ _ (λ _. named_head_reads m s h)
-        (λ _. meets_if _ (sees kind.Await s.at) _ _ (λ _. await_head_reads m s h)
+        (λ _. meets_if _ (begins_await_head s.at) _ _ (λ _. await_head_reads m s h)
         (λ _. meets_if _ is_await _ _ (λ _. async_or_reads m s h) (λ _. head_expression_reads m s h)))))))
 
 -- ---- loops

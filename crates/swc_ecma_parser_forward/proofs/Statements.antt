@@ -22,7 +22,7 @@ use Rattle.swc_ecma_parser_grammar.specs.language.Goals.{Class, expression, left
 use Rattle.swc_ecma_parser_grammar.specs.language.Items.{sub_statement, labelled_item}
 use Rattle.swc_ecma_parser_reader.specs.Expressions.{Cover}
 use Rattle.swc_ecma_parser_forward.specs.Forward.{forward}
-use Rattle.swc_ecma_parser_reader.specs.Reader.{target, unbroken, break_stmt, uncontinued, continue_stmt, misplaced, operand, returned, return_stmt, lacks_end, operators_on, stmt_end, empty, debugger, declarators, variables, note_with, note_statement, no_label, expr_stmt, expr_stmt_at, optional_end, import_stmt, import_stmt_at, thrown, throw, head, while_stmt, with_stmt, do_while, Link, goes_on, condition, alternative, link_from, link, links, if_stmt, begins_label, relabels, labelled_body, labeled_stmt, other_stmt, begins_clause, closes_clause, clause_from, default_clause, case_clause, clause, clauses_turn, clauses, switch_stmt, begins_at, is_handled, handled, bound, parameter, finalizer, caught, handler, try_stmt, stray, items, braced, function_decl, function_stmt, const_stmt, let_stmt, using_or_other, async_or_other, stmt_by, stmt_level}
+use Rattle.swc_ecma_parser_reader.specs.Reader.{target, unbroken, break_stmt, uncontinued, continue_stmt, misplaced, operand, returned, return_stmt, lacks_end, operators_on, stmt_end, empty, debugger, declarators, variables, note_with, note_statement, no_label, expr_stmt, expr_stmt_at, optional_end, import_stmt_at, thrown, throw, head, while_stmt, with_stmt, do_while, Link, goes_on, condition, alternative, link_from, link, links, if_stmt, begins_label, relabels, labelled_body, labeled_stmt, other_stmt, begins_clause, closes_clause, clause_from, default_clause, case_clause, clause, clauses_turn, clauses, switch_stmt, begins_at, is_handled, handled, bound, parameter, finalizer, caught, handler, try_stmt, stray, items, braced, function_decl, function_stmt, const_stmt, let_stmt, using_or_other, async_or_other, stmt_by, stmt_level}
 use Rattle.swc_ecma_parser_reader.specs.State.{State, Outcome, Reader, attempted, moved, coded, noted, holding_back, module_fault, below, below_label, within, fault, fault_at, wanted, labelled, labelled_as, reference, name, expect, end}
 use Rattle.swc_ecma_parser_reader.proofs.Behind.{Kept, Lost, behind_self}
 use Rattle.swc_ecma_parser_reader.proofs.Keeps.{stray_keeps}
@@ -67,7 +67,7 @@ continue_straight s f = let m = far (after s.at) in meets_then _ (target (moved 
     meets_then _ (end faults.Expected t) _ (end_past m faults.Expected t h.place) (λ _ u g.
     meets_then _ (uncontinued x (record { lo = (span_at s.at).lo; hi = u.at.last.hi }) u) _ (told_past m _ u g) (λ _ v k. moved_on (node (span_at s.at) (tree.continue _ x) f.begins g (λ e. both e h.straight) refl) k)))
 
-pub optional_end_past : (m : ℕ) (s : State) → Past m s.at → Meets (Passed m) (optional_end s)
+optional_end_past : (m : ℕ) (s : State) → Past m s.at → Meets (Passed m) (optional_end s)
 unfolding optional_end
 optional_end_past m s h = meets_if (Passed m) (sees kind.Semi s.at) _ _ (λ _. next h) (λ _. h)
 
@@ -128,14 +128,9 @@ module _ (expr : Reader Tree) (below : Straight expr) where
     unfolding expr_stmt_at
     expr_stmt_at_straight at s f = meets_if _ (may_begin_expression_statement at s.at) _ _ (λ _. expr_stmt_straight s f) (λ _. wanted_meets _ faults.Unexpected s)
 
-  import_stmt_straight : Straight (import_stmt expr)
-  unfolding import_stmt spanned
-  import_stmt_straight s f = let m = far (after s.at) in meets_then _ (within with_in expr s) _ (whole_reads m s (first f)) (λ x t h.
-      meets_then _ (optional_end t) _ (optional_end_past m t h.place) (λ _ u g. node (span_at s.at) (tree.expr_stmt _ x) f.begins g (λ e. both e h.straight) refl))
-
-  import_stmt_at_straight : Straight (import_stmt_at expr)
-  unfolding import_stmt_at
-  import_stmt_at_straight s f = meets_if _ (begins_import_expression s.at) _ _ (λ _. import_stmt_straight s f) (λ _. refuse_meets _ faults.ImportExportInScript s)
+    import_stmt_at_straight : Straight (import_stmt_at expr operators)
+    unfolding import_stmt_at
+    import_stmt_at_straight s f = meets_if _ (begins_import_expression s.at) _ _ (λ _. expr_stmt_straight s f) (λ _. refuse_meets _ faults.ImportExportInScript s)
 
   -- ---- `return` and `throw`
 
@@ -385,8 +380,8 @@ module _ (stmt : Position → Reader Tree) (expr : Class → Reader Tree) (pat :
   by_straight kind.Function s f e = function_straight s f
   by_straight kind.Class s f e = class_stmt_straight (expr left_side) member (below left_side) below_member at s f
   by_straight kind.Ident s f e = async_or_straight s f
-  by_straight kind.Import s f e = import_stmt_at_straight (expr expression) (below expression) s f
-  by_straight kind.Export s f e = import_stmt_at_straight (expr expression) (below expression) s f
+  by_straight kind.Import s f e = import_stmt_at_straight (expr expression) (below expression) operators below_operators s f
+  by_straight kind.Export s f e = import_stmt_at_straight (expr expression) (below expression) operators below_operators s f
   by_straight _ s f e = any_other s f
 
   pub level_straight : Straight (stmt_level stmt expr pat head_cover params member operators at)

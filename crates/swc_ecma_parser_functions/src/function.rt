@@ -105,6 +105,7 @@ fn first_use_strict<T: BuildsBlock>(stmts: &[T::Stmt]) -> Option<Span>
 }
 
 /// Parameters, in what stands around them.
+#[inline(never)]
 pub fn parameters_inside<
     P: Source,
     T: BuildsPattern,
@@ -122,7 +123,7 @@ pub fn parameters_inside<
     Ok(found)
 }
 
-/// The statements of a body, from its `{` to its `}`, with directives or without.
+/// The statements of a body, from its `{` to its `}`.
 #[tactic(auto, unfolding(swc_ecma_parser_reader::specs::Reader::braced, swc_ecma_parser_reader::specs::Reader::block_from, swc_ecma_parser_grammar::specs::Looks::spanned))]
 fn block<
     P: Source,
@@ -130,19 +131,14 @@ fn block<
     S: Fn(&MakerOf<T>, &mut P, usize, Position) -> PResult<T::Stmt>,
     E: Fn(&MakerOf<T>, &mut P, usize, Reading) -> PResult<Cover<T::Expr>>,
     N: Fn(&MakerOf<T>, &mut P, usize, Part) -> PResult<T::Pat>,
->(
-    g: &Grammar<S, E, N>,
-    t: &MakerOf<T>,
-    p: &mut P,
-    directives: bool,
-) -> PResult<FunctionBody<T::Block>>
+>(g: &Grammar<S, E, N>, t: &MakerOf<T>, p: &mut P) -> PResult<FunctionBody<T::Block>>
     requires { Nests P.seen T.expr_of T.pat_of T.stmt_of g.now.depth (S.pre g.now.stmt) (S.post g.now.stmt) (E.pre g.now.expr) (E.post g.now.expr) (N.pre g.now.pat) (N.post g.now.pat) }
-    ensures gives { GivesAs (λ body. T.block_of body.block) (rules.braced (rules.stmt g.now.depth nested_item) directives (P.seen p.old)) result (P.seen p.new) }
+    ensures gives { GivesAs (λ body. T.block_of body.block) (rules.braced (rules.stmt g.now.depth nested_item) true (P.seen p.old)) result (P.seen p.new) }
     ensures directive { IfOk result (λ body. own.misplaced_directive false (T.block_of body.block) ≡ late body.strict_directive) }
 {
     let start = p.span();
     p.expect(TokenKind::LBrace, "{")?;
-    let stmts = body_items(g, t, p, Body::in_braces(directives))?;
+    let stmts = body_items(g, t, p, Body::Function)?;
     close(t.alloc, p)?;
     let span = since(p, start);
     let strict_directive = first_use_strict::<T>(&stmts);
@@ -153,7 +149,8 @@ fn block<
     })
 }
 
-/// Statements in braces as a body, in what stands around them, with directives or without.
+/// Statements in braces as a body, in what stands around them.
+#[inline(never)]
 pub fn inner_body<
     P: Source,
     T: BuildsBlock,
@@ -165,16 +162,15 @@ pub fn inner_body<
     t: &MakerOf<T>,
     p: &mut P,
     manner: Manner,
-    directives: bool,
 ) -> PResult<FunctionBody<T::Block>>
     requires { Nests P.seen T.expr_of T.pat_of T.stmt_of g.now.depth (S.pre g.now.stmt) (S.post g.now.stmt) (E.pre g.now.expr) (E.post g.now.expr) (N.pre g.now.pat) (N.post g.now.pat) }
-    ensures gives { GivesAs (λ body. T.block_of body.block) (within (λ k. contexts.in_body k manner.is_async manner.is_generator) (enclosed (rules.braced (rules.stmt g.now.depth nested_item) directives)) (P.seen p.old)) result (P.seen p.new) }
+    ensures gives { GivesAs (λ body. T.block_of body.block) (within (λ k. contexts.in_body k manner.is_async manner.is_generator) (enclosed (rules.braced (rules.stmt g.now.depth nested_item) true)) (P.seen p.old)) result (P.seen p.new) }
     ensures directive { IfOk result (λ body. own.misplaced_directive false (T.block_of body.block) ≡ late body.strict_directive) }
 {
     let outer = p.flags();
     p.set_flags(in_body(outer, manner));
     let around = p.enter_body(t.alloc);
-    let body = block(g, t, p, directives)?;
+    let body = block(g, t, p)?;
     p.leave_body(around);
     p.set_flags(outer);
     Ok(body)
@@ -198,7 +194,7 @@ pub fn function_body<
     ensures gives { GivesAs (λ body. T.block_of body.block) (rules.function_body (rules.stmt g.now.depth nested_item) (rules.parameters g.now.depth) manner.is_async manner.is_generator (P.seen p.old)) result (P.seen p.new) }
     ensures directive { IfOk result (λ body. own.misplaced_directive false (T.block_of body.block) ≡ late body.strict_directive) }
 {
-    inner_body(g, t, p, manner, true)
+    inner_body(g, t, p, manner)
 }
 
 /// Patterns as parameters, each as long as its pattern.
@@ -325,6 +321,7 @@ pub fn function_parts<
 
 /// A function that is declared.
 #[tactic(auto, unfolding(swc_ecma_parser_reader::specs::Reader::function_decl))]
+#[inline(never)]
 pub fn function_decl<
     P: Source,
     T: BuildsDecl + BuildsPattern,
@@ -368,6 +365,7 @@ pub fn function_stmt<
 }
 
 /// The name of a function that is an expression, read in the function's own code, if there is one.
+#[inline(never)]
 fn own_name<P: Source>(p: &mut P, manner: Manner) -> PResult<Option<Ident>>
     ensures { GivesAs (part_of word_of) (rules.own_name manner.is_async manner.is_generator (P.seen p.old)) result (P.seen p.new) }
 {
@@ -384,6 +382,7 @@ fn own_name<P: Source>(p: &mut P, manner: Manner) -> PResult<Option<Ident>>
 
 /// A function that is an expression.
 #[tactic(auto, unfolding(swc_ecma_parser_reader::specs::Reader::function, swc_ecma_parser_reader::specs::Reader::function_by, swc_ecma_parser_reader::specs::Reader::function_expr))]
+#[inline(never)]
 pub fn function_expr<
     P: Source,
     T: BuildsFunction + BuildsPattern,

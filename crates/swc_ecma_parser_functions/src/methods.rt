@@ -54,6 +54,7 @@ const PLAIN: Manner = Manner {
 
 /// The words before a key, if any stand there.
 #[tactic(auto, unfolding(swc_ecma_parser_reader::specs::Methods::method_words, swc_ecma_parser_reader::specs::Methods::starred))]
+#[inline(never)]
 pub fn method_words<P: Source>(p: &mut P) -> PResult<MethodForm>
     ensures { GivesAs form_of (methods.method_words (P.seen p.old)) result (P.seen p.new) }
 {
@@ -77,6 +78,7 @@ pub fn method_words<P: Source>(p: &mut P) -> PResult<MethodForm>
 }
 
 /// A getter has no parameter; else its word is refused.
+#[inline(never)]
 fn no_parameter<P: Source, T: Trees>(p: &mut P, params: &[T::Pat], word: Span) -> PResult<()>
     ensures { Gives (rules.no_parameter word (map T.pat_of params.now) (P.seen p.old)) result (P.seen p.new) }
 {
@@ -87,6 +89,7 @@ fn no_parameter<P: Source, T: Trees>(p: &mut P, params: &[T::Pat], word: Span) -
 }
 
 /// A setter has one parameter, which is no rest; else its word is refused.
+#[inline(never)]
 fn one_parameter<P: Source, T: BuildsPattern>(
     p: &mut P,
     params: Vec<T::Pat>,
@@ -109,6 +112,7 @@ fn one_parameter<P: Source, T: BuildsPattern>(
 
 /// A getter, from behind its key.
 #[tactic(auto, unfolding(swc_ecma_parser_reader::specs::Reader::getter))]
+#[inline(never)]
 fn getter<
     P: Source,
     T: BuildsMethod + BuildsPattern,
@@ -138,6 +142,7 @@ fn getter<
 
 /// A setter, from behind its key.
 #[tactic(auto, unfolding(swc_ecma_parser_reader::specs::Reader::setter))]
+#[inline(never)]
 fn setter<
     P: Source,
     T: BuildsMethod + BuildsPattern,
@@ -168,6 +173,7 @@ fn setter<
 
 /// A method that is no accessor, from behind its key.
 #[tactic(auto, unfolding(swc_ecma_parser_reader::specs::Reader::plain_method))]
+#[inline(never)]
 fn plain_method<
     P: Source,
     T: BuildsMethod + BuildsPattern,
@@ -193,6 +199,7 @@ fn plain_method<
 
 /// A method, from behind its key.
 #[tactic(auto, unfolding(swc_ecma_parser_reader::specs::Reader::function, swc_ecma_parser_reader::specs::Reader::function_by))]
+#[inline(never)]
 pub fn method<
     P: Source,
     T: BuildsMethod + BuildsPattern,

@@ -1,11 +1,11 @@
 -- Behind `await using` a name on its line goes on with no expression, so where that declares no expression statement begins.
 use Rattle.std.proofs.Common.{◌≡◌, ℕ, zero, suc, Bool, true, false, List, refl, sym, ◌∙◌, ap, codes, true≢false}
-use Rattle.std.specs.Prelude.{◌||◌}
+use Rattle.std.specs.Prelude.{not, ◌||◌}
 use Rattle.swc_ecma_parser_token.specs.declared.kind.TokenKind.TheVariants as kind
 use Rattle.swc_ecma_parser_input.specs.Place.{Place, after}
 use Rattle.swc_ecma_parser_model.specs.Tree.{Tree}
 use Rattle.swc_ecma_parser_grammar.specs.declared.position.Position.{Position}
-use Rattle.swc_ecma_parser_grammar.specs.Looks.{kind_at, sees, same_kind}
+use Rattle.swc_ecma_parser_grammar.specs.Looks.{kind_at, breaks_at, sees, same_kind}
 use Rattle.swc_ecma_parser_grammar.specs.Names.{Code}
 use Rattle.swc_ecma_parser_grammar.specs.Ends.{Ends, by_semicolon, by_insertion, can_end}
 use Rattle.swc_ecma_parser_grammar.specs.Follows.{word_at}
@@ -93,13 +93,19 @@ module _ (k : Code) (c : Place) (a : kind_at c ≡ kind.Await) (h : is_using_dec
 
 -- what it says that `await using` declares here
 pub declares_behind_await : (at : Position) (k : Code) (c : Place) → is_await_using_declaration at k c ≡ true
-    → (at.include_decl || at.top_level ≡ true) × (kind_at c ≡ kind.Await) × (is_using_declaration k (after c) ≡ true)
+    → (at.include_decl || at.top_level ≡ true) × (kind_at c ≡ kind.Await) × (is_using_declaration k (after c) ≡ true) × (breaks_at (after c) ≡ false)
 unfolding is_await_using_declaration
 declares_behind_await at k c h =
     let g = and_yes (sees kind.Await c) _ h in
     let i = and_yes (at.include_decl || at.top_level) _ g.1 in
-    (i.0, kind_seen kind.Await c g.0, i.1)
+    let j = and_yes (not (breaks_at (after c))) _ i.1 in
+    (i.0, kind_seen kind.Await c g.0, j.1, unbroken (breaks_at (after c)) j.0)
+  where
+    unbroken : (b : Bool) → not b ≡ true → b ≡ false
+    unbroken true e = cc
+    unbroken false e = refl
 
-pub behind_await_declares : (at : Position) (k : Code) (c : Place) → at.include_decl || at.top_level ≡ true → kind_at c ≡ kind.Await → is_using_declaration k (after c) ≡ true → is_await_using_declaration at k c ≡ true
+pub behind_await_declares : (at : Position) (k : Code) (c : Place) → at.include_decl || at.top_level ≡ true → kind_at c ≡ kind.Await → breaks_at (after c) ≡ false → is_using_declaration k (after c) ≡ true
+    → is_await_using_declaration at k c ≡ true
 unfolding is_await_using_declaration same_kind
-behind_await_declares at k c h e i = rw (e, h, i) refl
+behind_await_declares at k c h e b i = rw (e, h, b, i) refl

@@ -33,7 +33,7 @@ keyword_ends : {X : Type 0} (k : Keyword) → ends_name (keyword_kind k) ≡ tru
 keyword_ends keyword.Await e = cc
 keyword_ends _ e = cc
 
-word_ends : {X : Type 0} (w : Word) → ends_name (word_kind w) ≡ true → X
+pub word_ends : {X : Type 0} (w : Word) → ends_name (word_kind w) ≡ true → X
 word_ends (word.Keyword k) e = keyword_ends k e
 word_ends _ e = cc
 

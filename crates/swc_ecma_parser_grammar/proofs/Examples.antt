@@ -217,8 +217,34 @@ string = stmt (tree.str o (codes "x") (codes "'x'"))
 strict_function : walk plain (script (use_strict 0 13 ∷ labelled (at 17 31) ∷ [])) ≡ fault kind.LabelledFunctionInStrict 17 31 ∷ []
 strict_function = refl
 
-second_string : walk plain (script (string ∷ use_strict 0 13 ∷ labelled (at 17 31) ∷ [])) ≡ []
+second_string : walk plain (script (string ∷ use_strict 5 18 ∷ labelled (at 22 36) ∷ [])) ≡ fault kind.LabelledFunctionInStrict 22 36 ∷ []
 second_string = refl
+
+-- a string that is no directive, `'x'; a: function f(){}`, and what stands before the strings, `a; 'use strict'; a: function f(){}`
+plain_string : walk plain (script (string ∷ labelled (at 8 22) ∷ [])) ≡ []
+plain_string = refl
+
+behind_others : walk plain (script (stmt a ∷ use_strict 3 16 ∷ labelled (at 20 34) ∷ [])) ≡ []
+behind_others = refl
+
+-- `{ 'use strict'; } a: function f(){}` and `{ 'use strict'; a: function f(){} }`: a block of its own has no directives
+in_a_block : walk plain (script (block (use_strict 2 15 ∷ []) ∷ labelled (at 21 35) ∷ [])) ≡ []
+in_a_block = refl
+
+behind_in_a_block : walk plain (script (block (use_strict 2 15 ∷ labelled (at 19 33) ∷ []) ∷ [])) ≡ []
+behind_in_a_block = refl
+
+-- `'x'; 'use strict'; 'use strict'; a: function f(){} a: function f(){}`: all that stands behind it
+behind_it : walk plain (script (string ∷ use_strict 5 18 ∷ use_strict 19 32 ∷ labelled (at 36 50) ∷ labelled (at 54 68) ∷ []))
+    ≡ fault kind.LabelledFunctionInStrict 36 50 ∷ fault kind.LabelledFunctionInStrict 54 68 ∷ []
+behind_it = refl
+
+-- `() => { 'use strict'; a: function f(){} }` and `() => { 'x'; 'use strict'; a: function f(){} }`
+strict_arrow : walk plain (tree.arrow o nothing (block (use_strict 8 21 ∷ labelled (at 25 39) ∷ [])) false) ≡ fault kind.LabelledFunctionInStrict 25 39 ∷ []
+strict_arrow = refl
+
+second_in_an_arrow : walk plain (tree.arrow o nothing (block (string ∷ use_strict 13 26 ∷ labelled (at 30 44) ∷ [])) false) ≡ fault kind.LabelledFunctionInStrict 30 44 ∷ []
+second_in_an_arrow = refl
 
 -- `a: function* g() {}`
 labelled_generator : walk plain (tree.labeled o a (tree.fn_decl a (tree.function (at 3 19) nothing nothing (block []) false true))) ≡ fault kind.LabelledGeneratorOrAsync 3 19 ∷ []

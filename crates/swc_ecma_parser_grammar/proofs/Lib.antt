@@ -32,6 +32,7 @@ mod UnspelledAwait
 mod SpellingItems
 mod SpelledStatements
 mod SpelledLoops
+mod SpelledDirectives
 mod SpelledItems
 mod ReadWithFaults
 pub mod ExpressionBegins

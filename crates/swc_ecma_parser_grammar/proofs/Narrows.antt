@@ -104,9 +104,9 @@ module _ (n : ℕ) (k : Code) where
       → StmtRule (ReadsStmt n) (ReadsClass n) (ReadsPat n) (ReadsTarget n) (ReadsParams n) (ReadsNamedClass n) k at x c d
   using_narrows at x c d r h =
       let f = supported_as _ x (tree.using (spanned c d) r.is_await (listed r.declarators)) r.is h in
-      using_rule r.is_await r.declarators r.word r.has_place r.reads_await r.begins
-      (separated_narrow k.flags.module (declarations.UsingDeclaratorRule (Reads n) k) (DeclaratorRule (ReadsClass n assignment) (ReadsPat n) (with_in k) false decl.Var) using_declarator_narrows r.declarators (after r.word) d r.reads f)
-      (so_set k.setting.explicit_resource_management (spanned c d) r.declarators r.is_read (declarators_used (spanned c d) r.declarators (after r.word) d r.reads)) r.is
+      using_rule r.is_await r.declarators r.word r.behind r.has_place r.reads_await r.on_line r.begins
+      (separated_narrow k.flags.module (declarations.UsingDeclaratorRule (Reads n) k) (DeclaratorRule (ReadsClass n assignment) (ReadsPat n) (with_in k) false decl.Var) using_declarator_narrows r.declarators (after r.word) r.behind r.reads f)
+      (so_set k.setting.explicit_resource_management (spanned c r.behind) r.declarators r.is_read (declarators_used (spanned c r.behind) r.declarators (after r.word) r.behind r.reads)) r.ends r.is
 
 -- ---- the head of a `for`
 
@@ -137,12 +137,12 @@ of_left_narrows n is_await {k = k} {x = x} {c = c} {d = d} (heads.of_using_rule 
     let g = and_yes (supported_in k.flags.module (tree.declarator (spanned (after c) d) r.name tree.absent)) true
     (supported_as k.flags.module x (tree.using (spanned c d) false (listed (tree.declarator (spanned (after c) d) r.name tree.absent ∷ []))) f h) in
     of_using_rule r.name (in_head_declares k c i r.begins (bound_stands n k r.name (after c) d r.is_name r.reads_name) r.no_of) (r.reads_name, (and_yes (supported_in k.flags.module r.name) true g.0).0) r.is_name f
-of_left_narrows n is_await {k = k} {x = x} {c = c} {d = d} (heads.of_using_rule i (heads.await_using_head_rule y a b r e)) h =
+of_left_narrows n is_await {k = k} {x = x} {c = c} {d = d} (heads.of_using_rule i (heads.await_using_head_rule y a b l r e)) h =
     let q = await_using_narrows n k y c d a b r in
     let f = e ∙ ap (λ z. tree.using (spanned c d) true (listed (z ∷ []))) q.is in
     let g = and_yes (supported_in k.flags.module (tree.declarator (spanned (after (after c)) d) q.name tree.absent)) true
     (supported_as k.flags.module x (tree.using (spanned c d) true (listed (tree.declarator (spanned (after (after c)) d) q.name tree.absent ∷ []))) f h) in
-    of_await_rule q.words q.name (after (after c)) i (q.reads_words, q.supports) q.are_words q.no_of (q.reads_name, (and_yes (supported_in k.flags.module q.name) true g.0).0) q.is_name f
+    of_await_rule q.words q.name (after (after c)) i (q.reads_words, q.supports) q.are_words l q.no_of (q.reads_name, (and_yes (supported_in k.flags.module q.name) true g.0).0) q.is_name f
 
 part_narrows : (n : ℕ) {k : Code} {x : Tree} {c d : Place} → heads.PartRule (Reads n) k x c d → supported_in k.flags.module x ≡ true → PartRule (ReadsClass n) k x c d
 part_narrows n (heads.no_part_rule g e) h = no_part_rule g e

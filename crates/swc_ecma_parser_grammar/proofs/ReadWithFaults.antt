@@ -9,7 +9,7 @@ use Rattle.swc_ecma_parser_input.specs.Place.{Place}
 use Rattle.swc_ecma_parser_model.specs.declared.leaves.VarDeclKind.TheVariants as decl
 use Rattle.swc_ecma_parser_model.specs.Tree as tree
 use Rattle.swc_ecma_parser_model.specs.Tree.{Tree, listed}
-use Rattle.swc_ecma_parser_grammar.specs.Ends.{by_semicolon, by_a_semicolon}
+use Rattle.swc_ecma_parser_grammar.specs.Ends.{by_semicolon}
 use Rattle.swc_ecma_parser_grammar.specs.Walk.{walk, env_of}
 use Rattle.swc_ecma_parser_grammar.specs.Follows.{no_await}
 use Rattle.swc_ecma_parser_grammar.specs.language.Lists.{no_comma}
@@ -177,7 +177,7 @@ exported_without_a_source = (
             closes = refl;
             next = refl;
           })))
-          refl (by_a_semicolon refl refl) refl),
+          refl (by_semicolon refl refl) refl),
       (refl, refl),
       refl,
     )

@@ -11,7 +11,7 @@ use Rattle.swc_ecma_parser_model.specs.declared.leaves.MetaPropKind.TheVariants 
 use Rattle.swc_ecma_parser_model.specs.Tree as tree
 use Rattle.swc_ecma_parser_model.specs.Tree.{Tree, listed}
 use Rattle.swc_ecma_parser_grammar.specs.Names.{Code}
-use Rattle.swc_ecma_parser_grammar.specs.Ends.{by_semicolon, by_insertion, by_a_semicolon, by_nothing}
+use Rattle.swc_ecma_parser_grammar.specs.Ends.{by_semicolon, by_insertion}
 use Rattle.swc_ecma_parser_grammar.specs.language.Lists.{no_comma}
 use Rattle.swc_ecma_parser_grammar.specs.language.Parts.{no_name}
 use Rattle.swc_ecma_parser_grammar.specs.language.Parts.{a_name as given_name}
@@ -64,19 +64,19 @@ await_at_the_top = (
   refl,
 )
 
--- `import.meta a`
+-- `import.meta; a`
 abbrev import_meta : Place
-import_meta = start (t (keyword keyword.Import) 0 6 ∷ t token.Dot 6 7 ∷ t (named (codes "meta")) 7 11 ∷ t (named (codes "a")) 12 13 ∷ [])
+import_meta = start (t (keyword keyword.Import) 0 6 ∷ t token.Dot 6 7 ∷ t (named (codes "meta")) 7 11 ∷ t token.Semi 11 12 ∷ t (named (codes "a")) 13 14 ∷ [])
 
-meta_outside_functions : Spells 2 program plain [] (module_of 0 13 (expr_stmt 0 11 (tree.meta_prop (at 0 11) meta.ImportMeta) ∷ expr_stmt 12 13 (id 12 13 (codes "a")) ∷ [])) import_meta (behind 4 import_meta)
+meta_outside_functions : Spells 2 program plain [] (module_of 0 14 (expr_stmt 0 12 (tree.meta_prop (at 0 11) meta.ImportMeta) ∷ expr_stmt 13 14 (id 13 14 (codes "a")) ∷ [])) import_meta (behind 5 import_meta)
 unfolding sights
 meta_outside_functions = (
   (
-    whole_items 2 false (entry_code program plain) (_ ∷ _ ∷ []) false import_meta (behind 4 import_meta) refl (
-      behind 3 import_meta,
+    whole_items 2 false (entry_code program plain) (_ ∷ _ ∷ []) false import_meta (behind 5 import_meta) refl (
+      behind 4 import_meta,
       false,
-      statement_rule (refl, import_expr_rule _ (behind 3 import_meta) refl (assignment_rule (value (import_meta_rule refl refl refl refl refl refl, refl) refl) refl) (by_nothing refl refl) refl),
-      (behind 4 import_meta, false, statement_rule (refl, expr_rule _ (behind 4 import_meta) refl (name_expression refl) refl (by_insertion refl refl refl) refl), (refl, refl), refl),
+      statement_rule (refl, import_expr_rule _ (behind 3 import_meta) refl (assignment_rule (value (import_meta_rule refl refl refl refl refl refl, refl) refl) refl) (by_semicolon refl refl) refl),
+      (behind 5 import_meta, false, statement_rule (refl, expr_rule _ (behind 5 import_meta) refl (name_expression refl) refl (by_insertion refl refl refl) refl), (refl, refl), refl),
       refl,
     )
         refl,
@@ -248,7 +248,7 @@ unfolding sights
 an_item_alone = (
   (
     export_item_rule (export_names_rule [] (behind 3 export_nothing) refl
-        (names_rule (braces_rule refl (record { close = behind 2 export_nothing; opens = refl; reads_specifiers = refl; closes = refl; next = refl }))) refl (by_a_semicolon refl refl) refl),
+        (names_rule (braces_rule refl (record { close = behind 2 export_nothing; opens = refl; reads_specifiers = refl; closes = refl; next = refl }))) refl (by_semicolon refl refl) refl),
     λ h. refl,
   ),
   refl,

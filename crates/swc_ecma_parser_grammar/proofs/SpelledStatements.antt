@@ -20,7 +20,7 @@ use Rattle.swc_ecma_parser_grammar.specs.language.Patterns.{binding_name_rule, r
 use Rattle.swc_ecma_parser_grammar.specs.language.Patterns.{object_rule as object_pattern_rule}
 use Rattle.swc_ecma_parser_grammar.specs.language.Expressions.{operand_rule, await_rule, single_rule, operators_rule, assignment_rule}
 use Rattle.swc_ecma_parser_grammar.specs.language.Declarations.{plain_rule, initialized_rule}
-use Rattle.swc_ecma_parser_grammar.specs.language.Statements.{if_rule, no_else_rule, else_rule, case_clause_rule, catch_rule, catch_parameter_rule, no_finally_rule, no_operand_rule, no_target_rule, function_rule, variables_rule, using_rule, block_rule, empty_rule, with_rule, return_rule, labeled_rule, break_rule, if_statement_rule, switch_rule, throw_rule, try_rule, expr_rule}
+use Rattle.swc_ecma_parser_grammar.specs.language.Statements.{if_rule, no_else_rule, else_rule, case_clause_rule, catch_rule, catch_parameter_rule, no_finally_rule, no_operand_rule, no_target_rule, function_rule, variables_rule, using_rule, block_rule, with_rule, return_rule, labeled_rule, break_rule, if_statement_rule, switch_rule, throw_rule, try_rule, expr_rule}
 use Rattle.swc_ecma_parser_grammar.specs.language.Programs.{Spells, script, stmt}
 use Rattle.swc_ecma_parser_grammar.proofs.Spelling.{at, t, below, named, keyword, equals, start, behind, plain, a_token, a_word, a_name, operand, value, name_value}
 use Rattle.swc_ecma_parser_grammar.proofs.SpellingItems.{sights, name_expression, id, bound, expr_stmt, block, script_of, whole_script}
@@ -185,7 +185,7 @@ await_is_a_name =
     )
     refl refl
 
--- `using a = b;` where `using` is read: its `;` is a statement
+-- `using a = b;` where `using` is read: its span holds its `;`
 abbrev managing : Code
 managing = record plain { setting = record plain.setting { explicit_resource_management = true } }
 
@@ -194,13 +194,13 @@ using = start (t (named (codes "using")) 0 5 ∷ t (named (codes "a")) 6 7 ∷ t
 
 abbrev using_tree : Tree
 using_tree =
-    script_of 0 12 (tree.using (at 0 11) false (listed (tree.declarator (at 6 11) (bound 6 7 (codes "a")) (id 10 11 (codes "b")) ∷ [])) ∷ tree.empty (at 11 12) ∷ [])
+    script_of 0 12 (tree.using (at 0 12) false (listed (tree.declarator (at 6 11) (bound 6 7 (codes "a")) (id 10 11 (codes "b")) ∷ [])) ∷ [])
 
-using_has_no_end : Spells 2 script managing [] using_tree using (behind 5 using)
+using_has_its_end : Spells 2 script managing [] using_tree using (behind 5 using)
 unfolding sights
-using_has_no_end =
-    whole_script 2 managing (_ ∷ _ ∷ []) using (behind 5 using) refl (
-      behind 4 using,
+using_has_its_end =
+    whole_script 2 managing (_ ∷ []) using (behind 5 using) refl (
+      behind 5 using,
       (
         refl,
         using_rule (record {
@@ -210,7 +210,9 @@ using_has_no_end =
           is_read = refl;
           has_place = refl;
           reads_await = no_await refl refl;
+          on_line = refl;
           begins = refl;
+          behind = behind 4 using;
           reads = (
             record {
               name = _;
@@ -224,10 +226,11 @@ using_has_no_end =
             },
             refl,
           );
+          ends = by_semicolon refl refl;
           is = refl;
         }),
       ),
-      (behind 5 using, (refl, empty_rule refl refl refl), refl),
+      refl,
     )
     refl refl
 

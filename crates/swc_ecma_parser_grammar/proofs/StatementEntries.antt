@@ -69,7 +69,7 @@ left_unnoted n {x = x} {c = c} {d = d} o (left_target_rule h r) = pattern_unnote
 of_left_unnoted : (n : ℕ) {w : Bool} {k : Code} {x : Tree} {c d : Place} → k.flags.module ≡ true → OfLeftRule (ReadsClass n) (ReadsPat n) (ReadsTarget n) k w x c d → notes x ≡ []
 of_left_unnoted n o (of_left_rule r i) = left_unnoted n o r
 of_left_unnoted n {k = k} {c = c} {d = d} o (of_using_rule name h r i e) = ap notes e ∙ rw (pattern_unnoted n binding k name (after c) d o r.0 r.1) refl
-of_left_unnoted n {k = k} {d = d} o (of_await_rule y name m s r u h q i e) = ap notes e ∙ rw (pattern_unnoted n binding k name m d o q.0 q.1) refl
+of_left_unnoted n {k = k} {d = d} o (of_await_rule y name m s r u l h q i e) = ap notes e ∙ rw (pattern_unnoted n binding k name m d o q.0 q.1) refl
 
 part_unnoted : (n : ℕ) {k : Code} {x : Tree} {c d : Place} → k.flags.module ≡ true → PartRule (ReadsClass n) k x c d → notes x ≡ []
 part_unnoted n o (no_part_rule g e) = ap notes e
@@ -147,7 +147,7 @@ module _ (n : ℕ) (small : (k : Code) (at : Position) (x : Tree) (c d : Place) 
   rule_unnoted k at x c d o (empty_rule h g e) = ap notes e
   rule_unnoted k at x c d o (debugger_rule h g e) = ap notes e
   rule_unnoted k at x c d o (variables_rule word xs m a h r g e) = ap notes e ∙ declarators_unnoted n (with_in k) false word xs (after c) m o r
-  rule_unnoted k at x c d o (using_rule v xs m a w b r f e) = ap notes e ∙ declarators_unnoted n (with_in k) false _ xs (after m) d o r
+  rule_unnoted k at x c d o (using_rule v xs m i a w l b r f u e) = ap notes e ∙ declarators_unnoted n (with_in k) false _ xs (after m) i o r
   rule_unnoted k at x c d o (if_statement_rule r) = if_unnoted o r
   rule_unnoted k at x c d o (switch_rule y xs m i h r j s g t e) = ap notes e ∙ joined (notes y) _ (head_unnoted n o r) (cases_unnoted (in_breakable k) false xs (after m) i o s)
   rule_unnoted k at x c d o (labeled_rule w s y m r f h t e) = ap notes e ∙ small (in_breakable k) (labelled_item (after m)) y (after m) d o t

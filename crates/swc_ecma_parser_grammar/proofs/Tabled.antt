@@ -10,7 +10,8 @@ use Rattle.swc_ecma_parser_model.specs.Forms.{span_of, is_ident_named, is_constr
 use Rattle.swc_ecma_parser_grammar.specs.Names.{is_one_of, reserved_words}
 use Rattle.swc_ecma_parser_model.specs.Within.{declared_name, is_initialized}
 use Rattle.swc_ecma_parser_grammar.specs.Own.{only, stands_around, break_faults, continue_faults, return_faults, labelled_function, duplicates, first_use_strict, misplaced_directive, second_constructor, surplus, head_faults, specifier_faults, each_specifier, export_faults}
-use Rattle.swc_ecma_parser_grammar.specs.Walk.{Env, directed, in_body, in_params, in_class, in_module, in_loop, in_switch, in_label, in_with, behind_item, decorator_env, walk, walk_body, walk_method, walk_class_body, walk_members, walk_exported, walk_decorators, walk_each_decorator, walk_module, walk_items, walks, is_tabled, tabled}
+use Rattle.swc_ecma_parser_grammar.specs.Walk.{Env, directed, in_body, in_params, in_class, in_module, in_loop, in_switch, in_label, in_with, behind_item, decorator_env, walk, walk_body, walk_arrow_body, walk_method, walk_class_body, walk_members, walk_exported, walk_decorators, walk_each_decorator, walk_module, walk_items, walks, is_tabled, tabled}
+use Rattle.swc_ecma_parser_grammar.specs.language.Items.{directs_on}
 use Rattle.swc_ecma_parser_grammar.specs.language.Laws.{WalkIsTabled}
 
 infixl 5 ◌and◌
@@ -124,7 +125,7 @@ mutual
   of_tree env (tree.super_prop s word prop) = of_tree env prop
   of_tree env (tree.call s callee args) = of_tree env callee and of_tree env args
   of_tree env (tree.new s callee args) = of_tree env callee and of_tree env args
-  of_tree env (tree.arrow s params body is_async) = of_tree env params and of_tree (in_body env) body and of_misplaced_directive (has_plain_params params) body
+  of_tree env (tree.arrow s params body is_async) = of_tree env params and of_arrow_body (in_body env) (walk (in_body env) body) body (of_tree (in_body env) body) and of_misplaced_directive (has_plain_params params) body
   of_tree env (tree.yield s arg delegate) = of_tree env arg
   of_tree env (tree.await s arg) = of_tree env arg
   of_tree env (tree.element spread e) = of_tree env e
@@ -205,6 +206,10 @@ mutual
   of_body env (tree.block s stmts) = of_body env stmts
   of_body env x = refl
 
+  of_arrow_body : (env : Env) (plain : List Fault) (x : Tree) → IsTabled plain → IsTabled (walk_arrow_body env plain x)
+  of_arrow_body env plain (tree.block s stmts) h = of_body env stmts
+  of_arrow_body env plain body h = h
+
   of_method : (env : Env) (key : List Fault) (x : Tree) → IsTabled key → IsTabled (walk_method env key x)
   of_method env key (tree.function s decorators params body is_async is_generator) h = of_tree env decorators and h and of_tree (in_params env) params and of_body (in_body env) body and of_misplaced_directive (has_plain_params params) body
   of_method env key fn h = h
@@ -238,11 +243,11 @@ mutual
 
   of_items : (env : Env) (directives : Bool) (xs : Trees) → IsTabled (walk_items env directives xs)
   of_items env directives none = refl
-  of_items env directives (also t ts) = of_tree env t and of_items (behind_item (directed env directives t) t) false ts
+  of_items env directives (also t ts) = of_tree env t and of_items (behind_item (directed env directives t) t) (directs_on directives t) ts
 
   of_trees : (env : Env) (directives : Bool) (xs : Trees) → IsTabled (walks env directives xs)
   of_trees env directives none = refl
-  of_trees env directives (also t ts) = of_tree env t and of_trees (directed env directives t) false ts
+  of_trees env directives (also t ts) = of_tree env t and of_trees (directed env directives t) (directs_on directives t) ts
 
 pub walk_is_tabled : WalkIsTabled
 walk_is_tabled = of_tree

@@ -16,8 +16,9 @@ use Rattle.swc_ecma_parser_model.specs.Tree.{Tree, Text, trees, listed}
 use Rattle.swc_ecma_parser_model.specs.Forms.{is_absent}
 use Rattle.swc_ecma_parser_model.specs.Directive.{is_use_strict}
 use Rattle.swc_ecma_parser_grammar.specs.declared.position.Position.{Position}
-use Rattle.swc_ecma_parser_grammar.specs.Looks.{kind_at, sees, same_kind, span_at, spanned}
+use Rattle.swc_ecma_parser_grammar.specs.Looks.{kind_at, breaks_at, sees, same_kind, span_at, spanned}
 use Rattle.swc_ecma_parser_grammar.specs.Names.{Code}
+use Rattle.swc_ecma_parser_grammar.specs.Ends.{Ends}
 use Rattle.swc_ecma_parser_grammar.specs.Follows.{AwaitWord}
 use Rattle.swc_ecma_parser_grammar.specs.Using.{is_using_declaration, misused, each_misused, using_faults}
 use Rattle.swc_ecma_parser_grammar.specs.Reads.{with_in, directed, directs_on, nested_item, top_item, DeclaratorRule, plain_rule, initialized_rule, ReadsSeparated, ReadsItems, StmtRule, block_rule, empty_rule, debugger_rule, variables_rule, using_rule, if_statement_rule, TargetRule, no_target_rule, target_rule, OperandRule, no_operand_rule, operand_rule, break_rule, continue_rule, return_rule, labeled_rule, HeadVariables, InitRule, no_init_rule, init_variables_rule, init_expression_rule, LeftRule, declared_rule, left_target_rule, for_in_rule, for_of_rule, head_code, PartRule, no_part_rule, part_rule, for_rule, CaseRule, case_clause_rule, default_clause_rule, ReadsCases, switch_rule, throw_rule, try_rule, with_rule, while_rule, do_while_rule, expr_rule, import_rule, ReadsBlock, CatchRule, no_catch_rule, catch_rule, catch_parameter_rule, FinallyRule, no_finally_rule, finally_rule, ReadsHead, IfRule, if_rule, ElseRule, no_else_rule, else_rule, else_if_rule, ReadsBraced, ReadsFunction, class_rule, function_rule, OfLeftRule, of_left_rule, of_using_rule, of_await_rule}
@@ -138,18 +139,21 @@ module _ (n : ℕ) (k : Code) where
   using_declarators_widen s (x ∷ y ∷ ys) c d (m, r, e, rs) f =
       let g = parted (misused s x) _ f in (m, using_declarator_widens s x c m r g.0, e, using_declarators_widen s (y ∷ ys) (after m) d rs g.1)
 
-  using_widens : (at : Position) (x : Tree) (c d : Place) (is_await : Bool) (xs : List Tree) (m : Place) → at.include_decl || (is_await && at.top_level) ≡ true → AwaitWord is_await c m → is_using_declaration k m ≡ true
-      → ReadsSeparated (DeclaratorRule (ReadsClass n assignment) (ReadsPat n) (with_in k) false decl.Var) xs (after m) d
-      → using_faults k.setting.explicit_resource_management (spanned c d) xs ≡ [] → x ≡ tree.using (spanned c d) is_await (listed xs) → declarations.UsingRule (Reads n) k at x c d
-  using_widens at x c d v xs m a w b r f e = let g = set_so k.setting.explicit_resource_management (spanned c d) xs f in record {
+  using_widens : (at : Position) (x : Tree) (c d : Place) (is_await : Bool) (xs : List Tree) (m i : Place) → at.include_decl || (is_await && at.top_level) ≡ true → AwaitWord is_await c m
+      → is_await && breaks_at m ≡ false → is_using_declaration k m ≡ true → ReadsSeparated (DeclaratorRule (ReadsClass n assignment) (ReadsPat n) (with_in k) false decl.Var) xs (after m) i
+      → using_faults k.setting.explicit_resource_management (spanned c i) xs ≡ [] → Ends i d → x ≡ tree.using (spanned c d) is_await (listed xs) → declarations.UsingRule (Reads n) k at x c d
+  using_widens at x c d v xs m i a w l b r f u e = let g = set_so k.setting.explicit_resource_management (spanned c i) xs f in record {
     is_await = v;
     word = m;
     declarators = xs;
     is_read = g.0;
     has_place = a;
     reads_await = w;
+    on_line = l;
     begins = b;
-    reads = using_declarators_widen (spanned c d) xs (after m) d r g.1;
+    behind = i;
+    reads = using_declarators_widen (spanned c i) xs (after m) i r g.1;
+    ends = u;
     is = e;
   }
 
@@ -183,7 +187,7 @@ left_supported n (left_target_rule h r) = r.1
 of_left_supported : (n : ℕ) {w : Bool} {k : Code} {x : Tree} {c d : Place} → OfLeftRule (ReadsClass n) (ReadsPat n) (ReadsTarget n) k w x c d → supported_in k.flags.module x ≡ true
 of_left_supported n (of_left_rule r i) = left_supported n r
 of_left_supported n {k = k} (of_using_rule name h r i e) = ap (supported_in k.flags.module) e ∙ rw r.1 refl
-of_left_supported n {k = k} (of_await_rule y name m s r u o q i e) = ap (supported_in k.flags.module) e ∙ rw q.1 refl
+of_left_supported n {k = k} (of_await_rule y name m s r u l o q i e) = ap (supported_in k.flags.module) e ∙ rw q.1 refl
 
 part_supported : (n : ℕ) {k : Code} {x : Tree} {c d : Place} → PartRule (ReadsClass n) k x c d → supported_in k.flags.module x ≡ true
 part_supported n {k = k} (no_part_rule g e) = ap (supported_in k.flags.module) e
@@ -203,9 +207,9 @@ of_left_widens n (of_left_rule r i) = heads.of_left_rule (left_widens n r) i
 of_left_widens n {k = k} {c = c} {d = d} (of_using_rule name h r i e) =
     let g = declares_in_head k c h in
     heads.of_using_rule g.0 (heads.using_head_rule (tree.declarator (spanned (after c) d) name tree.absent) (record { name = name; begins = g.1; no_of = g.3; reads_name = r.0; is_name = i; is = refl }) e)
-of_left_widens n {k = k} {c = c} {d = d} (of_await_rule y name m s r u o q i e) =
+of_left_widens n {k = k} {c = c} {d = d} (of_await_rule y name m s r u l o q i e) =
     let g = awaited_words n (without_in k) y c m r.0 u in
-    heads.of_using_rule s (heads.await_using_head_rule (tree.declarator (spanned m d) name tree.absent) g.stands (awaited_may k g.may) (await_using_widens n k y name c m d r.0 u o q.0 i) e)
+    heads.of_using_rule s (heads.await_using_head_rule (tree.declarator (spanned m d) name tree.absent) g.stands (awaited_may k g.may) l (await_using_widens n k y name c m d r.0 u o q.0 i) e)
 
 part_widens : (n : ℕ) {k : Code} {x : Tree} {c d : Place} → PartRule (ReadsClass n) k x c d → heads.PartRule (Reads n) k x c d
 part_widens n (no_part_rule g e) = heads.no_part_rule g e
@@ -270,7 +274,7 @@ module _ (n : ℕ) (small : (k : Code) (at : Position) (x : Tree) (c d : Place) 
   rule_supported k at x c d (empty_rule h g e) = ap (supported_in k.flags.module) e
   rule_supported k at x c d (debugger_rule h g e) = ap (supported_in k.flags.module) e
   rule_supported k at x c d (variables_rule word xs m a h r g e) = ap (supported_in k.flags.module) e ∙ declarators_supported n (with_in k) false word xs (after c) m r
-  rule_supported k at x c d (using_rule v xs m a w b r f e) = ap (supported_in k.flags.module) e ∙ declared_supported n k (spanned c d) xs (after m) d r
+  rule_supported k at x c d (using_rule v xs m i a w l b r f u e) = ap (supported_in k.flags.module) e ∙ declared_supported n k (spanned c i) xs (after m) i r
   rule_supported k at x c d (if_statement_rule r) = if_supported r
   rule_supported k at x c d (switch_rule y xs m i h r j s g t e) = ap (supported_in k.flags.module) e ∙ and_both (supported_in k.flags.module y) _ r.reads.1 (cases_supported (in_breakable k) false xs (after m) i s)
   rule_supported k at x c d (labeled_rule w s y m r f h t e) =
@@ -422,7 +426,7 @@ module _ (n : ℕ) (widen : (k : Code) (at : Position) (x : Tree) (c d : Place) 
   form_widens k at x c d (empty_rule h g e) = statements.empty_rule h g e
   form_widens k at x c d (debugger_rule h g e) = statements.debugger_rule h g e
   form_widens k at x c d (variables_rule word xs m a h r g e) = statements.variables_rule word xs m a (h, declarators_widen n (with_in k) false word xs (after c) m r) g e
-  form_widens k at x c d (using_rule v xs m a w b r f e) = statements.using_rule (using_widens n k at x c d v xs m a w b r f e)
+  form_widens k at x c d (using_rule v xs m i a w l b r f u e) = statements.using_rule (using_widens n k at x c d v xs m i a w l b r f u e)
   form_widens k at x c d (if_statement_rule r) = statements.if_statement_rule (if_widens r)
   form_widens k at x c d (switch_rule y xs m i h r j s g t e) =
       statements.switch_rule y xs m i h (head_widens r) j (cases_widen (in_breakable k) false xs (after m) i s) (one_at_most (in_breakable k) xs (after m) i s) g t e

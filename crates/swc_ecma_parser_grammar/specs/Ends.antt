@@ -17,8 +17,7 @@ pub data Ends (c d : Place) : Type 0 where
   by_semicolon : kind_at c ≡ kind.Semi → d ≡ after c → Ends c d
   by_insertion : sees kind.Semi c ≡ false → can_end c ≡ true → d ≡ c → Ends c d
 
--- An end that nothing demands, whatever follows: that of `do .. while (..)`, as the standard has it, and of the forms that follow
--- the crate.
+-- An end that nothing demands, whatever follows: that of `do .. while (..)` alone.
 pub data OptionalEnds (c d : Place) : Type 0 where
   by_a_semicolon : kind_at c ≡ kind.Semi → d ≡ after c → OptionalEnds c d
   by_nothing : sees kind.Semi c ≡ false → d ≡ c → OptionalEnds c d

@@ -12,7 +12,7 @@ use Rattle.swc_ecma_parser_model.specs.declared.leaves.VarDeclKind.{VarDeclKind}
 use Rattle.swc_ecma_parser_model.specs.declared.leaves.VarDeclKind.TheVariants as decl
 use Rattle.swc_ecma_parser_model.specs.Tree as tree
 use Rattle.swc_ecma_parser_model.specs.Tree.{Tree, listed}
-use Rattle.swc_ecma_parser_model.specs.Directive.{is_use_strict}
+use Rattle.swc_ecma_parser_model.specs.Directive.{is_string_statement, is_use_strict}
 use Rattle.swc_ecma_parser_model.specs.Forms.{is_absent, is_binding_name, is_ident, is_ident_named}
 use Rattle.swc_ecma_parser_grammar.specs.declared.position.Position.{Position}
 use Rattle.swc_ecma_parser_grammar.specs.Looks.{kind_at, breaks_at, sees, spanned}
@@ -69,13 +69,13 @@ ReadsSeparated Reads [] c d = ⊥
 ReadsSeparated Reads (x ∷ []) c d = Reads x c d × (sees kind.Comma d ≡ false)
 ReadsSeparated Reads (x ∷ y ∷ ys) c d = (m : Place) × Reads x c m × (kind_at m ≡ kind.Comma) × ReadsSeparated Reads (y ∷ ys) (after m) d
 
--- Directives, section 11.2.1: the first statement of a body that has directives can turn strict what follows it.
+-- Directives, section 11.2.1: each of the strings that stand first in a body with directives can turn strict what follows it.
 abbrev pub directed : Code → Bool → Tree → Code
 directed k directives x = if directives && is_use_strict x then in_strict k else k
 
 -- whether a statement behind this one can be a directive
 abbrev pub directs_on : Bool → Tree → Bool
-directs_on directives x = false
+directs_on directives x = directives && is_string_statement x
 
 -- statements one behind another, in a body with directives or without
 abbrev pub ReadsItems : (Code → Tree → Place → Place → Type 0) → Code → Bool → List Tree → Place → Place → Type 0
@@ -198,12 +198,13 @@ pub data LeftRule (Expr : Class → Code → Tree → Place → Place → Type 0
   left_target_rule : may_begin_head c ≡ true → Target (without_in k) x c d → LeftRule Expr Pat Target k x c d
 
 -- What stands before `of`: such variables or such a target, but not `async` on its line unless behind `for await`; or, with the setting,
--- `using` and a plain name that is not `of`, behind `await` too, where the two words are read as the expression that they are.
+-- `using` and a plain name that is not `of`, behind `await` on its line too, where the two words are read as the expression that they are.
 pub data OfLeftRule (Expr : Class → Code → Tree → Place → Place → Type 0) (Pat Target : Code → Tree → Place → Place → Type 0) (k : Code) (is_await : Bool) (x : Tree) (c d : Place) : Type 0 where
   of_left_rule : LeftRule Expr Pat Target k x c d → is_async_of is_await x d ≡ false → OfLeftRule Expr Pat Target k is_await x c d
   of_using_rule : (name : Tree) → may_declare_using k c ≡ true → Pat k name (after c) d → is_binding_name name ≡ true
       → x ≡ tree.using (spanned c d) false (listed (tree.declarator (spanned (after c) d) name tree.absent ∷ [])) → OfLeftRule Expr Pat Target k is_await x c d
-  of_await_rule : (e name : Tree) (m : Place) → k.setting.explicit_resource_management ≡ true → Expr expression (without_in k) e c m → awaits_using e ≡ true → word_at (codes "of") m ≡ false
+  of_await_rule : (e name : Tree) (m : Place) → k.setting.explicit_resource_management ≡ true → Expr expression (without_in k) e c m → awaits_using e ≡ true → breaks_at (after c) ≡ false
+      → word_at (codes "of") m ≡ false
       → Pat k name m d → is_binding_name name ≡ true → x ≡ tree.using (spanned c d) true (listed (tree.declarator (spanned m d) name tree.absent ∷ []))
       → OfLeftRule Expr Pat Target k is_await x c d
 
@@ -252,11 +253,11 @@ pub data StmtRule (Stmt : Code → Position → Tree → Place → Place → Typ
   variables_rule : (word : VarDeclKind) (xs : List Tree) (m : Place) → at.include_decl || is_var word ≡ true → begins_variables word c ≡ true
       → ReadsSeparated (DeclaratorRule (Expr assignment) Pat (with_in k) false word) xs (after c) m → Ends m d → x ≡ tree.var (spanned c d) word (listed xs)
       → StmtRule Stmt Expr Pat Target Params Named k at x c d
-  -- the proposal on explicit resource management: where declarations are read, behind `await` at the top level too, and the setting
-  -- says so. As in the crate it has no end.
-  using_rule : (is_await : Bool) (xs : List Tree) (m : Place) → at.include_decl || (is_await && at.top_level) ≡ true → AwaitWord is_await c m → is_using_declaration k m ≡ true
-      → ReadsSeparated (DeclaratorRule (Expr assignment) Pat (with_in k) false decl.Var) xs (after m) d → using_faults k.setting.explicit_resource_management (spanned c d) xs ≡ []
-      → x ≡ tree.using (spanned c d) is_await (listed xs) → StmtRule Stmt Expr Pat Target Params Named k at x c d
+  -- the proposal on explicit resource management: where declarations are read, behind `await` on its line at the top level too, and
+  -- the setting says so. What is said of it is said before its end.
+  using_rule : (is_await : Bool) (xs : List Tree) (m n : Place) → at.include_decl || (is_await && at.top_level) ≡ true → AwaitWord is_await c m → is_await && breaks_at m ≡ false
+      → is_using_declaration k m ≡ true → ReadsSeparated (DeclaratorRule (Expr assignment) Pat (with_in k) false decl.Var) xs (after m) n
+      → using_faults k.setting.explicit_resource_management (spanned c n) xs ≡ [] → Ends n d → x ≡ tree.using (spanned c d) is_await (listed xs) → StmtRule Stmt Expr Pat Target Params Named k at x c d
   if_statement_rule : IfRule Stmt Expr k x c d → StmtRule Stmt Expr Pat Target Params Named k at x c d
   -- section 14.11; in module code it is a fault, in strict code it is none
   with_rule : (e y : Tree) (m : Place) → kind_at c ≡ kind.With → k.flags.module ≡ false → ReadsHead Expr k e (after c) m → Stmt (in_with k) sub_statement y m d
@@ -300,6 +301,6 @@ pub data StmtRule (Stmt : Code → Position → Tree → Place → Place → Typ
   -- section 14.5. A bare name before `:` is a label; in module code the bare name `interface` is none.
   expr_rule : (e : Tree) (m : Place) → may_begin_expression_statement at c ≡ true → Expr expression (with_in k) e c m → is_ident e && sees kind.Colon m ≡ false
       → k.flags.module && is_ident_named (codes "interface") e ≡ false → Ends m d → x ≡ tree.expr_stmt (spanned c d) e → StmtRule Stmt Expr Pat Target Params Named k at x c d
-  -- as in the crate, one that begins with `import` has an end that nothing demands
-  import_rule : (e : Tree) (m : Place) → begins_import_expression c ≡ true → Expr expression (with_in k) e c m → OptionalEnds m d → x ≡ tree.expr_stmt (spanned c d) e
+  -- `import(` and `import.` begin one too
+  import_rule : (e : Tree) (m : Place) → begins_import_expression c ≡ true → Expr expression (with_in k) e c m → Ends m d → x ≡ tree.expr_stmt (spanned c d) e
       → StmtRule Stmt Expr Pat Target Params Named k at x c d

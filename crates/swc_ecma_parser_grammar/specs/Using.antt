@@ -19,9 +19,9 @@ use Rattle.swc_ecma_parser_grammar.specs.Own.{only}
 unfoldable pub is_using_declaration : Code → Place → Bool
 is_using_declaration k c = word_at (codes "using") c && (identifier_at k.flags (after c) && not (breaks_at (after c)))
 
--- behind `await`, at the top level too
+-- behind `await` on its line, at the top level too
 unfoldable pub is_await_using_declaration : Position → Code → Place → Bool
-is_await_using_declaration at k c = sees token.Await c && ((at.include_decl || at.top_level) && is_using_declaration k (after c))
+is_await_using_declaration at k c = sees token.Await c && ((at.include_decl || at.top_level) && (not (breaks_at (after c)) && is_using_declaration k (after c)))
 
 -- In the head of a loop it may begin one before a name on any line, which is not `of`, with the setting; and it does where `in` or `of`
 -- stands behind the name.
@@ -32,7 +32,7 @@ unfoldable pub stands_in_head : Place → Bool
 stands_in_head c = sees token.In c || word_at (codes "of") c
 
 -- The expression `await using`. In such a head, with the setting, it declares a name that stands behind it on any line and is not
--- `of`, where `in` or `of` stands behind the name.
+-- `of`, where `in` or `of` stands behind the name and the two words stand on one line.
 unfoldable pub awaits_using : Tree → Bool
 awaits_using (tree.await s e) = is_ident_named (codes "using") e
 awaits_using _ = false

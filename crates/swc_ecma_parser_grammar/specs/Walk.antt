@@ -12,6 +12,7 @@ use Rattle.swc_ecma_parser_model.specs.Directive.{is_use_strict}
 use Rattle.swc_ecma_parser_model.specs.Kinds.{is_module_decl}
 use Rattle.swc_ecma_parser_model.specs.Forms.{span_of, is_constructor, is_plain_param, has_plain_params}
 use Rattle.swc_ecma_parser_grammar.specs.Names.{Code}
+use Rattle.swc_ecma_parser_grammar.specs.language.Items.{directs_on}
 use Rattle.swc_ecma_parser_grammar.specs.Own.{break_faults, continue_faults, return_faults, labelled_function, duplicates, misplaced_directive, second_constructor, head_faults, export_faults}
 
 -- what the walk knows of the code around: the settings, the labels, and whether the code is strict, in a function, and has
@@ -34,7 +35,7 @@ env_of k labels = record {
   can_continue = k.flags.is_continue_allowed;
 }
 
--- what follows a directive is strict
+-- what follows a directive that says so is strict
 abbrev pub directed : Env → Bool → Tree → Env
 directed env directives x = if directives && is_use_strict x then record env { strict = true } else env
 
@@ -106,8 +107,7 @@ abbrev mutual
   walk env (tree.super_prop s word prop) = walk env prop
   walk env (tree.call s callee args) = walk env callee ++ walk env args
   walk env (tree.new s callee args) = walk env callee ++ walk env args
-  -- the block of an arrow has no directives
-  walk env (tree.arrow s params body is_async) = walk env params ++ walk (in_body env) body ++ misplaced_directive (has_plain_params params) body
+  walk env (tree.arrow s params body is_async) = walk env params ++ walk_arrow_body (in_body env) (walk (in_body env) body) body ++ misplaced_directive (has_plain_params params) body
   walk env (tree.yield s arg delegate) = walk env arg
   walk env (tree.await s arg) = walk env arg
   walk env (tree.element spread e) = walk env e
@@ -193,6 +193,11 @@ abbrev mutual
   walk_body env (tree.block s stmts) = walk_body env stmts
   walk_body env x = []
 
+  -- the body of an arrow, given the faults of one that is an expression: a block has directives
+  pub walk_arrow_body : Env → (plain : List Fault) → Tree → List Fault
+  walk_arrow_body env plain (tree.block s stmts) = walk_body env stmts
+  walk_arrow_body env plain body = plain
+
   -- the function of a method, behind whose decorators the key stands
   pub walk_method : Env → (key : List Fault) → Tree → List Fault
   walk_method env key (tree.function s decorators params body is_async is_generator) =
@@ -235,11 +240,11 @@ abbrev mutual
 
   pub walk_items : Env → Bool → Trees → List Fault
   walk_items env directives none = []
-  walk_items env directives (also t ts) = walk env t ++ walk_items (behind_item (directed env directives t) t) false ts
+  walk_items env directives (also t ts) = walk env t ++ walk_items (behind_item (directed env directives t) t) (directs_on directives t) ts
 
   pub walks : Env → Bool → Trees → List Fault
   walks env directives none = []
-  walks env directives (also t ts) = walk env t ++ walks (directed env directives t) false ts
+  walks env directives (also t ts) = walk env t ++ walks (directed env directives t) (directs_on directives t) ts
 
 -- the kinds that the walk finds
 abbrev pub is_tabled : Kind → Bool

@@ -61,6 +61,7 @@ fn rest_binding<
 
 /// A rest with its dots, which is the last.
 #[tactic(auto, unfolding(swc_ecma_parser_reader::specs::Arrows::rest_part))]
+#[inline(never)]
 fn rest_part<
     P: Source,
     T: BuildsPattern,
@@ -133,6 +134,7 @@ fn group_parts<
 
 /// What stands from `(` to `)`.
 #[tactic(auto, unfolding(swc_ecma_parser_reader::specs::Arrows::group))]
+#[inline(never)]
 pub fn parenthesized<
     P: Source,
     T: BuildsPattern,

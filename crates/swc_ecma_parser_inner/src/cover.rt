@@ -88,6 +88,7 @@ fn first_mark(first: Option<Span>, later: Option<Span>) -> Option<Span>
 }
 
 /// Puts a part behind the others.
+#[inline(never)]
 pub fn joined<P: Source, A: Drop>(p: &mut P, found: &mut Covers<A>, part: Cover<A>) -> PResult<()>
     ensures found { OnOk result ((view : A → Tree) → covers_of view found.new ≡ exprs.with_cover (covers_of view found.old) (cover_of view part)) }
     ensures state { OnOk result (P.seen p.new ≡ P.seen p.old) }
@@ -108,6 +109,7 @@ pub fn behind_comma<A>(found: &mut Covers<A>, is_spread: bool)
 
 /// It as an expression.
 #[tactic(auto, unfolding(swc_ecma_parser_reader::specs::Expressions::close))]
+#[inline(never)]
 pub fn close<P: Source, T: Trees>(p: &mut P, v: Cover<T::Expr>) -> PResult<T::Expr>
     ensures { GivesAs T.expr_of (exprs.close (cover_of T.expr_of v) (P.seen p.old)) result (P.seen p.new) }
 {
@@ -132,6 +134,7 @@ pub fn no_brace<P: Source>(p: &mut P) -> Error
 
 /// It as what is assigned to: a name, a member, or a pattern.
 #[tactic(auto, unfolding(swc_ecma_parser_reader::specs::Expressions::target))]
+#[inline(never)]
 pub fn target<P: Source, T: BuildsPattern>(
     t: &MakerOf<T>,
     p: &mut P,

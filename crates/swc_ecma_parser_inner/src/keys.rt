@@ -32,6 +32,7 @@ pub enum Key<E> {
 }
 
 /// The tree's key.
+#[inline(never)]
 pub fn made_key<T: BuildsKey>(alloc: Global, key: Key<T::Expr>) -> Result<T::Key, AllocError>
     ensures { IfOk result (λ x. T.key_of x ≡ key_of T.expr_of key) }
 {
@@ -120,6 +121,7 @@ fn computed_key<
 
 /// A key.
 #[tactic(auto, unfolding(swc_ecma_parser_reader::specs::Expressions::key))]
+#[inline(never)]
 pub fn property_key<
     P: Source,
     T: Trees,

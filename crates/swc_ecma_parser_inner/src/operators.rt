@@ -31,6 +31,7 @@ pub enum Operands {
 
 /// Refuses a unary operator left of `**`.
 #[tactic(auto, unfolding(swc_ecma_parser_reader::specs::Expressions::left_operand))]
+#[inline(never)]
 fn left_operand<P: Source, T: BuildsOperator>(p: &mut P, op: BinaryOp, x: &T::Expr) -> PResult<()>
     ensures { Gives (exprs.left_operand op (T.expr_of x.now) (P.seen p.old)) result (P.seen p.new) }
 {
@@ -52,6 +53,7 @@ fn mixes_with<T: BuildsOperator>(op: BinaryOp, x: &T::Expr) -> bool
 
 /// An operator between two operands that were read from a place on.
 #[tactic(auto, unfolding(swc_ecma_parser_reader::specs::Expressions::unmixed))]
+#[inline(never)]
 fn unmixed<P: Source, T: BuildsOperator>(
     alloc: Global,
     p: &mut P,
@@ -109,6 +111,7 @@ fn right_operand<
 
 /// An operator and its right operand, behind what was read from a place on.
 #[tactic(auto, unfolding(swc_ecma_parser_reader::specs::Expressions::operated))]
+#[inline(never)]
 fn operated<
     P: Source,
     T: BuildsOperator,

@@ -39,6 +39,7 @@ pub fn grown<P: Source, A>(p: &mut P, made: Result<A, AllocError>) -> PResult<A>
 /// A word that was read before is a name. `await` where it is no clean one is a fault that is recorded, if it may be; any other
 /// word is refused.
 #[tactic(auto, unfolding(swc_ecma_parser_reader::specs::State::as_name))]
+#[inline(never)]
 pub fn as_name<P: Source>(p: &mut P, may_await: bool, name: &Ident) -> PResult<()>
     ensures { Gives (reader.as_name (λ flags. may_await) name.now.span name.now.sym (P.seen p.old)) result (P.seen p.new) }
 {
@@ -52,6 +53,7 @@ pub fn as_name<P: Source>(p: &mut P, may_await: bool, name: &Ident) -> PResult<(
 }
 
 /// Records a fault, where it is one.
+#[inline(never)]
 pub fn told_if<P: Source>(p: &mut P, is_fault: bool, kind: SyntaxError, span: Span) -> PResult<()>
     ensures { Gives (told (only is_fault (kind_of kind) span) (P.seen p.old)) result (P.seen p.new) }
 {
@@ -72,6 +74,7 @@ pub fn with_in(flags: Context) -> Context
 }
 
 /// Puts an item behind the others.
+#[inline(never)]
 pub fn pushed<P: Source, A: Drop>(p: &mut P, items: &mut Vec<A>, item: A) -> PResult<()>
     ensures items { OnOk result (items.new.items ≡ items.old.items ++ item ∷ []) }
     ensures state { OnOk result (P.seen p.new ≡ P.seen p.old) }

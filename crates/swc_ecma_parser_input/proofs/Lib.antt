@@ -1,2 +1,3 @@
-pub mod Ordered
 pub mod Bumped
+mod Opened
+pub mod Ordered

@@ -1,13 +1,19 @@
 -- A source and copies of the tokens that it gave.
-use Rattle.std.specs.Prelude.{if◌then◌else◌, List, [], ◌∷◌, Option, Some, None}
+use Rattle.std.specs.Prelude.{◌≡◌, ◌⊎◌, List, [], ◌∷◌, ◌++◌, Option, Some, None}
+use Rattle.swc_ecma_parser_error.specs.declared.kind.SyntaxError.TheVariants as kind
+use Rattle.swc_ecma_parser_token.specs.declared.token.Token.TheVariants as token
 use Rattle.swc_ecma_parser_token.specs.declared.token.TokenAndSpan.{TokenAndSpan}
-use Rattle.swc_ecma_parser_input.specs.TokenSource.{is_out_of_memory}
 
 pub record Captured (I : Type 0) : Type 0 where
   pub input : I
   pub copies : List TokenAndSpan
 
--- what is kept of a token that was handed out: nothing where it says that memory ran out
-abbrev pub kept : Option TokenAndSpan → List TokenAndSpan
-kept None = []
-kept (Some t) = if is_out_of_memory t.token then [] else t ∷ []
+-- an error token of kind OutOfMemory, at the span of the token in whose place it stands, and nothing is kept
+pub record IsLost (old : List TokenAndSpan) (t : TokenAndSpan) (new : List TokenAndSpan) : Type 0 where
+  pub token : t.token ≡ token.Error (record { span = t.span; kind = kind.OutOfMemory })
+  pub copies : new ≡ old
+
+-- a copy is kept of what is handed out, whatever it is; only where there is no memory for the copy is the token lost
+abbrev pub Keeps : List TokenAndSpan → Option TokenAndSpan → List TokenAndSpan → Type 0
+Keeps old None new = new ≡ old
+Keeps old (Some t) new = (new ≡ old ++ t ∷ []) ⊎ IsLost old t new

@@ -3,5 +3,7 @@ pub mod TokenSource
 pub mod Place
 pub mod Buffered
 pub mod Faults
+pub mod Ringed
 pub mod View
 pub mod Captured
+pub mod Drawn

@@ -1,6 +1,7 @@
 -- A source of tokens as contracts see it, and what its calls do.
 use Rattle.std.specs.Prelude.{◌≡◌, ℕ, Bool, true, false, ◌&&◌, if◌then◌else◌, nat_le, List, [], ◌∷◌, ◌++◌, Option, Some, None}
 use Rattle.swc_ecma_parser_common.specs.declared.span.BytePos.{BytePos}
+use Rattle.swc_ecma_parser_common.specs.declared.span.Span.{Span}
 use Rattle.swc_ecma_parser_error.specs.declared.error.Error.{Error}
 use Rattle.swc_ecma_parser_error.specs.declared.kind.SyntaxError.{SyntaxError}
 use Rattle.swc_ecma_parser_error.specs.declared.kind.SyntaxError.TheVariants as kind
@@ -19,6 +20,10 @@ pub record TokenSource : Type 0 where
   -- the faults that are handed out, and those held back until the code is a module's
   pub recorded : List Error
   pub held_back : List Error
+
+-- the empty span at which a source tells that memory ran out for it
+abbrev pub at_start : TokenSource → Span
+at_start s = record { lo = s.start; hi = s.start }
 
 -- tokens one behind another from a position on
 abbrev pub ordered_from : ℕ → List TokenAndSpan → Bool

@@ -1,22 +1,18 @@
 -- What a `Buffer` shows.
-use Rattle.std.specs.Prelude.{◌≡◌, List, [], ◌∷◌, Option, Some, None}
+use Rattle.std.specs.Prelude.{◌≡◌, ◌<◌, ◌≤◌, Bool, true, List, [], ◌++◌, length}
 use Rattle.swc_ecma_parser_token.specs.declared.token.TokenAndSpan.{TokenAndSpan}
 use Rattle.swc_ecma_parser_input.specs.declared.buffer.Buffer.TheInside.{Inside}
 use Rattle.swc_ecma_parser_input.specs.TokenSource.{TokenSource}
 use Rattle.swc_ecma_parser_input.specs.Buffered.{Buffered, placed}
 
-abbrev pub before : Option TokenAndSpan → List TokenAndSpan → List TokenAndSpan
-before None ts = ts
-before (Some t) ts = t ∷ ts
-
--- a place is empty only if all behind it are
-abbrev pub Filled : Option TokenAndSpan → List TokenAndSpan → Type 0
-Filled None ts = ts ≡ []
-Filled (Some t) ts = Unit {0}
+-- two tokens are held until the source has ended, and then it has none left
+pub record IsFull (ring : List TokenAndSpan) (has_ended : Bool) (left : List TokenAndSpan) : Type 0 where
+  pub fits : length ring ≤ 2
+  pub ends : length ring < 2 → has_ended ≡ true
+  pub ended : has_ended ≡ true → left ≡ []
 
 abbrev pub view_of : {I : Type 0} → (I → TokenSource) → Inside I → Buffered
-view_of seen b =
-    placed (record { last = b.last; left = before b.cur (before b.next (seen b.input).left) }) (seen b.input)
+view_of seen b = placed (record { last = b.last; left = b.ring ++ (seen b.input).left }) (seen b.input)
 
 abbrev pub IsFilled : {I : Type 0} → (I → TokenSource) → Inside I → Type 0
-IsFilled seen b = Filled b.cur (before b.next (seen b.input).left) × Filled b.next (seen b.input).left
+IsFilled seen b = IsFull b.ring b.has_ended (seen b.input).left

@@ -1,18 +1,19 @@
 //! A source of tokens with two of them read ahead.
 
-ghost use Rattle.std.specs.Prelude.{◌≡◌, [], length, false, option_copied, IfOk, IfErr, OnOk};
+ghost use Rattle.std.specs.Prelude.{◌≡◌, [], length, true, false, is_none, option_copied, IfOk, IfErr, OnOk};
 ghost use Rattle.swc_ecma_parser_error.specs.Kind.{IsOutOfMemory};
 ghost use Rattle.swc_ecma_parser_input.specs.Buffered as buffered;
+ghost use Rattle.swc_ecma_parser_input.specs.Drawn as behind;
 ghost use Rattle.swc_ecma_parser_input.specs.Place as place;
 ghost use Rattle.swc_ecma_parser_input.specs.Place.{first, second};
+ghost use Rattle.swc_ecma_parser_input.specs.TokenSource as source;
 
 use crate::comments::CommentSource;
 use crate::context::Context;
+use crate::ring::Ring;
 use crate::syntax::Syntax;
 use crate::tokens::{Tokens, is_out_of_memory};
-use std::alloc::AllocError;
 use std::marker::Model;
-use std::mem;
 use swc_ecma_parser_common::{BytePos, Comment, Span};
 use swc_ecma_parser_error::{Error, PResult};
 use swc_ecma_parser_token::TokenAndSpan;
@@ -22,8 +23,9 @@ use swc_ecma_parser_token::TokenAndSpan;
 #[derive(Drop)]
 pub struct Buffer<I: Tokens> {
     input: I,
-    cur: Option<TokenAndSpan>,
-    next: Option<TokenAndSpan>,
+    ring: Ring,
+    /// Whether the source has answered that no token is left: then it is not asked again.
+    has_ended: bool,
     last: Span,
 }
 
@@ -55,12 +57,13 @@ impl<I: Tokens> Buffer<I> {
     {
         let mut input = input;
         let start = input.start_pos();
-        let cur = input.next();
-        let next = input.next();
+        let mut has_ended = false;
+        let cur = draw(&mut input, &mut has_ended);
+        let next = draw(&mut input, &mut has_ended);
         Buffer {
             input,
-            cur,
-            next,
+            ring: Ring::of(cur, next),
+            has_ended,
             last: Span {
                 lo: start,
                 hi: start,
@@ -72,14 +75,14 @@ impl<I: Tokens> Buffer<I> {
     pub fn cur(&self) -> Option<&TokenAndSpan>
         ensures { option_copied result ≡ first self.now.place.left }
     {
-        self.cur.as_ref()
+        self.ring.first().as_ref()
     }
 
     /// The token behind the current one.
     pub fn peek(&self) -> Option<&TokenAndSpan>
         ensures { option_copied result ≡ second self.now.place.left }
     {
-        self.next.as_ref()
+        self.ring.second().as_ref()
     }
 
     /// The span of the token taken last; before any is taken, the empty one where the text starts.
@@ -97,10 +100,10 @@ impl<I: Tokens> Buffer<I> {
         ensures kept { self.new ≡ record self.old { place = record (place.after self.old.place) { left = self.new.place.left } } }
         ensures cur { first self.new.place.left ≡ second self.old.place.left }
         ensures len { length self.new.place.left ≡ length (place.after self.old.place).left }
+        ensures drawn { behind.Drawn (place.after self.old.place).left self.new.place.left }
     {
-        let drawn = self.input.next();
-        let next = mem::replace(&mut self.next, drawn);
-        let taken = mem::replace(&mut self.cur, next);
+        let drawn = draw(&mut self.input, &mut self.has_ended);
+        let taken = self.ring.turn(drawn);
         if let Some(token) = &taken {
             self.last = token.span;
         }
@@ -111,14 +114,14 @@ impl<I: Tokens> Buffer<I> {
     pub fn is_out_of_memory(&self) -> bool
         ensures { result ≡ place.lacks_memory (second self.now.place.left) }
     {
-        lacks_memory(&self.next)
+        lacks_memory(self.ring.second())
     }
 
     /// Whether memory ran out for the current token.
     pub fn cur_is_out_of_memory(&self) -> bool
         ensures { result ≡ place.lacks_memory (first self.now.place.left) }
     {
-        lacks_memory(&self.cur)
+        lacks_memory(self.ring.first())
     }
 }
 
@@ -183,8 +186,8 @@ impl<I: Tokens> Buffer<I> {
     {
         Ok(Buffer {
             input: self.input.try_clone()?,
-            cur: copied(&self.cur)?,
-            next: copied(&self.next)?,
+            ring: self.ring.try_clone()?,
+            has_ended: self.has_ended,
             last: self.last,
         })
     }
@@ -195,8 +198,8 @@ impl<I: Tokens> Buffer<I> {
     {
         let Buffer {
             input,
-            cur: _,
-            next: _,
+            ring: _,
+            has_ended: _,
             last: _,
         } = self;
         input
@@ -224,15 +227,18 @@ fn lacks_memory(token: &Option<TokenAndSpan>) -> bool
     }
 }
 
-/// An equal token, or no memory.
-fn copied(token: &Option<TokenAndSpan>) -> Result<Option<TokenAndSpan>, AllocError>
-    ensures { IfOk result (λ t. t ≡ token.now) }
+/// The next token of a source that has not ended. One that has is left as it is, and not asked again.
+fn draw<I: Tokens>(input: &mut I, has_ended: &mut bool) -> Option<TokenAndSpan>
+    requires { has_ended.old ≡ true → (I.seen input.old).left ≡ [] }
+    ensures draws { source.Draws (I.seen input.old) result (I.seen input.new) }
+    ensures told { has_ended.new ≡ is_none result }
+    ensures none { has_ended.old ≡ true → result ≡ None }
+    ensures once { has_ended.old ≡ true → input.new ≡ input.old }
 {
-    match token {
-        None => Ok(None),
-        Some(token) => match token.try_clone() {
-            Ok(copy) => Ok(Some(copy)),
-            Err(_) => Err(AllocError),
-        },
+    if *has_ended {
+        return None;
     }
+    let token = input.next();
+    *has_ended = token.is_none();
+    token
 }

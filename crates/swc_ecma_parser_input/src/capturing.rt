@@ -1,6 +1,6 @@
 //! A source of tokens that keeps copies of what it hands out.
 
-ghost use Rattle.std.specs.Prelude.{◌≡◌, [], ◌∷◌, ◌++◌, IfOk, IfErr, OnOk, OnErr};
+ghost use Rattle.std.specs.Prelude.{◌≡◌, [], ◌∷◌, ◌++◌, true, false, IfOk, IfErr, OnOk, OnErr, MatchResult};
 ghost use Rattle.swc_ecma_parser_error.specs.Kind.{IsOutOfMemory};
 ghost use Rattle.swc_ecma_parser_input.specs.TokenSource as source;
 ghost use Rattle.swc_ecma_parser_input.specs.Captured as captured;
@@ -9,17 +9,17 @@ use crate::comments::CommentSource;
 use crate::context::Context;
 use crate::faults::out_of_memory;
 use crate::syntax::Syntax;
-use crate::tokens::{Tokens, is_out_of_memory};
+use crate::tokens::Tokens;
 use crate::tokens_input::copies;
 use std::alloc::{AllocError, Global};
 use std::marker::Model;
 use std::mem;
-use swc_ecma_parser_common::{BytePos, Comment};
+use swc_ecma_parser_common::{BytePos, Comment, Span};
 use swc_ecma_parser_error::{Error, PResult};
 use swc_ecma_parser_token::{Token, TokenAndSpan};
 
-/// A source of tokens that keeps copies of what it hands out. Error tokens of kind `OutOfMemory` are not kept; one of
-/// them stands also in the place of a token that could not be copied.
+/// A source of tokens that keeps a copy of each that it hands out. Where there is no memory for the copy, an error token
+/// of kind `OutOfMemory` is handed out in the token's place, and nothing is kept.
 #[derive(Drop)]
 pub struct Capturing<I: Tokens> {
     input: I,
@@ -78,12 +78,9 @@ impl<I: Tokens> Tokens for Capturing<I> {
 
     fn next(&mut self) -> Option<TokenAndSpan>
         ensures draws { source.Draws (I.seen self.old.input) result (I.seen self.new.input) }
-        ensures copies { self.new.copies ≡ self.old.copies ++ captured.kept result }
+        ensures copies { captured.Keeps self.old.copies result self.new.copies }
     {
         let token = self.input.next()?;
-        if is_out_of_memory(&token.token) {
-            return Some(token);
-        }
         match self.keep(&token) {
             Ok(()) => Some(token),
             Err(AllocError) => Some(TokenAndSpan {
@@ -116,6 +113,7 @@ impl<I: Tokens> Tokens for Capturing<I> {
     fn add_error(&mut self, error: Error) -> PResult<()>
         ensures ok { OnOk result (I.seen self.new.input ≡ source.recording error (I.seen self.old.input)) }
         ensures err { IfErr result (λ e. IsOutOfMemory e × (I.seen self.new.input ≡ I.seen self.old.input)) }
+        ensures place { IfErr result (λ e. e.span ≡ source.at_start (I.seen self.old.input)) }
         ensures copies { self.new.copies ≡ self.old.copies }
     {
         self.input.add_error(error)
@@ -124,6 +122,7 @@ impl<I: Tokens> Tokens for Capturing<I> {
     fn add_module_mode_error(&mut self, error: Error) -> PResult<()>
         ensures ok { OnOk result (I.seen self.new.input ≡ source.holding_back error (I.seen self.old.input)) }
         ensures err { IfErr result (λ e. IsOutOfMemory e × (I.seen self.new.input ≡ I.seen self.old.input)) }
+        ensures place { IfErr result (λ e. e.span ≡ source.at_start (I.seen self.old.input)) }
         ensures copies { self.new.copies ≡ self.old.copies }
     {
         self.input.add_module_mode_error(error)
@@ -141,22 +140,37 @@ impl<I: Tokens> Tokens for Capturing<I> {
         ensures ok { IfOk result (λ it. I.seen it.input ≡ I.seen self.now.input) }
         ensures copies { IfOk result (λ it. it.copies ≡ self.now.copies) }
         ensures err { IfErr result IsOutOfMemory }
+        ensures place { IfErr result (λ e. e.span ≡ source.at_start (I.seen self.now.input)) }
     {
         let alloc = *self.copies.allocator();
-        Ok(Capturing {
-            input: self.input.try_clone()?,
-            copies: copies(alloc, &self.copies)?,
-        })
+        let input = self.input.try_clone()?;
+        let Ok(copies) = copies(alloc, &self.copies) else {
+            let start = self.input.start_pos();
+            return Err(out_of_memory(Span {
+                lo: start,
+                hi: start,
+            }));
+        };
+        Ok(Capturing { input, copies })
     }
 
     ghost ordered = { λ c. I.ordered c.input };
 }
 
 impl<I: CommentSource> CommentSource for Capturing<I> {
+    ghost comments = { λ c. I.comments c.input };
+
+    ghost is_lossy = { λ c. I.is_lossy c.input };
+
     fn take_comments(&mut self) -> PResult<Vec<Comment>>
         ensures source { I.seen self.new.input ≡ I.seen self.old.input }
         ensures copies { self.new.copies ≡ self.old.copies }
         ensures err { IfErr result IsOutOfMemory }
+        ensures place { IfErr result (λ e. e.span ≡ source.at_start (I.seen self.old.input)) }
+        ensures comments { IfOk result (λ found. found.items ≡ I.comments self.old.input) }
+        ensures told { MatchResult result (λ _. I.is_lossy self.old.input ≡ false) (λ _. I.is_lossy self.old.input ≡ true) }
+        ensures none_left { I.comments self.new.input ≡ [] }
+        ensures fresh { I.is_lossy self.new.input ≡ false }
     {
         self.input.take_comments()
     }

@@ -6,6 +6,7 @@ mod capturing;
 mod comments;
 mod context;
 mod faults;
+mod ring;
 mod syntax;
 mod tokens;
 mod tokens_input;

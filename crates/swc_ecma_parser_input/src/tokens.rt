@@ -39,25 +39,29 @@ pub trait Tokens: Drop {
     fn start_pos(&self) -> BytePos
         ensures { result ≡ (seen self.now).start };
 
-    /// Records a fault, or changes nothing where there is no memory.
+    /// Records a fault, or changes nothing where there is no memory: then the answer is a fault of kind `OutOfMemory` with
+    /// an empty span at the start, as of each call that can be refused so.
     fn add_error(&mut self, error: Error) -> PResult<()>
         ensures ok { OnOk result (seen self.new ≡ source.recording error (seen self.old)) }
-        ensures err { IfErr result (λ e. IsOutOfMemory e × (seen self.new ≡ seen self.old)) };
+        ensures err { IfErr result (λ e. IsOutOfMemory e × (seen self.new ≡ seen self.old)) }
+        ensures place { IfErr result (λ e. e.span ≡ source.at_start (seen self.old)) };
 
     /// Records a fault of module code: it is held back while the context is no module's.
     fn add_module_mode_error(&mut self, error: Error) -> PResult<()>
         ensures ok { OnOk result (seen self.new ≡ source.holding_back error (seen self.old)) }
-        ensures err { IfErr result (λ e. IsOutOfMemory e × (seen self.new ≡ seen self.old)) };
+        ensures err { IfErr result (λ e. IsOutOfMemory e × (seen self.new ≡ seen self.old)) }
+        ensures place { IfErr result (λ e. e.span ≡ source.at_start (seen self.old)) };
 
     /// Hands out the recorded faults, in order. Those held back stay. It takes no memory.
     fn take_errors(&mut self) -> Vec<Error>
         ensures errors { result.items ≡ (seen self.old).recorded }
         ensures source { seen self.new ≡ record (seen self.old) { recorded = [] } };
 
-    /// An equal source, or a fault of kind `OutOfMemory`.
+    /// An equal source: with the same tokens left, context, syntax, start and faults. Or a fault of kind `OutOfMemory`.
     fn try_clone(&self) -> PResult<Self>
         ensures ok { IfOk result (λ it. seen it ≡ seen self.now) }
-        ensures err { IfErr result IsOutOfMemory };
+        ensures err { IfErr result IsOutOfMemory }
+        ensures place { IfErr result (λ e. e.span ≡ source.at_start (seen self.now)) };
 
     /// Each token starts at or after the end of the one before it, and ends at or after its own start.
     ghost ordered: { (s : Self) → IsTrue (source.is_ordered (seen s)) };

@@ -110,12 +110,18 @@ impl Tokens for TokensInput {
 
     fn try_clone(&self) -> PResult<TokensInput> {
         let alloc = *self.behind.allocator();
+        let Ok(behind) = copies(alloc, &self.behind) else {
+            return Err(self.refusal());
+        };
+        let Ok(faults) = self.faults.try_clone() else {
+            return Err(self.refusal());
+        };
         Ok(TokensInput {
-            behind: copies(alloc, &self.behind)?,
+            behind,
             context: self.context,
             syntax: self.syntax,
             start: self.start,
-            faults: self.faults.try_clone()?,
+            faults,
         })
     }
 

@@ -45,6 +45,7 @@ fn dotted<P: Source, T: Trees>(p: &mut P) -> PResult<Property<T::Expr>>
 
 /// An expression in brackets, with their place.
 #[tactic(auto, unfolding(swc_ecma_parser_reader::specs::Expressions::brackets))]
+#[inline(never)]
 pub(crate) fn brackets<
     P: Source,
     T: Trees,
@@ -91,6 +92,7 @@ pub(crate) fn access<
 
 /// A spread argument or element, with the place of its dots.
 #[tactic(auto, unfolding(swc_ecma_parser_reader::specs::Expressions::spread_element))]
+#[inline(never)]
 fn spread_element<
     P: Source,
     T: BuildsCall,
@@ -109,6 +111,7 @@ fn spread_element<
 
 /// An argument or element that is not spread.
 #[tactic(auto, unfolding(swc_ecma_parser_reader::specs::Expressions::plain_element))]
+#[inline(never)]
 fn plain_element<
     P: Source,
     T: BuildsCall,
@@ -150,6 +153,7 @@ fn ends_behind_comma<P: Source>(p: &P, commas: bool) -> bool
 
 /// Arguments, from `(` on. A comma may stand behind the last one, or is recorded there.
 #[tactic(auto, unfolding(swc_ecma_parser_reader::specs::Expressions::arguments), using(swc_ecma_parser_reader::proofs::expressions::Loops::arguments_done, swc_ecma_parser_reader::proofs::expressions::Loops::arguments_err, swc_ecma_parser_reader::proofs::expressions::Loops::arguments_last, swc_ecma_parser_reader::proofs::expressions::Loops::arguments_more, swc_ecma_parser_reader::proofs::expressions::Loops::arguments_noted, swc_ecma_parser_reader::proofs::expressions::Loops::arguments_note_err, swc_ecma_parser_reader::proofs::expressions::Loops::arguments_comma_err, swc_ecma_parser_reader::proofs::expressions::Loops::element_shorter, swc_ecma_parser_reader::proofs::expressions::Loops::arguments_shorter, swc_ecma_parser_reader::proofs::expressions::Loops::arguments_noted_shorter, std::proofs::lemmas::List::map_push))]
+#[inline(never)]
 pub(crate) fn arguments<
     P: Source,
     T: BuildsCall,

@@ -33,6 +33,7 @@ use swc_ecma_parser_trees::{
 
 /// A name.
 #[tactic(auto, unfolding(swc_ecma_parser_reader::specs::Expressions::ident_expr))]
+#[inline(never)]
 pub fn ident_expr<P: Source, T: BuildsExpr>(alloc: Global, p: &mut P) -> PResult<T::Expr>
     ensures { GivesAs T.expr_of (exprs.ident_expr (P.seen p.old)) result (P.seen p.new) }
 {
@@ -42,6 +43,7 @@ pub fn ident_expr<P: Source, T: BuildsExpr>(alloc: Global, p: &mut P) -> PResult
 
 /// `this`
 #[tactic(auto, unfolding(swc_ecma_parser_reader::specs::Expressions::this))]
+#[inline(never)]
 fn this<P: Source, T: BuildsOperator>(alloc: Global, p: &mut P) -> PResult<T::Expr>
     ensures { GivesAs T.expr_of (exprs.this (P.seen p.old)) result (P.seen p.new) }
 {
@@ -53,6 +55,7 @@ fn this<P: Source, T: BuildsOperator>(alloc: Global, p: &mut P) -> PResult<T::Ex
 
 /// `import.meta` from its word on, which makes a program a module: a fault in code that cannot be a module's.
 #[tactic(auto, unfolding(swc_ecma_parser_reader::specs::Expressions::import_meta, swc_ecma_parser_reader::specs::Expressions::meta_fault))]
+#[inline(never)]
 fn import_meta<P: Source, T: BuildsOperator>(
     alloc: Global,
     p: &mut P,
@@ -105,6 +108,7 @@ fn member<T: BuildsCall>(
 
 /// An expression in parentheses.
 #[tactic(auto, unfolding(swc_ecma_parser_reader::specs::Expressions::paren))]
+#[inline(never)]
 fn paren<
     P: Source,
     T: BuildsExpr,
@@ -124,6 +128,7 @@ fn paren<
 }
 
 /// A class that is an expression, which the reader of expressions reads one level further in.
+#[inline(never)]
 fn class_expr<
     P: Source,
     T: Trees,
@@ -176,6 +181,7 @@ fn marked_primary<
 
 /// A primary expression: section 13.2.
 #[tactic(auto, unfolding(swc_ecma_parser_reader::specs::Expressions::primary, swc_ecma_parser_reader::specs::Expressions::named_expr))]
+#[inline(never)]
 fn primary<
     P: Source,
     T: BuildsExpr + BuildsCall + BuildsMethod + BuildsOperator + BuildsPattern,
@@ -200,6 +206,7 @@ fn primary<
 
 /// An access of what was read from a place on.
 #[tactic(auto, unfolding(swc_ecma_parser_reader::specs::Expressions::accessed))]
+#[inline(never)]
 pub fn accessed<
     P: Source,
     T: BuildsCall,
@@ -217,6 +224,7 @@ pub fn accessed<
 
 /// A call of what was read from a place on.
 #[tactic(auto, unfolding(swc_ecma_parser_reader::specs::Expressions::called))]
+#[inline(never)]
 pub fn called<
     P: Source,
     T: BuildsCall,
@@ -272,6 +280,7 @@ pub fn left_from<
 
 /// A call of `super`, which stands at a place.
 #[tactic(auto, unfolding(swc_ecma_parser_reader::specs::Expressions::super_call))]
+#[inline(never)]
 fn super_call<
     P: Source,
     T: BuildsCall,
@@ -289,6 +298,7 @@ fn super_call<
 
 /// An access of `super`, which stands at a place.
 #[tactic(auto, unfolding(swc_ecma_parser_reader::specs::Expressions::super_access, swc_ecma_parser_reader::specs::Expressions::super_property))]
+#[inline(never)]
 fn super_access<
     P: Source,
     T: BuildsCall,
@@ -351,6 +361,7 @@ fn super_head<
 
 /// The arguments of `new`.
 #[tactic(auto, unfolding(swc_ecma_parser_reader::specs::Expressions::constructed))]
+#[inline(never)]
 fn constructed<
     P: Source,
     T: BuildsCall,
@@ -368,6 +379,7 @@ fn constructed<
 
 /// `new` without arguments.
 #[tactic(auto, unfolding(swc_ecma_parser_reader::specs::Expressions::bare_new))]
+#[inline(never)]
 fn bare_new<P: Source, T: BuildsCall>(
     alloc: Global,
     p: &mut P,
@@ -404,6 +416,7 @@ fn new_head<
 
 /// The arguments of `import`, which stands at a place.
 #[tactic(auto, unfolding(swc_ecma_parser_reader::specs::Expressions::import_call))]
+#[inline(never)]
 fn import_call<
     P: Source,
     T: BuildsCall,

@@ -1,6 +1,7 @@
 ghost use Rattle.std.specs.Prelude.{◌≡◌, ◌+◌, ◌<◌, [], ◌++◌, if◌then◌else◌, length, true, false, IfOk, IfErr, MatchResult};
 ghost use Rattle.std.specs.Str.{chars};
 ghost use Rattle.swc_ecma_parser_error.specs.Kind.{IsOutOfMemory};
+ghost use Rattle.swc_ecma_parser_input.specs.TokenSource as source;
 ghost use Rattle.swc_ecma_parser_lexer.specs.Collected.{collected, comments as text_comments};
 ghost use Rattle.swc_ecma_parser_lexer.specs.Source.{source_of, outset};
 
@@ -72,6 +73,7 @@ impl<'a> Lexer<'a> {
         ensures wanted { self.new.comments.is_wanted ≡ self.old.comments.is_wanted }
         ensures fresh { self.new.comments.is_lossy ≡ false }
         ensures source { source_of self.new.place self.new.context self.new.syntax self.new.faults ≡ source_of self.old.place self.old.context self.old.syntax self.old.faults }
+        ensures place { IfErr result (λ e. e.span ≡ source.at_start (source_of self.old.place self.old.context self.old.syntax self.old.faults)) }
     {
         match self.comments.take() {
             Some(comments) => Ok(comments),
@@ -84,7 +86,6 @@ impl<'a> Tokens for Lexer<'a> {
     ghost use Rattle.swc_ecma_parser_lexer.specs.Ordered.{ordered};
     ghost use Rattle.swc_ecma_parser_lexer.specs.Collected.{IsReadOn};
     ghost use Rattle.swc_ecma_parser_lexer.specs.Comments.{IsSameList};
-    ghost use Rattle.swc_ecma_parser_input.specs.TokenSource as source;
 
     ghost seen = { λ s. source_of s.place s.context s.syntax s.faults };
 
@@ -153,6 +154,7 @@ impl<'a> Tokens for Lexer<'a> {
         ensures ok { IfOk result (λ it. source_of it.place it.context it.syntax it.faults ≡ source_of self.now.place self.now.context self.now.syntax self.now.faults) }
         ensures comments { IfOk result (λ it. IsSameList it.comments self.now.comments) }
         ensures err { IfErr result IsOutOfMemory }
+        ensures place { IfErr result (λ e. e.span ≡ source.at_start (source_of self.now.place self.now.context self.now.syntax self.now.faults)) }
     {
         let Ok(faults) = self.faults.try_clone() else {
             return Err(no_memory(self.place.start));
@@ -174,11 +176,18 @@ impl<'a> Tokens for Lexer<'a> {
 }
 
 impl<'a> CommentSource for Lexer<'a> {
+    ghost comments = { λ s. s.comments.comments.items };
+
+    ghost is_lossy = { λ s. s.comments.is_lossy };
+
     fn take_comments(&mut self) -> PResult<Vec<Comment>>
         ensures source { source_of self.new.place self.new.context self.new.syntax self.new.faults ≡ source_of self.old.place self.old.context self.old.syntax self.old.faults }
         ensures comments { IfOk result (λ comments. comments.items ≡ self.old.comments.comments.items) }
         ensures left { self.new.comments.comments.items ≡ [] }
+        ensures told { MatchResult result (λ _. self.old.comments.is_lossy ≡ false) (λ _. self.old.comments.is_lossy ≡ true) }
+        ensures fresh { self.new.comments.is_lossy ≡ false }
         ensures err { IfErr result IsOutOfMemory }
+        ensures place { IfErr result (λ e. e.span ≡ source.at_start (source_of self.old.place self.old.context self.old.syntax self.old.faults)) }
     {
         Lexer::take_comments(self)
     }

@@ -20,6 +20,7 @@ use swc_ecma_parser_trees::{BuildsCall, MakerOf};
 
 /// A spread element, with the place of its dots.
 #[tactic(auto, unfolding(swc_ecma_parser_reader::specs::Expressions::spread_item))]
+#[inline(never)]
 fn spread_item<
     P: Source,
     T: BuildsCall,
@@ -120,6 +121,7 @@ fn elements<
 
 /// An array.
 #[tactic(auto, unfolding(swc_ecma_parser_reader::specs::Expressions::array))]
+#[inline(never)]
 pub fn array<
     P: Source,
     T: BuildsCall,

@@ -42,6 +42,7 @@ fn shorthand_name<P: Source, T: BuildsObject>(
 
 /// A key and its value, from `:` on.
 #[tactic(auto, unfolding(swc_ecma_parser_reader::specs::Expressions::key_value))]
+#[inline(never)]
 fn key_value<
     P: Source,
     T: BuildsObject,
@@ -119,6 +120,7 @@ fn initialized_name<
 }
 
 /// A key by itself.
+#[inline(never)]
 fn bare_key<P: Source, T: BuildsObject>(
     alloc: Global,
     p: &mut P,
@@ -134,6 +136,7 @@ fn bare_key<P: Source, T: BuildsObject>(
 
 /// A key and its default, from `=` on, which only a name has.
 #[tactic(auto, using(crate::proofs::Refusals::wanted_cover))]
+#[inline(never)]
 fn initialized_key<
     P: Source,
     T: BuildsObject,
@@ -228,6 +231,7 @@ fn keyed_property<
 
 /// A spread property, with the place of its dots.
 #[tactic(auto, unfolding(swc_ecma_parser_reader::specs::Expressions::spread_property))]
+#[inline(never)]
 fn spread_property<
     P: Source,
     T: BuildsObject,
@@ -298,6 +302,7 @@ fn properties<
 
 /// An object.
 #[tactic(auto, unfolding(swc_ecma_parser_reader::specs::Expressions::object))]
+#[inline(never)]
 pub fn object<
     P: Source,
     T: BuildsMethod + BuildsPattern,

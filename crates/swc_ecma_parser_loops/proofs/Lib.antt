@@ -1,5 +1,4 @@
 pub mod AsyncHead
-mod Awaited
 mod Awaits
 mod Flags
 mod Misdeclared

@@ -1,2 +1,3 @@
 pub mod Flags
+pub mod Made
 pub mod Openings

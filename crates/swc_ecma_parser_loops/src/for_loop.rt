@@ -1,15 +1,16 @@
 //! `for` of three parts, with `in` and with `of`: ECMA-262, sections 14.7.4 and 14.7.5.
 
-ghost use Rattle.std.specs.Prelude.{◌≡◌};
+ghost use Rattle.std.specs.Prelude.{◌≡◌, Some};
 ghost use Rattle.swc_ecma_parser_grammar.specs.language.Goals.{expression};
 ghost use Rattle.swc_ecma_parser_grammar.specs.language.Items.{sub_statement};
 ghost use Rattle.swc_ecma_parser_inner.specs.Nests.{Nests};
-ghost use Rattle.swc_ecma_parser_loops.specs.Openings.{opening_of, IsBare};
+ghost use Rattle.swc_ecma_parser_loops.specs.Made as made;
+ghost use Rattle.swc_ecma_parser_loops.specs.Openings.{opening_of, left_of, IsBare};
 ghost use Rattle.swc_ecma_parser_reader.specs.Reader as rules;
-ghost use Rattle.swc_ecma_parser_reader.specs.State.{Gives, GivesAs, pure};
+ghost use Rattle.swc_ecma_parser_reader.specs.State.{Gives, GivesAs};
 ghost use Rattle.swc_ecma_parser_trees.specs.Parts.{part_of};
 
-use crate::head::{Opening, as_init, as_left, head_of, head_opening, misdeclared};
+use crate::head::{Left, Opening, as_init, as_left, head_of, head_opening, misdeclared};
 use crate::simple::looped;
 use swc_ecma_parser_common::Span;
 use swc_ecma_parser_error::{PResult, SyntaxError};
@@ -40,8 +41,61 @@ fn head_part<
     Ok(Some(part))
 }
 
+/// The tree of a `for` of three parts.
+#[inline(never)]
+fn made_for<P: Source, T: BuildsFor>(
+    t: &MakerOf<T>,
+    p: &mut P,
+    start: Span,
+    init: Option<T::ForInit>,
+    test: Option<T::Expr>,
+    update: Option<T::Expr>,
+    body: T::Stmt,
+) -> PResult<T::Stmt>
+    ensures { GivesAs T.stmt_of (made.made_for start (part_of T.init_of init) (part_of T.expr_of test) (part_of T.expr_of update) (T.stmt_of body) (P.seen p.old)) result (P.seen p.new) }
+{
+    let span = since(p, start);
+    grown(p, T::for_stmt(t.alloc, span, init, test, update, body))
+}
+
+/// The tree of a `for` with `in`.
+#[inline(never)]
+fn made_for_in<P: Source, T: BuildsPattern + BuildsFor>(
+    t: &MakerOf<T>,
+    p: &mut P,
+    start: Span,
+    left: Left<T::Declarator, T::Pat>,
+    right: T::Expr,
+    body: T::Stmt,
+) -> PResult<T::Stmt>
+    ensures { GivesAs T.stmt_of (made.made_for_in start (left_of T.declarator_of T.pat_of left) (T.expr_of right) (T.stmt_of body) (P.seen p.old)) result (P.seen p.new) }
+{
+    let span = since(p, start);
+    let head = head_of(t, p, left)?;
+    grown(p, T::for_in(t.alloc, span, head, right, body))
+}
+
+/// The tree of a `for` with `of`.
+#[inline(never)]
+fn made_for_of<P: Source, T: BuildsPattern + BuildsFor>(
+    t: &MakerOf<T>,
+    p: &mut P,
+    is_await: bool,
+    start: Span,
+    left: Left<T::Declarator, T::Pat>,
+    right: T::Expr,
+    body: T::Stmt,
+) -> PResult<T::Stmt>
+    ensures { GivesAs T.stmt_of (made.made_for_of start is_await (left_of T.declarator_of T.pat_of left) (T.expr_of right) (T.stmt_of body) (P.seen p.old)) result (P.seen p.new) }
+{
+    let span = since(p, start);
+    let head = head_of(t, p, left)?;
+    grown(p, T::for_of(t.alloc, span, is_await, head, right, body))
+}
+
 /// A `for` of three parts, from behind the first.
 #[tactic(auto, unfolding(swc_ecma_parser_reader::specs::Reader::for_parts))]
+#[inline(never)]
 fn for_parts<
     P: Source,
     T: BuildsFor,
@@ -65,12 +119,12 @@ fn for_parts<
     let update = head_part(g, t, p, TokenKind::RParen)?;
     p.expect(TokenKind::RParen, ")")?;
     let body = looped(g, t, p)?;
-    let span = since(p, start);
-    grown(p, T::for_stmt(t.alloc, span, init, test, update, body))
+    made_for::<P, T>(t, p, start, init, test, update, body)
 }
 
 /// A `for` with `in`, from there on.
 #[tactic(auto, unfolding(swc_ecma_parser_reader::specs::Reader::for_in, swc_ecma_parser_reader::specs::Expressions::inside))]
+#[inline(never)]
 fn for_in<
     P: Source,
     T: BuildsPattern + BuildsFor,
@@ -95,13 +149,12 @@ fn for_in<
     let right = inside(g, t, p, Class::Expression)?;
     p.expect(TokenKind::RParen, ")")?;
     let body = looped(g, t, p)?;
-    let span = since(p, start);
-    let head = head_of(t, p, left)?;
-    grown(p, T::for_in(t.alloc, span, head, right, body))
+    made_for_in::<P, T>(t, p, start, left, right, body)
 }
 
 /// A `for` with `of`, from there on.
 #[tactic(auto, unfolding(swc_ecma_parser_reader::specs::Reader::for_of, swc_ecma_parser_reader::specs::Expressions::inside))]
+#[inline(never)]
 fn for_of<
     P: Source,
     T: BuildsPattern + BuildsFor,
@@ -126,9 +179,7 @@ fn for_of<
     let right = inside(g, t, p, Class::Assignment)?;
     p.expect(TokenKind::RParen, ")")?;
     let body = looped(g, t, p)?;
-    let span = since(p, start);
-    let head = head_of(t, p, left)?;
-    grown(p, T::for_of(t.alloc, span, is_await, head, right, body))
+    made_for_of::<P, T>(t, p, is_await, start, left, right, body)
 }
 
 /// The word `await` behind `for`, if it stands there.
@@ -144,22 +195,55 @@ fn await_here<P: Source>(p: &mut P) -> PResult<Option<Span>>
     Ok(Some(word))
 }
 
-/// A loop without `of`, from behind its body: with `await` it is refused.
-fn unless_awaited<P: Source, T: Trees>(
+/// A `for` with `in`, behind `for await`, which is refused behind it.
+#[inline(never)]
+fn awaited_in<
+    P: Source,
+    T: BuildsPattern + BuildsFor,
+    S: Fn(&MakerOf<T>, &mut P, usize, Position) -> PResult<T::Stmt>,
+    E: Fn(&MakerOf<T>, &mut P, usize, Reading) -> PResult<Cover<T::Expr>>,
+    N: Fn(&MakerOf<T>, &mut P, usize, Part) -> PResult<T::Pat>,
+>(
+    g: &Grammar<S, E, N>,
+    t: &MakerOf<T>,
     p: &mut P,
-    word: Option<Span>,
-    stmt: T::Stmt,
+    start: Span,
+    word: Span,
+    first: Opening<T::Declarator, T::Expr, T::Pat>,
 ) -> PResult<T::Stmt>
-    ensures { GivesAs T.stmt_of (rules.unless_awaited word (pure (T.stmt_of stmt)) (P.seen p.old)) result (P.seen p.new) }
+    requires readers { Nests P.seen T.expr_of T.pat_of T.stmt_of g.now.depth (S.pre g.now.stmt) (S.post g.now.stmt) (E.pre g.now.expr) (E.post g.now.expr) (N.pre g.now.pat) (N.post g.now.pat) }
+    requires bare { IsBare T.pat_of first }
+    ensures { GivesAs T.stmt_of (rules.unless_awaited (Some word) (rules.for_in (rules.stmt g.now.depth sub_statement) (rules.expr g.now.depth) start (opening_of T.declarator_of T.expr_of T.pat_of first)) (P.seen p.old)) result (P.seen p.new) }
 {
-    match word {
-        None => Ok(stmt),
-        Some(word) => Err(p.reject(SyntaxError::AwaitForStmt, word)),
-    }
+    let _refused = for_in(g, t, p, start, first)?;
+    Err(p.reject(SyntaxError::AwaitForStmt, word))
+}
+
+/// A `for` of three parts, behind `for await`, which is refused behind it.
+#[inline(never)]
+fn awaited_parts<
+    P: Source,
+    T: BuildsPattern + BuildsFor,
+    S: Fn(&MakerOf<T>, &mut P, usize, Position) -> PResult<T::Stmt>,
+    E: Fn(&MakerOf<T>, &mut P, usize, Reading) -> PResult<Cover<T::Expr>>,
+    N: Fn(&MakerOf<T>, &mut P, usize, Part) -> PResult<T::Pat>,
+>(
+    g: &Grammar<S, E, N>,
+    t: &MakerOf<T>,
+    p: &mut P,
+    start: Span,
+    word: Span,
+    first: Opening<T::Declarator, T::Expr, T::Pat>,
+) -> PResult<T::Stmt>
+    requires readers { Nests P.seen T.expr_of T.pat_of T.stmt_of g.now.depth (S.pre g.now.stmt) (S.post g.now.stmt) (E.pre g.now.expr) (E.post g.now.expr) (N.pre g.now.pat) (N.post g.now.pat) }
+    ensures { GivesAs T.stmt_of (rules.unless_awaited (Some word) (rules.for_parts (rules.stmt g.now.depth sub_statement) (rules.expr g.now.depth) start (opening_of T.declarator_of T.expr_of T.pat_of first)) (P.seen p.old)) result (P.seen p.new) }
+{
+    let _refused = for_parts(g, t, p, start, first)?;
+    Err(p.reject(SyntaxError::AwaitForStmt, word))
 }
 
 /// A `for` statement, from behind its first part.
-#[tactic(auto, unfolding(swc_ecma_parser_reader::specs::Reader::for_behind), using(crate::proofs::Awaited::awaited, crate::proofs::Awaited::refused))]
+#[tactic(auto, unfolding(swc_ecma_parser_reader::specs::Reader::for_behind))]
 fn for_behind<
     P: Source,
     T: BuildsPattern + BuildsFor,
@@ -179,18 +263,23 @@ fn for_behind<
     ensures { GivesAs T.stmt_of (rules.for_behind (rules.stmt g.now.depth sub_statement) (rules.expr g.now.depth) start word (opening_of T.declarator_of T.expr_of T.pat_of first) (P.seen p.old)) result (P.seen p.new) }
 {
     if p.sees(TokenKind::In) {
-        let stmt = for_in(g, t, p, start, first)?;
-        return unless_awaited::<P, T>(p, word, stmt);
+        return match word {
+            None => for_in(g, t, p, start, first),
+            Some(word) => awaited_in(g, t, p, start, word, first),
+        };
     }
     if p.word_at("of") {
         return for_of(g, t, p, word.is_some(), start, first);
     }
-    let stmt = for_parts(g, t, p, start, first)?;
-    unless_awaited::<P, T>(p, word, stmt)
+    match word {
+        None => for_parts(g, t, p, start, first),
+        Some(word) => awaited_parts(g, t, p, start, word, first),
+    }
 }
 
 /// A `for` statement.
 #[tactic(auto, unfolding(swc_ecma_parser_reader::specs::Reader::for_stmt))]
+#[inline(never)]
 pub fn for_stmt<
     P: Source,
     T: BuildsPattern + BuildsFor,

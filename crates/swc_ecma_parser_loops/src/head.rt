@@ -231,6 +231,14 @@ fn declares_behind<P: Source>(p: &P) -> bool
         && (p.next_sees(TokenKind::In) || p.next_word_at("of"))
 }
 
+/// Whether `await` stands here before something on its line, which may be `using`.
+#[tactic(auto, unfolding(swc_ecma_parser_reader::specs::Reader::begins_await_head))]
+fn begins_await<P: Source>(p: &P) -> bool
+    ensures { result ≡ rules.begins_await_head (P.seen p.now).at }
+{
+    p.sees(TokenKind::Await) && !p.next_had_line_break()
+}
+
 /// What `await` begins: an expression, or, where it is `await using` and a name stands behind it, what that declares.
 #[tactic(auto, unfolding(swc_ecma_parser_reader::specs::Reader::await_head, swc_ecma_parser_reader::specs::Reader::await_or_expression))]
 fn await_head<
@@ -341,6 +349,7 @@ fn head_target<
 
 /// What a head begins with.
 #[tactic(auto, unfolding(swc_ecma_parser_reader::specs::Reader::opening))]
+#[inline(never)]
 pub(crate) fn head_opening<
     P: Source,
     T: BuildsPattern + BuildsVariables,
@@ -372,7 +381,7 @@ pub(crate) fn head_opening<
     if p.may_declare_using() {
         return named_head(g, t, p);
     }
-    if p.sees(TokenKind::Await) {
+    if begins_await(p) {
         return await_head(g, t, p);
     }
     head_target(g, t, p, is_await)

@@ -68,6 +68,7 @@ pub(crate) fn looped<
 
 /// A `while` statement.
 #[tactic(auto, unfolding(swc_ecma_parser_reader::specs::Reader::while_stmt, swc_ecma_parser_grammar::specs::Looks::spanned))]
+#[inline(never)]
 pub fn while_stmt<
     P: Source,
     T: BuildsLoop,
@@ -88,6 +89,7 @@ pub fn while_stmt<
 
 /// A `do` statement.
 #[tactic(auto, unfolding(swc_ecma_parser_reader::specs::Reader::do_while, swc_ecma_parser_grammar::specs::Looks::spanned))]
+#[inline(never)]
 pub fn do_while<
     P: Source,
     T: BuildsLoop,

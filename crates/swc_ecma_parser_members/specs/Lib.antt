@@ -1,2 +1,3 @@
 pub mod Keys
 pub mod Leading
+pub mod Made

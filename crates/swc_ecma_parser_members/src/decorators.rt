@@ -104,6 +104,7 @@ pub struct Leading<D> {
 
 /// The decorators that stand here, with what has to be known of them where nothing takes them.
 #[tactic(auto, unfolding(swc_ecma_parser_reader::specs::Decorators::leading))]
+#[inline(never)]
 pub fn leading_decorators<
     P: Source,
     T: BuildsFunction,
@@ -127,6 +128,7 @@ pub fn leading_decorators<
 
 /// Records decorators that nothing takes; what in them makes a program a module is dropped with them.
 #[tactic(auto, unfolding(swc_ecma_parser_reader::specs::Decorators::misplaced))]
+#[inline(never)]
 pub fn misplaced<P: Source, T: BuildsFunction>(
     alloc: Global,
     p: &mut P,

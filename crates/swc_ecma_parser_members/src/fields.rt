@@ -169,6 +169,7 @@ fn field_from<
 
 /// A field, from behind its key.
 #[tactic(auto, unfolding(swc_ecma_parser_reader::specs::Members::field))]
+#[inline(never)]
 pub(crate) fn field<
     P: Source,
     T: BuildsClass,

@@ -98,6 +98,7 @@ fn private_key<
 
 /// The key of a member.
 #[tactic(auto, unfolding(swc_ecma_parser_reader::specs::Members::member_key))]
+#[inline(never)]
 pub(crate) fn member_key<
     P: Source,
     T: Trees,

@@ -46,6 +46,7 @@ pub(crate) fn before_constructor<P: Source, T: BuildsFunction>(
 
 /// What stands behind a key.
 #[tactic(auto, unfolding(swc_ecma_parser_reader::specs::Members::behind_key))]
+#[inline(never)]
 fn behind_key<
     P: Source,
     T: BuildsClass + BuildsPattern,
@@ -85,6 +86,7 @@ fn behind_key<
 
 /// A member that has a key, from the words before it on.
 #[tactic(auto, unfolding(swc_ecma_parser_reader::specs::Members::keyed_member))]
+#[inline(never)]
 pub(crate) fn keyed_member<
     P: Source,
     T: BuildsClass + BuildsPattern,
@@ -172,6 +174,7 @@ fn full_member<
 
 /// `;` by itself.
 #[tactic(auto, unfolding(swc_ecma_parser_reader::specs::Members::empty_member))]
+#[inline(never)]
 fn empty_member<
     P: Source,
     T: BuildsClass,

@@ -1,10 +1,13 @@
 //! Methods, accessors, constructors and static blocks: ECMA-262, sections 15.4 and 15.7.
 
-ghost use Rattle.std.specs.Prelude.{◌≡◌, true, not, nat_eq, length, map, IfOk, IfErr};
+ghost use Rattle.std.specs.Prelude.{◌≡◌, false, true, not, nat_eq, length, map, IfOk, IfErr};
 ghost use Rattle.swc_ecma_parser_members.specs.Keys.{member_key_of, misnamed_at};
+ghost use Rattle.swc_ecma_parser_members.specs.Made as made;
 ghost use Rattle.swc_ecma_parser_error.specs.Kind as kinds;
 ghost use Rattle.swc_ecma_parser_error.specs.Kind.{kind_of, IsOutOfMemory};
+ghost use Rattle.swc_ecma_parser_functions.specs.Late.{late};
 ghost use Rattle.swc_ecma_parser_functions.specs.Methods.{form_of};
+ghost use Rattle.swc_ecma_parser_grammar.specs.Own as own;
 ghost use Rattle.swc_ecma_parser_grammar.specs.Own.{only};
 ghost use Rattle.swc_ecma_parser_grammar.specs.Reads.{nested_item};
 ghost use Rattle.swc_ecma_parser_grammar.specs.language.Classes.{method_member};
@@ -20,9 +23,9 @@ use crate::bodies::{Parameters, made_parameters, misdirected_body};
 use crate::keys::{MemberKey, is_constructor_key, is_constructor_name, key_span};
 use std::alloc::{AllocError, Global};
 use swc_ecma_parser_bodies::body::braced;
-use swc_ecma_parser_common::{Atom, Span};
+use swc_ecma_parser_common::{Atom, Boxed, Span};
 use swc_ecma_parser_error::{PResult, SyntaxError};
-use swc_ecma_parser_functions::function::{Manner, function_body, parameters_inside};
+use swc_ecma_parser_functions::function::{FunctionBody, Manner, function_body, parameters_inside};
 use swc_ecma_parser_functions::methods::MethodForm;
 use swc_ecma_parser_grammar::Position;
 use swc_ecma_parser_inner::cover::{Cover, Reading};
@@ -131,6 +134,7 @@ fn setter_faults<P: Source, T: BuildsPattern>(
 }
 
 /// Records parameters of an accessor that it may not have.
+#[inline(never)]
 fn parameter_faults<P: Source, T: BuildsPattern>(
     p: &mut P,
     form: MethodForm,
@@ -147,7 +151,8 @@ fn parameter_faults<P: Source, T: BuildsPattern>(
 }
 
 /// The function of a method, from behind its key.
-#[tactic(auto, unfolding(swc_ecma_parser_reader::specs::Members::method_parts, swc_ecma_parser_reader::specs::Reader::misdirected))]
+#[tactic(auto, unfolding(swc_ecma_parser_reader::specs::Members::method_parts))]
+#[inline(never)]
 fn method_parts<
     P: Source,
     T: BuildsClass + BuildsPattern,
@@ -168,6 +173,24 @@ fn method_parts<
     let pats = parameters_inside(g, t, p, manner)?;
     parameter_faults::<P, T>(p, head.form, head.word, &pats)?;
     let body = function_body(g, t, p, manner)?;
+    made_function::<P, T>(t, p, head, decorators, pats, body)
+}
+
+/// The function of a method, from behind its body.
+#[tactic(auto, unfolding(swc_ecma_parser_reader::specs::Reader::misdirected))]
+#[inline(never)]
+fn made_function<P: Source, T: BuildsClass + BuildsPattern>(
+    t: &MakerOf<T>,
+    p: &mut P,
+    head: Head,
+    decorators: Vec<T::Decorator>,
+    pats: Vec<T::Pat>,
+    body: FunctionBody<T::Block>,
+) -> PResult<T::Function>
+    requires { own.misplaced_directive false (T.block_of body.block) ≡ late body.strict_directive }
+    ensures { GivesAs T.function_of (made.made_function (map T.decorator_of decorators.items) (form_of head.form) head.start (map T.pat_of pats.items) (T.block_of body.block) (P.seen p.old)) result (P.seen p.new) }
+{
+    let manner = manner_of(head.form);
     let span = since(p, head.start);
     let Parameters { params, are_plain } = made_parameters::<P, T>(t, p, pats)?;
     misdirected_body::<P, T>(p, are_plain, &body)?;
@@ -203,6 +226,7 @@ fn misnamed_by<P: Source>(p: &mut P, head: Head, key: Span) -> PResult<()>
 
 /// A method behind words or `*` is not named `constructor`.
 #[tactic(auto, unfolding(swc_ecma_parser_reader::specs::Members::misnamed))]
+#[inline(never)]
 fn misnamed<P: Source, T: Trees>(p: &mut P, head: Head, key: &MemberKey<T::Expr>) -> PResult<()>
     ensures { Gives (members.misnamed (form_of head.form) head.start head.word (member_key_of T.expr_of key.now) (P.seen p.old)) result (P.seen p.new) }
 {
@@ -213,6 +237,7 @@ fn misnamed<P: Source, T: Trees>(p: &mut P, head: Head, key: &MemberKey<T::Expr>
 }
 
 /// The tree's method.
+#[inline(never)]
 fn made_method<T: BuildsClass>(
     alloc: Global,
     key: MemberKey<T::Expr>,
@@ -234,6 +259,7 @@ fn made_method<T: BuildsClass>(
 
 /// A method that is no constructor, from behind its key.
 #[tactic(auto, unfolding(swc_ecma_parser_reader::specs::Members::method))]
+#[inline(never)]
 pub(crate) fn method<
     P: Source,
     T: BuildsClass + BuildsPattern,
@@ -267,10 +293,11 @@ fn static_constructor<P: Source>(alloc: Global, p: &mut P) -> PResult<SyntaxErro
     ensures err { IfErr result IsOutOfMemory }
 {
     let word = grown(p, Atom::new(alloc, "static"))?;
-    Ok(SyntaxError::TS1089(word))
+    Ok(SyntaxError::TS1089(grown(p, Boxed::new(alloc, word))?))
 }
 
 /// A constructor is not static.
+#[inline(never)]
 fn unstatic<P: Source>(alloc: Global, p: &mut P, is_static: bool, first: Span) -> PResult<()>
     ensures { Gives (told (only is_static kinds.TS1089 first) (P.seen p.old)) result (P.seen p.new) }
 {
@@ -282,7 +309,8 @@ fn unstatic<P: Source>(alloc: Global, p: &mut P, is_static: bool, first: Span) -
 }
 
 /// A constructor, from behind its key.
-#[tactic(auto, unfolding(swc_ecma_parser_reader::specs::Members::constructor, swc_ecma_parser_reader::specs::Reader::misdirected))]
+#[tactic(auto, unfolding(swc_ecma_parser_reader::specs::Members::constructor))]
+#[inline(never)]
 fn constructor<
     P: Source,
     T: BuildsClass + BuildsPattern,
@@ -295,6 +323,23 @@ fn constructor<
 {
     let pats = parameters(g, t, p)?;
     let body = function_body(g, t, p, PLAIN)?;
+    made_constructor::<P, T>(t, p, begin, key, pats, body)
+}
+
+/// A constructor, from behind its body.
+#[tactic(auto, unfolding(swc_ecma_parser_reader::specs::Reader::misdirected))]
+#[inline(never)]
+fn made_constructor<P: Source, T: BuildsClass + BuildsPattern>(
+    t: &MakerOf<T>,
+    p: &mut P,
+    begin: Begin,
+    key: T::Key,
+    pats: Vec<T::Pat>,
+    body: FunctionBody<T::Block>,
+) -> PResult<T::Member>
+    requires { own.misplaced_directive false (T.block_of body.block) ≡ late body.strict_directive }
+    ensures { GivesAs T.member_of (made.made_constructor begin.is_static begin.start begin.first (T.key_of key) (map T.pat_of pats.items) (T.block_of body.block) (P.seen p.old)) result (P.seen p.new) }
+{
     let span = since(p, begin.start);
     let Parameters { params, are_plain } = made_parameters::<P, T>(t, p, pats)?;
     misdirected_body::<P, T>(p, are_plain, &body)?;
@@ -304,6 +349,7 @@ fn constructor<
 
 /// A method or a constructor, where no word and no `*` stand before its key.
 #[tactic(auto, unfolding(swc_ecma_parser_reader::specs::Members::plain_method))]
+#[inline(never)]
 pub(crate) fn plain_method<
     P: Source,
     T: BuildsClass + BuildsPattern,
@@ -354,6 +400,7 @@ fn in_static_block(flags: Context) -> Context
 
 /// The statements of a static block, which run with the class.
 #[tactic(auto, unfolding(swc_ecma_parser_reader::specs::Members::static_block))]
+#[inline(never)]
 pub(crate) fn static_block<
     P: Source,
     T: BuildsClass,
@@ -374,6 +421,7 @@ pub(crate) fn static_block<
 
 /// A static block behind a second `static`, which is a fault of the first.
 #[tactic(auto, unfolding(swc_ecma_parser_reader::specs::Members::second_static))]
+#[inline(never)]
 pub(crate) fn second_static<
     P: Source,
     T: BuildsClass,

@@ -22,7 +22,7 @@ use Rattle.swc_ecma_parser_forward.specs.Forward.{is_forward, forward, all_forwa
 use Rattle.swc_ecma_parser_reader.specs.Jumps.{told}
 use Rattle.swc_ecma_parser_reader.specs.Members.{class_decl, class_expr}
 use Rattle.swc_ecma_parser_reader.specs.Methods.{star}
-use Rattle.swc_ecma_parser_reader.specs.Reader.{variables, function_decl, function_parts, function_word, named, optional_end}
+use Rattle.swc_ecma_parser_reader.specs.Reader.{variables, function_decl, function_parts, function_word, named}
 use Rattle.swc_ecma_parser_reader.specs.State.{State, Reader, moved, within, name, expect_word, end}
 use Rattle.swc_ecma_parser_reader.proofs.Behind.{Passes}
 use Rattle.swc_ecma_parser_reader.proofs.Meets.{Meets, meets_then, meets_if, wanted_meets}
@@ -33,7 +33,6 @@ use Rattle.swc_ecma_parser_forward.proofs.Functions.{named_straight, word_past, 
 use Rattle.swc_ecma_parser_forward.proofs.Loops.{variables_straight}
 use Rattle.swc_ecma_parser_forward.proofs.Operands.{star_ahead}
 use Rattle.swc_ecma_parser_forward.proofs.Places.{far, Past, Ahead, Passed, Read, ReadMany, Straight, StraightMany, Part, Many, both, onward, first, next, behind, node, reads, span_forward, part_of, whole_less}
-use Rattle.swc_ecma_parser_forward.proofs.Statements.{optional_end_past}
 use Rattle.swc_ecma_parser_forward.proofs.Steps.{ReadMaybe, told_past, expect_word_past, end_past, name_ahead, within_reads}
 use Rattle.swc_ecma_parser_forward.proofs.Trees.{one_more, joined, own_forward}
 use Rattle.swc_ecma_parser_module_reader.specs.Decorated.{with_decorators, none_before, begins_decorators, no_leading, later_alone, later, decorating, by_default, named_with, default_with, behind_export, behind_default_word, export_from, export_with, export_item}
@@ -62,7 +61,7 @@ module _ (object : Reader Tree) (below : Straight object) where
     own_names_read : (xs : List Tree) (s : State) → ReadMany m xs s → Meets (Read m) (own_names start xs s)
     unfolding own_names
     own_names_read xs s h = meets_then _ (told (export_faults tree.absent (listed xs)) s) _ (told_past m (export_faults tree.absent (listed xs)) s h.place) (λ _ t g.
-        meets_then _ (optional_end t) _ (optional_end_past m t g) (λ _ u k.
+        meets_then _ (end faults.Expected t) _ (end_past m faults.Expected t g) (λ _ u k.
         node start (tree.export_named _ (listed xs) tree.absent tree.absent) b k (λ e. both e (both h.straight refl)) refl))
 
     export_names_read : (xs : List Tree) (s : State) → ReadMany m xs s → Meets (Read m) (export_names object start xs s)

@@ -1,7 +1,7 @@
 //! Items of modules, and whole modules: ECMA-262, section 16.2.
 
 ghost use Rattle.std.specs.Prelude.{◌≡◌, true, [], map, IsOk};
-ghost use Rattle.swc_ecma_parser_grammar.specs.Reads.{directed};
+ghost use Rattle.swc_ecma_parser_grammar.specs.Reads.{directed, directs_on};
 ghost use Rattle.swc_ecma_parser_members.specs.Leading.{leading_of};
 ghost use Rattle.swc_ecma_parser_module_reader.specs.Modules as modules;
 ghost use Rattle.swc_ecma_parser_reader.specs.Reader as rules;
@@ -136,9 +136,10 @@ pub fn module_item<P: Source, T: BuildsStatements + BuildsExport + BuildsVarDecl
     grown(p, T::stmt_item(t.alloc, stmt))
 }
 
-/// Turns strict what follows a directive.
-fn direct<P: Source, T: BuildsItem>(p: &mut P, directives: bool, x: &T::Item)
-    ensures { P.seen p.new ≡ reader.coded (directed (P.seen p.old).code directives (T.item_of x.now)) (P.seen p.old) }
+/// Turns strict what follows a directive that says so, and says whether the next item can be a directive too.
+fn direct<P: Source, T: BuildsItem>(p: &mut P, directives: bool, x: &T::Item) -> bool
+    ensures state { P.seen p.new ≡ reader.coded (directed (P.seen p.old).code directives (T.item_of x.now)) (P.seen p.old) }
+    ensures next { result ≡ directs_on directives (T.item_of x.now) }
 {
     if directives && T::is_use_strict_item(x) {
         let flags = p.flags();
@@ -147,6 +148,7 @@ fn direct<P: Source, T: BuildsItem>(p: &mut P, directives: bool, x: &T::Item)
             ..flags
         });
     }
+    directives && T::is_string_item(x)
 }
 
 /// Whether the list has ended.
@@ -157,27 +159,29 @@ pub(crate) fn at_end<P: Source>(p: &P) -> bool
     p.sees(TokenKind::End)
 }
 
-/// The items of a module behind these, the first of all of which can be a directive.
-#[tactic(auto, using(swc_ecma_parser_reader::proofs::Loops::items_stop, swc_ecma_parser_reader::proofs::Loops::items_err, swc_ecma_parser_core::proofs::Items::script_more, swc_ecma_parser_module_reader::proofs::Falls::item_shorter, std::proofs::lemmas::List::map_push))]
+/// The items of a module behind these, the first of all of which can be directives; `directives` says whether the next can be one.
+#[tactic(auto, using(swc_ecma_parser_reader::proofs::Loops::items_stop, swc_ecma_parser_reader::proofs::Loops::items_err, swc_ecma_parser_bodies::proofs::Items::body_more, swc_ecma_parser_bodies::proofs::Items::body_next, swc_ecma_parser_module_reader::proofs::Falls::item_shorter, std::proofs::lemmas::List::map_push))]
 pub(crate) fn items_behind<P: Source, T: BuildsStatements + BuildsExport + BuildsVarDecl>(
     t: &MakerOf<T>,
     p: &mut P,
     limit: usize,
     before: Vec<T::Item>,
+    directives: bool,
 ) -> PResult<Vec<T::Item>>
-    ensures gives { GivesAs (λ found. map T.item_of found.items) (reader.loop (rules.items_turn (modules.module_item limit) rules.at_end true) (map T.item_of before.items) (P.seen p.old)) result (P.seen p.new) }
+    ensures gives { directives ≡ rules.directs true (map T.item_of before.items) → GivesAs (λ found. map T.item_of found.items) (reader.loop (rules.items_turn (modules.module_item limit) rules.at_end true) (map T.item_of before.items) (P.seen p.old)) result (P.seen p.new) }
     ensures outright { (P.seen p.old).at.left ≡ [] → IsOk result }
 {
     let mut found = before;
+    let mut directives = directives;
     'items: while !at_end(p) {
         let item = module_item::<P, T>(t, p, limit)?;
-        direct::<P, T>(p, found.is_empty(), &item);
+        directives = direct::<P, T>(p, directives, &item);
         pushed(p, &mut found, item)?;
     }
     Ok(found)
 }
 
-/// The items of a module, the first of which can be a directive.
+/// The items of a module, the first of which can be directives.
 #[tactic(auto, unfolding(swc_ecma_parser_reader::specs::Reader::items))]
 pub(crate) fn items<P: Source, T: BuildsStatements + BuildsExport + BuildsVarDecl>(
     t: &MakerOf<T>,
@@ -188,7 +192,7 @@ pub(crate) fn items<P: Source, T: BuildsStatements + BuildsExport + BuildsVarDec
     ensures outright { (P.seen p.old).at.left ≡ [] → IsOk result }
 {
     let none = Vec::new(t.alloc);
-    items_behind::<P, T>(t, p, limit, none)
+    items_behind::<P, T>(t, p, limit, none, true)
 }
 
 /// A module, whose items may stand so many levels deep.

@@ -91,9 +91,9 @@ fn front_item<P: Source, T: BuildsStatements>(
     Ok(Led::Statement(stmt))
 }
 
-/// The statements of a program before its first import or export, the first of which can be a directive, and the decorators before
+/// The statements of a program before its first import or export, the first of which can be directives, and the decorators before
 /// that.
-#[tactic(auto, unfolding(swc_ecma_parser_module_reader::specs::Programs::front), using(swc_ecma_parser_module_reader::proofs::Fronts::front_stop, swc_ecma_parser_module_reader::proofs::Turns::front_err, swc_ecma_parser_module_reader::proofs::Turns::front_word, swc_ecma_parser_module_reader::proofs::Turns::front_read, swc_ecma_parser_module_reader::proofs::Turns::turn_shorter, std::proofs::lemmas::List::map_push))]
+#[tactic(auto, unfolding(swc_ecma_parser_module_reader::specs::Programs::front), using(swc_ecma_parser_module_reader::proofs::Fronts::front_stop, swc_ecma_parser_module_reader::proofs::Turns::front_err, swc_ecma_parser_module_reader::proofs::Turns::front_word, swc_ecma_parser_module_reader::proofs::Turns::front_read, swc_ecma_parser_bodies::proofs::Items::body_next, swc_ecma_parser_module_reader::proofs::Turns::turn_shorter, std::proofs::lemmas::List::map_push))]
 pub fn statements<P: Source, T: BuildsStatements>(
     t: &MakerOf<T>,
     p: &mut P,
@@ -103,6 +103,7 @@ pub fn statements<P: Source, T: BuildsStatements>(
     ensures outright { (P.seen p.old).at.left ≡ [] → IsOk result }
 {
     let mut found = Vec::new(t.alloc);
+    let mut directives = true;
     'statements: while !before_module(p) {
         let led = front_item::<P, T>(t, p, limit)?;
         match led {
@@ -113,7 +114,7 @@ pub fn statements<P: Source, T: BuildsStatements>(
                 });
             }
             Led::Statement(stmt) => {
-                direct::<P, T>(p, found.is_empty(), &stmt);
+                directives = direct::<P, T>(p, directives, &stmt);
                 pushed(p, &mut found, stmt)?;
             }
         }
@@ -193,9 +194,10 @@ fn behind_front<P: Source, T: BuildsStatements + BuildsExport + BuildsVarDecl>(
         return items::<P, T>(t, p, limit);
     }
     let first = first_behind::<P, T>(t, p, limit, list)?;
+    let directives = T::is_string_item(&first);
     let mut found = Vec::new(t.alloc);
     pushed(p, &mut found, first)?;
-    items_behind::<P, T>(t, p, limit, found)
+    items_behind::<P, T>(t, p, limit, found, directives)
 }
 
 /// The items of a program that turned out to be a module: its statements before its first import or export, and what stands from

@@ -23,7 +23,7 @@ use Rattle.swc_ecma_parser_model.specs.Tree as tree
 use Rattle.swc_ecma_parser_model.specs.Tree.{Tree, Text, listed, trees}
 use Rattle.swc_ecma_parser_grammar.specs.Looks.{kind_at, sees, same_kind, span_at, spanned}
 use Rattle.swc_ecma_parser_grammar.specs.Names.{Code, is_name, is_reserved, is_identifier, is_clean_name}
-use Rattle.swc_ecma_parser_grammar.specs.Ends.{Ends, OptionalEnds}
+use Rattle.swc_ecma_parser_grammar.specs.Ends.{Ends}
 use Rattle.swc_ecma_parser_grammar.specs.Follows.{word_at, first_is, token_is, is_let_declaration, is_async_function}
 use Rattle.swc_ecma_parser_grammar.specs.Notes.{notes, all_notes}
 use Rattle.swc_ecma_parser_grammar.specs.Own.{export_faults}
@@ -42,8 +42,8 @@ use Rattle.swc_ecma_parser_reader.specs.Reader.{expr, pattern, member, parameter
 use Rattle.swc_ecma_parser_grammar.specs.Reads.{nested_item, ReadsToken}
 use Rattle.swc_ecma_parser_reader.specs.State.{Scope, State, Outcome, Reader, moved}
 use Rattle.swc_ecma_parser_reader.proofs.Answered.{st, ReadsCalm}
-use Rattle.swc_ecma_parser_reader.proofs.Calm.{told_reads, calm_same, calm_before_optional}
-use Rattle.swc_ecma_parser_reader.proofs.CompleteParts.{ends_read, optional_end_reads}
+use Rattle.swc_ecma_parser_reader.proofs.Calm.{told_reads, calm_same, calm_before}
+use Rattle.swc_ecma_parser_reader.proofs.CompleteParts.{ends_read}
 use Rattle.swc_ecma_parser_reader.proofs.Errors.{is_error}
 use Rattle.swc_ecma_parser_reader.proofs.Notes.{or_nil}
 use Rattle.swc_ecma_parser_reader.proofs.Words.{async_kind, or_later}
@@ -174,7 +174,7 @@ module _ (n : ℕ) (k : Code) where
         j,
       ) refl
 
-  own_names_read : (xs : List Tree) (x : Tree) (c m d : Place) → AllSilent xs → OptionalEnds m d → x ≡ tree.export_named (spanned c d) (listed xs) tree.absent tree.absent
+  own_names_read : (xs : List Tree) (x : Tree) (c m d : Place) → AllSilent xs → Ends m d → x ≡ tree.export_named (spanned c d) (listed xs) tree.absent tree.absent
       → (w : Scope) (f : List Fault) (h : Notes) → (walk (env_of k w.labels) x ≡ []) ⊎ (is_error (kind_at d) ≡ false)
       → own_names (span_at c) xs (st m k w f h) ≡ Ok (x, st d k w (f ++ walk (env_of k w.labels) x) (h ⊕ notes_of x))
   unfolding own_names spanned
@@ -182,8 +182,8 @@ module _ (n : ℕ) (k : Code) where
       let l = export_faults tree.absent (listed xs) in
       let v : walk (env_of k w.labels) x ≡ l = rw (e, q.walked) refl in
       rw (
-        told_reads l m k w f h (calm_before_optional m d l g (calm_same d (walk (env_of k w.labels) x) l v calm)),
-        optional_end_reads m d k w (f ++ l) h g,
+        told_reads l m k w f h (calm_before m d l g (calm_same d (walk (env_of k w.labels) x) l v calm)),
+        ends_read faults.Expected m d k w (f ++ l) h g,
         v,
         e,
         q.noted,
@@ -458,7 +458,7 @@ module _ (n : ℕ) (k : Code) (o : IsModule k) where
   export_from_read b xs src attributes x c l m i d r s a e g j w f h calm =
       clause_from b xs c l w f h r s.0 ∙ names_from_read n k o xs src attributes x c l m i d w f h (clause_silent r) s a e g j
 
-  pub export_own_read : (xs : List Tree) (x : Tree) (c m d : Place) → ExportClauseRule k true xs (after c) m → word_at (codes "from") m ≡ false → OptionalEnds m d
+  pub export_own_read : (xs : List Tree) (x : Tree) (c m d : Place) → ExportClauseRule k true xs (after c) m → word_at (codes "from") m ≡ false → Ends m d
       → x ≡ tree.export_named (spanned c d) (listed xs) tree.absent tree.absent → ReadsCalm (export_decl (stmt n nested_item) (expr n) (pattern n) (parameters n) (member n) (object_alone n)) k x c d
   export_own_read xs x c m d r a g e w f h calm = braces_clause xs c m w f h r ∙ rw a refl ∙ own_names_read n k xs x c m d (clause_silent r) g e w f h calm
 

@@ -117,7 +117,7 @@ no_trees : QuietAll []
 no_trees = (λ env b. refl, refl, refl)
 
 quiet_also : (x : Tree) (xs : List Tree) → Quiet x → QuietAll xs → QuietAll (x ∷ xs)
-quiet_also x xs q r = (λ env b. rw (q.0 env, r.0 _ false) refl, rw (q.1, r.1) refl, rw (q.2, r.2) refl)
+quiet_also x xs q r = (λ env b. rw (q.0 env, r.0 _ _) refl, rw (q.1, r.1) refl, rw (q.2, r.2) refl)
 
 quiet_as : (x y : Tree) → x ≡ y → Quiet y → Quiet x
 quiet_as x y e q = rw e q

@@ -161,8 +161,8 @@ module _ (export_reads : (n : ℕ) (k : Code) (x : Tree) (c d : Place) → IsMod
   module _ (n : ℕ) (k : Code) (o : IsModule k) where
     -- the rest is read in the same code
     rest : (b : Bool) (x : Tree) (xs : List Tree) (others : Bool) (m d : Place) → ModuleItemsRule (Reads n) (behind_item (directed k b x) x) (directs_on b x) xs others m d
-        → ModuleItemsRule (Reads n) k false xs others m d
-    rest b x xs others m d r = subst (λ j. ModuleItemsRule (Reads n) j false xs others m d) (behind_same k o b x) r
+        → ModuleItemsRule (Reads n) k (directs_on b x) xs others m d
+    rest b x xs others m d r = subst (λ j. ModuleItemsRule (Reads n) j (directs_on b x) xs others m d) (behind_same k o b x) r
 
     -- no error token stands behind one: the next begins there, or all end
     pub no_error : (b : Bool) (xs : List Tree) (awaits : Bool) (m d : Place) → ModuleItemsRule (Reads n) k b xs awaits m d → all_supported_items (trees xs) ≡ true → all_notes (trees xs) ≡ []
@@ -181,10 +181,10 @@ module _ (export_reads : (n : ℕ) (k : Code) (x : Tree) (c d : Place) → IsMod
         let v = nil-split (notes x) (all_notes (trees xs)) q in
         let more = rest b x xs others m d rs in
         let j = st m k w (f ++ walk (env_of k w.labels) x) (h ⊕ notes_with x (begins_with_await x c)) in
-        let one = item_reads n k x c m o (ordered_first (is_led x) (any_led (trees xs)) c order) r t.0 v.0 w f h (inr (no_error false xs others m d more t.1 v.1 a)) in
+        let one = item_reads n k x c m o (ordered_first (is_led x) (any_led (trees xs)) c order) r t.0 v.0 w f h (inr (no_error (directs_on b x) xs others m d more t.1 v.1 a)) in
         let first = items_more (module_item n) at_end true found (st c k w f h) x j (item_goes n k x c m o r t.0 v.0).0 one (item_shorter n (st c k w f h) x j one) in
         let turn = rw (p, directed_same k o b x) at first in
-        turn ∙ many_read xs (found ++ x ∷ []) false others m d w j.faults j.notes (directs_behind true found x) more t.1 v.1 (ordered_others (is_led x) (any_led (trees xs)) c m (item_ordered n k x c m r) order) e a
+        turn ∙ many_read xs (found ++ x ∷ []) (directs_on b x) others m d w j.faults j.notes (directs_behind true found x b p) more t.1 v.1 (ordered_others (is_led x) (any_led (trees xs)) c m (item_ordered n k x c m r) order) e a
         ∙ rw (z, env_same (env_of k w.labels) o.1 b x) (simp (append_assoc, or_shift) refl)
 
     pub items_read : (xs : List Tree) (awaits : Bool) (c d : Place) (w : Scope) (f : List Fault) (h : Notes) → ModuleItemsRule (Reads n) k true xs awaits c d → all_supported_items (trees xs) ≡ true

@@ -13,7 +13,7 @@ use Rattle.swc_ecma_parser_grammar.specs.Entries.{items_await}
 use Rattle.swc_ecma_parser_grammar.specs.Looks.{kind_at, spanned, sees, same_kind}
 use Rattle.swc_ecma_parser_grammar.specs.Names.{Code}
 use Rattle.swc_ecma_parser_grammar.specs.Notes.{notes, all_notes}
-use Rattle.swc_ecma_parser_grammar.specs.Reads.{top_item, ReadsItems, directed}
+use Rattle.swc_ecma_parser_grammar.specs.Reads.{top_item, ReadsItems, directed, directs_on}
 use Rattle.swc_ecma_parser_grammar.specs.Walk.{env_of, walks, walk_items, walk}
 use Rattle.swc_ecma_parser_grammar.specs.language.ModuleItems.{ModuleItemsRule, statement_rule, import_item_rule, export_item_rule, behind_item, begins_with_await}
 use Rattle.swc_ecma_parser_grammar.specs.language.Noted.{has_meta, any_has_meta}
@@ -126,7 +126,7 @@ module_by n recorded s shebang first m d before behind others o r rs e b v g t p
 -- code that may be a module's may be one behind statements too
 code_may : (k : Code) (directives : Bool) (xs : List Tree) → k.flags.can_be_module ≡ true → (code_behind k directives xs).flags.can_be_module ≡ true
 code_may k directives [] h = h
-code_may k directives (x ∷ xs) h = code_may (directed k directives x) false xs (directed_may k directives x h)
+code_may k directives (x ∷ xs) h = code_may (directed k directives x) (directs_on directives x) xs (directed_may k directives x h)
 
 -- a module by what was read before it began and behind
 module_of : (n : ℕ) (recorded : List Fault) (s : State) (shebang : Option Text) (first : Place) (w : Front) (u : State) (ys : List Tree) (v : State) → ShebangRule s.at first shebang
@@ -169,7 +169,7 @@ unfolding begins_decorators
 set_there k m a b = and_both k.setting.decorators (sees kind.At m) a b
 
 module _ (n : ℕ) (recorded : List Fault) (s : State) (shebang : Option Text) (first m d : Place) (before : List Tree) (y : Tree) (ys : List Tree) (others : Bool) (o : ShebangRule s.at first shebang)
-    (r : ReadsItems (Item (suc n)) (program_code s.code) true before first m) (i : Place) (rs : ModuleItemsRule (Reads (suc n)) (in_module (code_behind (program_code s.code) true before)) false ys others i d)
+    (r : ReadsItems (Item (suc n)) (program_code s.code) true before first m) (i : Place) (rs : ModuleItemsRule (Reads (suc n)) (in_module (code_behind (program_code s.code) true before)) (directs_on true y) ys others i d)
     (ends : kind_at d ≡ kind.End) (t : all_supported_items (trees ys) ≡ true) (p : all_notes (trees before) ≡ []) (q : all_notes (trees ys) ≡ []) (order : OrderedFor (any_led (trees ys)) i) (sign : kind_at m ≡ kind.At)
     (setting : (code_behind (program_code s.code) true before).setting.decorators ≡ true)
     (l : LedExport n (code_behind (program_code s.code) true before) (module_code (code_behind (program_code s.code) true before)) y m i) (calm : Calm (code_behind (program_code s.code) true before) s.scope.labels y i) where
@@ -198,7 +198,7 @@ module _ (n : ℕ) (recorded : List Fault) (s : State) (shebang : Option Text) (
   fb = walk (env_of j s.scope.labels) l.bare
 
   abbrev fi : List Fault
-  fi = walk_items (env_of j s.scope.labels) false (trees ys)
+  fi = walk_items (env_of j s.scope.labels) (directs_on true y) (trees ys)
 
   abbrev u : State
   u = st l.word k1 s.scope (f1 ++ fl) (h1 ⊕ notes_of l.list)
@@ -216,8 +216,8 @@ module _ (n : ℕ) (recorded : List Fault) (s : State) (shebang : Option Text) (
       let w = no_end_at l.word l.is_word in
       let e = entered recorded u in
       let one = behind ((f1 ++ fl) ++ recorded) (record (h1 ⊕ notes_of l.list) { held_back = [] }) in
-      let rest = many_read export_reads (suc n) j (refl, refl) ys (y ∷ []) false others i d s.scope (((f1 ++ fl) ++ recorded) ++ fb) (record (h1 ⊕ notes_of l.list) { held_back = [] } ⊕ notes_of l.bare) refl
-      (subst (λ z. ModuleItemsRule (Reads (suc n)) z false ys others i d) (sym same_code) rs) t q order (at_end_at d ends) (ap is_error ends) in
+      let rest = many_read export_reads (suc n) j (refl, refl) ys (y ∷ []) (directs_on true y) others i d s.scope (((f1 ++ fl) ++ recorded) ++ fb) (record (h1 ⊕ notes_of l.list) { held_back = [] } ⊕ notes_of l.bare) refl
+      (subst (λ z. ModuleItemsRule (Reads (suc n)) z (directs_on true y) ys others i d) (sym same_code) rs) t q order (at_end_at d ends) (ap is_error ends) in
       module_of (suc n) recorded s shebang first (record { before = before; list = list }) u (y ∷ ys) v o
       (front_led (suc n) before k0 first m s.scope s.faults s.notes r g.2 n refl g.0 (set_there k1 m setting g.1) list u read w.0)
       (ap (λ b. b && not u.notes.found_module_item) w.1) (led_items n list e _ y ys v any one rest)
@@ -282,7 +282,7 @@ no_rule y h e = absurd (true≢false (sym h ∙ e))
 led_first : (n : ℕ) (recorded : List Fault) (s : State) (shebang : Option Text) (first d : Place) (o : ShebangRule s.at first shebang) (ends : kind_at d ≡ kind.End)
     (m : Place) (before : List Tree) (y : Tree) (ys : List Tree) (others awaits : Bool) (r : ReadsItems (Item n) (program_code s.code) true before first m)
     (z : awaits ≡ (items_await (Item n) (program_code s.code) true before first m r || others)) (i : Place) (more : Bool) (one : Reads n (item_goal (code_behind (program_code s.code) true before) y m i))
-    (rs : ModuleItemsRule (Reads n) (behind_item (directed (code_behind (program_code s.code) true before) true y) y) false ys more i d) (f : others ≡ (begins_with_await y m || more))
+    (rs : ModuleItemsRule (Reads n) (behind_item (directed (code_behind (program_code s.code) true before) true y) y) (directs_on true y) ys more i d) (f : others ≡ (begins_with_await y m || more))
     (t : all_supported_items (trees (before ++ y ∷ ys)) ≡ true) (q : all_notes (trees (before ++ y ∷ ys)) ≡ []) (order : OrderedFor (any_led (trees (y ∷ ys))) m) (declares : is_module_decl y ≡ true)
     (walked : walk_items (env_of (program_code s.code) s.scope.labels) true (trees (before ++ y ∷ ys))
     ≡ walks (env_of (program_code s.code) s.scope.labels) true (trees before) ++ walk_items (env_of (code_behind (program_code s.code) true before) s.scope.labels) true (trees (y ∷ ys)))
@@ -297,9 +297,9 @@ led_first (suc n) recorded s shebang first d o ends m before y ys others awaits 
     let w = nil-split (all_notes (trees before)) (all_notes (trees (y ∷ ys))) (sym (notes_joined before (y ∷ ys)) ∙ q) in
     let g = nil-split (notes y) (all_notes (trees ys)) w.1 in
     let l : LedExport n kb (module_code kb) y m i = export_led n kb (module_code kb) (refl, refl) inner y m i b sign.0 c.0 g.0 in
-    let rest : ModuleItemsRule (Reads (suc n)) (in_module kb) false ys more i d = subst (λ j. ModuleItemsRule (Reads (suc n)) j false ys more i d) (declared_code kb true y declares) rs in
+    let rest : ModuleItemsRule (Reads (suc n)) (in_module kb) (directs_on true y) ys more i d = subst (λ j. ModuleItemsRule (Reads (suc n)) j (directs_on true y) ys more i d) (declared_code kb true y declares) rs in
     let after_first : OrderedFor (any_led (trees ys)) i = λ h. item_ordered (suc n) kb y m i (export_item_rule b) (order (ap (λ v. is_led y || v) h ∙ or_true (is_led y))) in
-    let calm : Calm kb s.scope.labels y i = inr (no_error export_reads (suc n) (in_module kb) (refl, refl) false ys more i d rest c.1 g.1 (ap is_error ends)) in
+    let calm : Calm kb s.scope.labels y i = inr (no_error export_reads (suc n) (in_module kb) (refl, refl) (directs_on true y) ys more i d rest c.1 g.1 (ap is_error ends)) in
     let read = led_read n recorded s shebang first m d before y ys more o r i rest ends c.1 w.0 g.1 after_first sign.0 sign.1 l calm in
     let left = led_left n recorded s shebang first m d before y ys more o r i rest ends c.1 w.0 g.1 after_first sign.0 sign.1 l calm in
     let held = none_held n recorded s shebang first m d before y ys more o r i rest ends c.1 w.0 g.1 after_first sign.0 sign.1 l calm in
@@ -308,13 +308,13 @@ led_first (suc n) recorded s shebang first d o ends m before y ys others awaits 
     let same : awaits ≡ (a || more) = z ∙ ap (λ v. a || v) (f ∙ ap (λ v. (not v && sees kind.Await m) || more) declares) in
     let fl = walk (env_of kb s.scope.labels) l.list in
     let fb = walk (env_of (module_code kb) s.scope.labels) l.bare in
-    let fi = walk_items (env_of (module_code kb) s.scope.labels) false (trees ys) in
+    let fi = walk_items (env_of (module_code kb) s.scope.labels) (directs_on true y) (trees ys) in
     let fs = walks (env_of (program_code s.code) s.scope.labels) true (trees before) in
     subst (λ v. Answer (suc n) recorded s x d v) (sym same) (
       fs ++ fl,
       fb ++ fi,
       two_two fs fl fb fi ∙ ap (λ v. fs ++ (v ++ fi)) (l.walked s.scope.labels)
-          ∙ ap (λ v. fs ++ (walk (env_of kb s.scope.labels) y ++ walk_items v false (trees ys))) (sym (declared_env (env_of kb s.scope.labels) true y declares)) ∙ sym walked,
+          ∙ ap (λ v. fs ++ (walk (env_of kb s.scope.labels) y ++ walk_items v (directs_on true y) (trees ys))) (sym (declared_env (env_of kb s.scope.labels) true y declares)) ∙ sym walked,
       read ∙ (λ v. Ok ((x, held v), left v)),
     )
 
@@ -348,7 +348,7 @@ module _ (n : ℕ) (recorded : List Fault) (s : State) (shebang : Option Text) (
   -- an import or an export without decorators before it
   module _ (m : Place) (before : List Tree) (y : Tree) (ys : List Tree) (others awaits : Bool) (r : ReadsItems (Item n) (program_code s.code) true before first m)
       (z : awaits ≡ (items_await (Item n) (program_code s.code) true before first m r || others)) (i : Place) (more : Bool) (one : Reads n (item_goal (code_behind (program_code s.code) true before) y m i))
-      (rs : ModuleItemsRule (Reads n) (behind_item (directed (code_behind (program_code s.code) true before) true y) y) false ys more i d) (f : others ≡ (begins_with_await y m || more))
+      (rs : ModuleItemsRule (Reads n) (behind_item (directed (code_behind (program_code s.code) true before) true y) y) (directs_on true y) ys more i d) (f : others ≡ (begins_with_await y m || more))
       (t : all_supported_items (trees (before ++ y ∷ ys)) ≡ true) (q : all_notes (trees (before ++ y ∷ ys)) ≡ []) (order : OrderedFor (any_led (trees (y ∷ ys))) m) (declares : is_module_decl y ≡ true)
       (walked : walk_items (env_of (program_code s.code) s.scope.labels) true (trees (before ++ y ∷ ys))
       ≡ walks (env_of (program_code s.code) s.scope.labels) true (trees before) ++ walk_items (env_of (code_behind (program_code s.code) true before) s.scope.labels) true (trees (y ∷ ys))) where
@@ -371,7 +371,7 @@ module _ (n : ℕ) (recorded : List Fault) (s : State) (shebang : Option Text) (
           i,
           more,
           subst (λ j. Reads n (item_goal j y m i)) (sym inner) (item_module n kb y m i declares off one),
-          subst (λ j. ModuleItemsRule (Reads n) j false ys more i d) (declared_code kb true y declares ∙ sym inner ∙ sym (declared_code (module_code kb) true y declares)) rs,
+          subst (λ j. ModuleItemsRule (Reads n) j (directs_on true y) ys more i d) (declared_code kb true y declares ∙ sym inner ∙ sym (declared_code (module_code kb) true y declares)) rs,
           f,
         ) (before_word m there.0) there.2 (no_and (at_end m) _ there.1) t q order
         (walked ∙ ap (λ v. walks (env_of (program_code s.code) s.scope.labels) true (trees before) ++ v)

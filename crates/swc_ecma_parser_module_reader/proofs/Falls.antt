@@ -29,7 +29,7 @@ use Rattle.swc_ecma_parser_reader.specs.Jumps.{told}
 use Rattle.swc_ecma_parser_reader.specs.Members.{class_decl, class_expr, class_stmt}
 use Rattle.swc_ecma_parser_reader.specs.Methods.{method_form, star}
 use Rattle.swc_ecma_parser_reader.specs.Operands.{literal, literal_in, taken, word_property}
-use Rattle.swc_ecma_parser_reader.specs.Reader.{variables, const_stmt, let_stmt, function_stmt, function_decl, function_parts, function_word, function_by, function, plain_method, async_or_other, named, optional_end, expr, pattern, member, stmt, stmt_level, parameters, object_alone, await_using_or}
+use Rattle.swc_ecma_parser_reader.specs.Reader.{variables, const_stmt, let_stmt, function_stmt, function_decl, function_parts, function_word, function_by, function, plain_method, async_or_other, named, expr, pattern, member, stmt, stmt_level, parameters, object_alone, await_using_or}
 use Rattle.swc_ecma_parser_reader.specs.State.{State, Outcome, Reader, and_then, moved, coded, within, name, expect, expect_word, end, loop}
 use Rattle.swc_ecma_parser_reader.specs.Words.{any_word}
 use Rattle.swc_ecma_parser_reader.proofs.Falls.{expr_falls, functions_fall, member_falls, stmt_falls, whole_stmt_falls}
@@ -245,15 +245,11 @@ module _ (object : Reader Tree) (takes : (s : State) → Falls 0 (length s.at.le
   unfolding names_from
   names_from_falls start xs s = behind_source_falls _ s
 
-  optional_end_falls : (s : State) → Falls 0 (length s.at.left) (optional_end s)
-  unfolding optional_end
-  optional_end_falls s = falls_if 0 (length s.at.left) (sees kind.Semi s.at) _ _ (let m = moves s.at in omega arith) (omega arith)
-
   own_names_fall : (start : Span) (xs : List Tree) (s : State) → Falls 0 (length s.at.left) (own_names start xs s)
   unfolding own_names
   own_names_fall start xs s =
       let fs = export_faults tree.absent (listed xs) in
-      falls_then 0 0 (length s.at.left) (told fs s) _ (told_falls fs s) (λ _ t. falls_last 0 (length t.at.left) (optional_end t) _ (optional_end_falls t))
+      falls_then 0 0 (length s.at.left) (told fs s) _ (told_falls fs s) (λ _ t. falls_last 0 (length t.at.left) (end faults.Expected t) _ (end_falls faults.Expected t))
 
   export_names_fall : (start : Span) (before : List Tree) (s : State) → Falls 0 (length s.at.left) (export_names object start before s)
   unfolding export_names

@@ -75,7 +75,7 @@ module _ (n : ℕ) where
       let j = st m k w (f ++ walk (env_of k w.labels) x) (h ⊕ notes_with x (sees kind.Await c)) in
       let one = whole_reads n top_item k x c m r w f h (inr (no_error (directed k b x) (directs_on b x) xs m d more a)) in
       let first = front_more n found (st c k w f h) (top_begins n k x c m r) x j one (statement_plain n k x c m r w f h) in
-      let rest = front_many xs (found ++ x ∷ []) false (directed k b x) m d w j.faults j.notes (directs_behind true found x) more a in
+      let rest = front_many xs (found ++ x ∷ []) (directs_on b x) (directed k b x) m d w j.faults j.notes (directs_behind true found x b p) more a in
       let turn = rw p at first in
       turn ∙ rest ∙ rw (directed_walk k b x w.labels) (simp (append_assoc, or_shift) refl)
 

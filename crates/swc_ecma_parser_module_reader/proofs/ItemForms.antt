@@ -27,7 +27,7 @@ use Rattle.swc_ecma_parser_reader.specs.Jumps.{told}
 use Rattle.swc_ecma_parser_reader.specs.Members.{class_expr, class_decl}
 use Rattle.swc_ecma_parser_reader.specs.Methods.{star}
 use Rattle.swc_ecma_parser_reader.specs.Reader as reader
-use Rattle.swc_ecma_parser_reader.specs.Reader.{expr, pattern, member, stmt, object_alone, variables, function_decl, function_parts, function_word, optional_end}
+use Rattle.swc_ecma_parser_reader.specs.Reader.{expr, pattern, member, stmt, object_alone, variables, function_decl, function_parts, function_word}
 use Rattle.swc_ecma_parser_reader.specs.State.{State, Reader, moved, within, name, end}
 use Rattle.swc_ecma_parser_reader.specs.Words.{any_word}
 use Rattle.swc_ecma_parser_reader.proofs.Meets.{Meets, always, meets_then, meets_if, wanted_meets, too_deep_meets}
@@ -77,7 +77,7 @@ module _ (object : Reader Tree) where
 
   own_names_form : (start : Span) (xs : List Tree) (s : State) → Meets Declared (own_names start xs s)
   unfolding own_names
-  own_names_form start xs s = always _ (told (export_faults tree.absent (listed xs)) s) _ (λ _ t. always _ (optional_end t) _ (λ _ u. (refl, λ env. refl)))
+  own_names_form start xs s = always _ (told (export_faults tree.absent (listed xs)) s) _ (λ _ t. always _ (end faults.Expected t) _ (λ _ u. (refl, λ env. refl)))
 
   export_names_form : (start : Span) (xs : List Tree) (s : State) → Meets Declared (export_names object start xs s)
   unfolding export_names

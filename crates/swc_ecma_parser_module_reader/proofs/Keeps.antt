@@ -31,7 +31,7 @@ use Rattle.swc_ecma_parser_reader.specs.Jumps.{told}
 use Rattle.swc_ecma_parser_reader.specs.Members.{class_decl, class_expr}
 use Rattle.swc_ecma_parser_reader.specs.Methods.{star}
 use Rattle.swc_ecma_parser_reader.specs.Operands.{literal, literal_in, taken, word_property}
-use Rattle.swc_ecma_parser_reader.specs.Reader.{at_end, items, variables, function_decl, function_parts, function_body, misdirected, function_word, named, optional_end, expr, pattern, member, stmt, parameters, object_alone, shebang}
+use Rattle.swc_ecma_parser_reader.specs.Reader.{at_end, items, variables, function_decl, function_parts, function_body, misdirected, function_word, named, expr, pattern, member, stmt, parameters, object_alone, shebang}
 use Rattle.swc_ecma_parser_reader.specs.State.{State, Reader, moved, coded, within, name, expect, expect_word, end, loop}
 use Rattle.swc_ecma_parser_reader.specs.Words.{any_word}
 use Rattle.swc_ecma_parser_reader.specs.Entry.{unmarked, Stays}
@@ -197,15 +197,11 @@ module _ (object : Reader Tree) (inner : Passes object) where
       answers_then (Kept b) _ (attributes object t) _ (attributes_keep object inner b t g) (λ _ u h.
       answers_then (Kept b) _ (end faults.Expected u) _ (end_keeps b u h faults.Expected) (λ _ v k. k)))
 
-  optional_end_keeps : Passes optional_end
-  unfolding optional_end
-  optional_end_keeps b s f = answers_if _ _ (sees kind.Semi s.at) _ _ (λ seen. behind_seen b s kind.Semi seen refl f) (λ _. f)
-
   own_names_keep : (start : Span) (xs : List Tree) → Passes (own_names start xs)
   unfolding own_names
   own_names_keep start xs b s f =
       let fs = export_faults tree.absent (listed xs) in
-      answers_then (Kept b) _ (told fs s) _ (told_keeps b fs s f) (λ _ t g. answers_then (Kept b) _ (optional_end t) _ (optional_end_keeps b t g) (λ _ u h. h))
+      answers_then (Kept b) _ (told fs s) _ (told_keeps b fs s f) (λ _ t g. answers_then (Kept b) _ (end faults.Expected t) _ (end_keeps b t g faults.Expected) (λ _ u h. h))
 
   export_names_keep : (start : Span) (before : List Tree) → Passes (export_names object start before)
   unfolding export_names

@@ -59,3 +59,4 @@ pub mod ItemTurns
 pub mod SoundItems
 pub mod CompleteItems
 pub mod ItemEntries
+pub mod ItemsAtEnd

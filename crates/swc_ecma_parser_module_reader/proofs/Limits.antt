@@ -28,7 +28,7 @@ use Rattle.swc_ecma_parser_reader.specs.Jumps.{told}
 use Rattle.swc_ecma_parser_reader.specs.Members.{class_decl, class_expr}
 use Rattle.swc_ecma_parser_reader.specs.Methods.{star}
 use Rattle.swc_ecma_parser_reader.specs.Operands.{literal, word_property}
-use Rattle.swc_ecma_parser_reader.specs.Reader.{at_end, items_turn, items, variables, function_decl, function_parts, function_word, named, optional_end, expr, pattern, member, stmt, parameters, object_alone, shebang}
+use Rattle.swc_ecma_parser_reader.specs.Reader.{at_end, items_turn, items, variables, function_decl, function_parts, function_word, named, expr, pattern, member, stmt, parameters, object_alone, shebang}
 use Rattle.swc_ecma_parser_reader.specs.State.{State, Reader, moved, coded, within, name, expect, expect_word, end, loop}
 use Rattle.swc_ecma_parser_reader.specs.Words.{any_word}
 use Rattle.swc_ecma_parser_reader.specs.Limits.{has_too_deep_token}
@@ -180,15 +180,11 @@ unfolding export_namespace
 export_namespace_flat start m s f = answers_then (Kept m) _ (expect_word (codes "as") s) _ (expect_word_flat (codes "as") m s f) (λ _ t g.
     answers_then (Kept m) _ (module_name t) _ (module_name_flat m t g) (λ n u h. h))
 
-optional_end_flat : Flat optional_end
-unfolding optional_end
-optional_end_flat m s f = answers_if _ _ (sees kind.Semi s.at) _ _ (λ _. fine_after m s.at f) (λ _. f)
-
 own_names_flat : (start : Span) (xs : List Tree) → Flat (own_names start xs)
 unfolding own_names
 own_names_flat start xs m s f =
     let fs = export_faults tree.absent (listed xs) in
-    answers_then (Kept m) _ (told fs s) _ (told_shallow m fs s f) (λ _ t g. answers_then (Kept m) _ (optional_end t) _ (optional_end_flat m t g) (λ _ u h. h))
+    answers_then (Kept m) _ (told fs s) _ (told_shallow m fs s f) (λ _ t g. answers_then (Kept m) _ (end faults.Expected t) _ (end_flat m t g) (λ _ u h. h))
 
 module _ (object : Reader Tree) (n : ℕ) (inner : Levels n object) where
   names_from_levels : (start : Span) (xs : List Tree) → Levels n (names_from object start xs)

@@ -1,15 +1,17 @@
 -- Code of a module: imports and exports leave it as it is, and so do directives. Other code becomes a module's behind an import or an export.
-use Rattle.std.proofs.Common.{◌≡◌, Bool, true, false, cond, List, refl, sym, ◌∙◌, ap}
+use Rattle.std.proofs.Common.{◌≡◌, Bool, true, false, cond, List, [], ◌∷◌, ◌++◌, refl, sym, ◌∙◌, ap, subst}
 use Rattle.std.specs.Prelude.{◌&&◌}
 use Rattle.swc_ecma_parser_model.specs.Directive.{is_use_strict}
 use Rattle.swc_ecma_parser_model.specs.Kinds.{is_module_decl}
-use Rattle.swc_ecma_parser_model.specs.Tree.{Tree, Text}
+use Rattle.swc_ecma_parser_input.specs.Place.{Place}
+use Rattle.swc_ecma_parser_model.specs.Tree.{Tree, Text, trees}
 use Rattle.swc_ecma_parser_grammar.specs.Names.{Code}
-use Rattle.swc_ecma_parser_grammar.specs.Reads.{in_strict, directed}
+use Rattle.swc_ecma_parser_grammar.specs.Reads.{in_strict, directed, directs_on}
 use Rattle.swc_ecma_parser_grammar.specs.Walk as walks
-use Rattle.swc_ecma_parser_grammar.specs.Walk.{Env, env_of}
+use Rattle.swc_ecma_parser_grammar.specs.Walk.{Env, env_of, walk, walk_items}
 use Rattle.swc_ecma_parser_grammar.specs.language.Contexts.{in_module}
-use Rattle.swc_ecma_parser_grammar.specs.language.ModuleItems.{behind_item}
+use Rattle.swc_ecma_parser_grammar.specs.language.Goals.{Goal}
+use Rattle.swc_ecma_parser_grammar.specs.language.ModuleItems.{ModuleItemsRule, behind_item}
 use Rattle.swc_ecma_parser_module_reader.specs.Modules.{module_code}
 
 abbrev pub IsModule : Code → Type 0
@@ -48,6 +50,25 @@ env_strict env h false = refl
 pub env_same : (env : Env) → env.strict ≡ true → (directives : Bool) (x : Tree) → walks.behind_item (walks.directed env directives x) x ≡ env
 env_same env h directives x = ap (λ v. walks.behind_item v x) (env_strict env h (directives && is_use_strict x)) ∙ env_strict env h (is_module_decl x)
 
+-- ---- in module code it does not matter whether a directive can stand first
+
+pub undirected : (In : Goal → Type 0) (k : Code) → IsModule k → (zs : List Tree) (a b awaits : Bool) (c d : Place) → ModuleItemsRule In k a zs awaits c d → ModuleItemsRule In k b zs awaits c d
+undirected In k o [] a b awaits c d r = r
+undirected In k o (z ∷ zs) a b awaits c d (i, others, q, qs, e) = (
+  i,
+  others,
+  q,
+  subst (λ j. ModuleItemsRule In j (directs_on b z) zs others i d) (sym (behind_same k o b z))
+      (undirected In k o zs (directs_on a z) (directs_on b z) others i d (subst (λ j. ModuleItemsRule In j (directs_on a z) zs others i d) (behind_same k o a z) qs)),
+  e,
+)
+
+pub undirected_walk : (env : Env) → env.strict ≡ true → (zs : List Tree) (a b : Bool) → walk_items env a (trees zs) ≡ walk_items env b (trees zs)
+undirected_walk env h [] a b = refl
+undirected_walk env h (z ∷ zs) a b = ap (λ v. walk env z ++ walk_items v (directs_on a z) (trees zs)) (env_same env h a z)
+    ∙ ap (λ v. walk env z ++ v) (undirected_walk env h zs (directs_on a z) (directs_on b z))
+    ∙ ap (λ v. walk env z ++ walk_items v (directs_on b z) (trees zs)) (sym (env_same env h b z))
+
 -- ---- code that is none yet
 
 -- code that may be a module's becomes one's as behind an import
@@ -76,6 +97,18 @@ declared_env env directives y d = ap (λ b. cond b (walks.in_module (walks.direc
     by_test : (b : Bool) → walks.in_module (cond b (record env { strict = true }) env) ≡ walks.in_module env
     by_test true = refl
     by_test false = refl
+
+-- so it does not matter there either whether a directive could stand before it
+pub declared_rule : (In : Goal → Type 0) (k : Code) (a b : Bool) (y : Tree) (ys : List Tree) (awaits : Bool) (c d : Place) → is_module_decl y ≡ true
+    → ModuleItemsRule In (behind_item (directed k a y) y) (directs_on a y) ys awaits c d → ModuleItemsRule In (behind_item (directed k b y) y) (directs_on b y) ys awaits c d
+declared_rule In k a b y ys awaits c d e r =
+    subst (λ j. ModuleItemsRule In j (directs_on b y) ys awaits c d) (sym (declared_code k b y e))
+    (undirected In (in_module k) (refl, refl) ys (directs_on a y) (directs_on b y) awaits c d (subst (λ j. ModuleItemsRule In j (directs_on a y) ys awaits c d) (declared_code k a y e) r))
+
+pub declared_walk : (env : Env) (a b : Bool) (y : Tree) (ys : List Tree) → is_module_decl y ≡ true → walk_items env a (trees (y ∷ ys)) ≡ walk_items env b (trees (y ∷ ys))
+declared_walk env a b y ys e = ap (λ v. walk env y ++ walk_items v (directs_on a y) (trees ys)) (declared_env env a y e)
+    ∙ ap (λ v. walk env y ++ v) (undirected_walk (walks.in_module env) refl ys (directs_on a y) (directs_on b y))
+    ∙ ap (λ v. walk env y ++ walk_items v (directs_on b y) (trees ys)) (sym (declared_env env b y e))
 
 -- behind a statement it is what its directive made of it
 pub stated_code : (k : Code) (x : Tree) → is_module_decl x ≡ false → behind_item k x ≡ k

@@ -32,7 +32,7 @@ use Rattle.swc_ecma_parser_module_reader.specs.Modules.{module_code}
 use Rattle.swc_ecma_parser_module_reader.specs.ProgramEntry.{any_module_decl}
 use Rattle.swc_ecma_parser_module_reader.proofs.ItemForms.{IsDeclaration}
 use Rattle.swc_ecma_parser_module_reader.proofs.ItemStarts.{statement_told, no_module_decl, sign_seen}
-use Rattle.swc_ecma_parser_module_reader.proofs.ModuleCode.{entered_code, declared_code, declared_env, stated_code, stated_env}
+use Rattle.swc_ecma_parser_module_reader.proofs.ModuleCode.{entered_code, declared_code, declared_env, declared_rule, declared_walk, stated_code, stated_env}
 use Rattle.swc_ecma_parser_module_reader.proofs.SoundModules.{stmt_item}
 
 -- nothing stands there, or an import or an export first
@@ -68,22 +68,22 @@ around_walk k labels [] l = refl
 around_walk k labels (y ∷ ys) (d, w) =
     let env = env_of k labels in
     let strict = env_of (module_code k) labels in
-    ap (λ z. z ++ walk_items (walks.behind_item (walks.directed strict true y) y) false (trees ys)) (w env)
-    ∙ ap (λ v. walk env y ++ walk_items v false (trees ys)) (declared_env strict true y d ∙ sym (declared_env env true y d))
+    ap (λ z. z ++ walk_items (walks.behind_item (walks.directed strict true y) y) (directs_on true y) (trees ys)) (w env)
+    ∙ ap (λ v. walk env y ++ walk_items v (directs_on true y) (trees ys)) (declared_env strict true y d ∙ sym (declared_env env true y d))
 
 pub walk_joined : (k : Code) (labels : List Text) (directives : Bool) (xs ys : List Tree) → any_module_decl (trees xs) ≡ false → Leads ys
     → walks.walks (env_of k labels) directives (trees xs) ++ walk_items (env_of (code_after k directives xs) labels) true (trees ys) ≡ walk_items (env_of k labels) directives (trees (xs ++ ys))
 walk_joined k labels directives [] [] h l = refl
-walk_joined k labels directives [] (y ∷ ys) h d =
-    let env = env_of k labels in ap (λ v. walk env y ++ walk_items v false (trees ys)) (declared_env env true y d ∙ sym (declared_env env directives y d))
+walk_joined k labels directives [] (y ∷ ys) h d = declared_walk (env_of k labels) true directives y ys d
 walk_joined k labels directives (x ∷ xs) ys h l =
     let g = or_no (is_module_decl x) (any_module_decl (trees xs)) h in
     let env = env_of k labels in
-    let last = walk_items (env_of (code_after (directed k directives x) false xs) labels) true (trees ys) in
-    append_assoc (walk env x) (walks.walks (walks.directed env directives x) false (trees xs)) last
-    ∙ ap (λ z. walk env x ++ z) (subst (λ v. walks.walks v false (trees xs) ++ last ≡ walk_items v false (trees (xs ++ ys))) (directed_env k labels directives x)
-    (walk_joined (directed k directives x) labels false xs ys g.1 l))
-    ∙ ap (λ v. walk env x ++ walk_items v false (trees (xs ++ ys))) (sym (stated_env (walks.directed env directives x) x g.0))
+    let b : Bool = directs_on directives x in
+    let last = walk_items (env_of (code_after (directed k directives x) b xs) labels) true (trees ys) in
+    append_assoc (walk env x) (walks.walks (walks.directed env directives x) b (trees xs)) last
+    ∙ ap (λ z. walk env x ++ z) (subst (λ v. walks.walks v b (trees xs) ++ last ≡ walk_items v b (trees (xs ++ ys))) (directed_env k labels directives x)
+    (walk_joined (directed k directives x) labels b xs ys g.1 l))
+    ∙ ap (λ v. walk env x ++ walk_items v b (trees (xs ++ ys))) (sym (stated_env (walks.directed env directives x) x g.0))
 
 -- ---- in module code the statements of a script note nothing
 
@@ -131,7 +131,7 @@ around_rule n k (y ∷ ys) b c d (y_is, w) h o (i, others, q, qs, f) =
       i,
       others,
       declared_around n k y c i y_is h (subst (λ j. Reads n (item_goal j y c i)) enters q),
-      subst (λ j. ModuleItemsRule (Reads n) j false ys others i d) (declared_code (module_code k) true y y_is ∙ enters ∙ sym (declared_code k true y y_is)) qs,
+      subst (λ j. ModuleItemsRule (Reads n) j (directs_on true y) ys others i d) (declared_code (module_code k) true y y_is ∙ enters ∙ sym (declared_code k true y y_is)) qs,
       f,
     )
 
@@ -144,7 +144,7 @@ items_joined n k directives [] (y ∷ ys) a b c m d r e (i, others, q, qs, f) y_
   i,
   others,
   subst (λ z. Reads n (item_goal k y z i)) r q,
-  subst (λ j. ModuleItemsRule (Reads n) j false ys others i d) (declared_code k true y y_is ∙ sym (declared_code k directives y y_is)) qs,
+  declared_rule (Reads n) k true directives y ys others i d y_is qs,
   ap (λ z. z || b) e ∙ f ∙ ap (λ z. begins_with_await y z || others) r,
 )
 items_joined n k directives (x ∷ xs) ys a b c m d (i, q, more) e p l =

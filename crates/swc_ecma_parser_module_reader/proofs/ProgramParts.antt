@@ -15,7 +15,7 @@ use Rattle.swc_ecma_parser_grammar.specs.Looks.{kind_at, sees, same_kind, span_a
 use Rattle.swc_ecma_parser_grammar.specs.Names.{Code}
 use Rattle.swc_ecma_parser_grammar.specs.Notes.{notes, all_notes}
 use Rattle.swc_ecma_parser_grammar.specs.Own.{misplaced_directive}
-use Rattle.swc_ecma_parser_grammar.specs.Reads.{top_item, directed, ReadsItems}
+use Rattle.swc_ecma_parser_grammar.specs.Reads.{top_item, directed, directs_on, ReadsItems}
 use Rattle.swc_ecma_parser_grammar.specs.ReadsSupported.{ReadsTop}
 use Rattle.swc_ecma_parser_grammar.specs.Supported.{supported, all_supported}
 use Rattle.swc_ecma_parser_grammar.specs.Walk as walks_of
@@ -45,7 +45,7 @@ use Rattle.swc_ecma_parser_module_reader.specs.Supported.{supported_item, all_su
 use Rattle.swc_ecma_parser_module_reader.proofs.CompleteImports.{import_seen}
 use Rattle.swc_ecma_parser_module_reader.proofs.DecoratedForms.{walked_behind}
 use Rattle.swc_ecma_parser_module_reader.proofs.ItemStarts.{import_word, statement_told, import_told, export_told, supported_plain, exported_behind, default_behind, export_seen, sign_seen, ExportBegins}
-use Rattle.swc_ecma_parser_module_reader.proofs.ModuleCode.{declared_code, declared_env, stated_code, stated_env}
+use Rattle.swc_ecma_parser_module_reader.proofs.ModuleCode.{declared_rule, declared_walk, stated_code, stated_env}
 use Rattle.swc_ecma_parser_reader.proofs.expressions.CompleteKinds.{seen}
 use Rattle.swc_ecma_parser_module_reader.proofs.CompleteModules.{item_ordered}
 use Rattle.swc_ecma_parser_module_reader.proofs.Ordered.{InOrder, supported_behind, behind_only, steps_on, ordered_after, led_exported, led_default}
@@ -220,7 +220,7 @@ export_word_seen m e = (rw e refl, rw e refl, rw e refl)
 module _ (n : ℕ) where
   -- no statement stands before an import or an export
   parts_at : (k : Code) (b : Bool) (y : Tree) (ys : List Tree) (others awaits : Bool) (c m d : Place) → is_module_decl y ≡ true → WordThere c ⊎ SignThere k c
-      → Reads n (item_goal k y c m) → ModuleItemsRule (Reads n) (behind_item (directed k b y) y) false ys others m d → awaits ≡ (begins_with_await y c || others) → Parts n k b (y ∷ ys) awaits c d
+      → Reads n (item_goal k y c m) → ModuleItemsRule (Reads n) (behind_item (directed k b y) y) (directs_on b y) ys others m d → awaits ≡ (begins_with_await y c || others) → Parts n k b (y ∷ ys) awaits c d
   parts_at k b y ys others awaits c m d e g r rs z = record {
     before = [];
     behind = y ∷ ys;
@@ -229,16 +229,16 @@ module _ (n : ℕ) where
     others = awaits;
     reads_before = refl;
     awaited = refl;
-    reads_behind = (m, others, r, subst (λ j. ModuleItemsRule (Reads n) j false ys others m d) (declared_code k b y e ∙ sym (declared_code k true y e)) rs, z);
+    reads_behind = (m, others, r, declared_rule (Reads n) k b true y ys others m d e rs, z);
     plain = refl;
     begins = (e, g);
-    walked = λ l. ap (λ v. walk (env_of k l) y ++ walk_items v false (trees ys)) (declared_env (env_of k l) b y e ∙ sym (declared_env (env_of k l) true y e));
+    walked = λ l. declared_walk (env_of k l) b true y ys e;
     ordered = λ h. h;
   }
 
   -- one statement more before them
   parts_more : (k : Code) (b : Bool) (x : Tree) (xs : List Tree) (others awaits : Bool) (c m d : Place) → is_module_decl x ≡ false → ReadsTop n k top_item x c m → (InOrder c.left → InOrder m.left)
-      → Parts n (directed k b x) false xs others m d → awaits ≡ (begins_with_await x c || others) → Parts n k b (x ∷ xs) awaits c d
+      → Parts n (directed k b x) (directs_on b x) xs others m d → awaits ≡ (begins_with_await x c || others) → Parts n k b (x ∷ xs) awaits c d
   parts_more k b x xs others awaits c m d e r o p z = record {
     before = x ∷ p.before;
     behind = p.behind;
@@ -250,9 +250,9 @@ module _ (n : ℕ) where
     reads_behind = p.reads_behind;
     plain = ap (λ v. v || list_any is_module_decl p.before) e ∙ p.plain;
     begins = p.begins;
-    walked = λ l. ap (λ v. walk (env_of k l) x ++ walk_items v false (trees xs)) (stated_env (walks_of.directed (env_of k l) b x) x e ∙ sym (directed_walk k b x l))
+    walked = λ l. ap (λ v. walk (env_of k l) x ++ walk_items v (directs_on b x) (trees xs)) (stated_env (walks_of.directed (env_of k l) b x) x e ∙ sym (directed_walk k b x l))
         ∙ ap (λ v. walk (env_of k l) x ++ v) (p.walked l)
-        ∙ ap (λ v. walk (env_of k l) x ++ (walks v false (trees p.before) ++ walk_items (env_of (code_behind (directed k b x) false p.before) l) true (trees p.behind))) (directed_walk k b x l)
+        ∙ ap (λ v. walk (env_of k l) x ++ (walks v (directs_on b x) (trees p.before) ++ walk_items (env_of (code_behind (directed k b x) (directs_on b x) p.before) l) true (trees p.behind))) (directed_walk k b x l)
         ∙ sym (append_assoc (walk (env_of k l) x) _ _);
     ordered = λ h. p.ordered (o h);
   }
@@ -282,7 +282,7 @@ parts (suc n) k b (x ∷ xs) awaits c d (m, others, statement_rule r, rs, z) s q
     let e = statement_told (Reads n) k top_item x c m r.1 in
     let t = and_yes (supported_item x) (all_supported_items (trees xs)) s in
     parts_more (suc n) k b x xs others awaits c m d e (narrow n k x c m r t.0 (λ h. (nil-split (notes x) (all_notes (trees xs)) (q h)).0)) (item_ordered (suc n) k x c m (statement_rule r))
-    (parts (suc n) (directed k b x) false xs others m d (subst (λ j. ModuleItemsRule (Reads (suc n)) j false xs others m d) (stated_code (directed k b x) x e) rs) t.1
+    (parts (suc n) (directed k b x) (directs_on b x) xs others m d (subst (λ j. ModuleItemsRule (Reads (suc n)) j (directs_on b x) xs others m d) (stated_code (directed k b x) x e) rs) t.1
     (λ h. (nil-split (notes x) (all_notes (trees xs)) (q (sym (strict_module (b && is_use_strict x) k) ∙ h))).1)) z
 parts (suc n) k b (x ∷ xs) awaits c d (m, others, import_item_rule r, rs, z) s q =
     parts_at (suc n) k b x xs others awaits c m d (import_told (Reads n) (in_module k) x c m r) (inl (word_seen c (import_seen n (in_module k) x c m r))) (import_item_rule r) rs z

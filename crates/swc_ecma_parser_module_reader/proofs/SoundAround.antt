@@ -5,22 +5,21 @@ use Rattle.std.proofs.lemmas.List.{append_cancel_left}
 use Rattle.std.specs.Prelude.{not, ◌&&◌, ◌||◌}
 use Rattle.swc_ecma_parser_error.specs.Kind.{Fault}
 use Rattle.swc_ecma_parser_token.specs.declared.kind.TokenKind.TheVariants as kind
-use Rattle.swc_ecma_parser_input.specs.Place.{Place}
 use Rattle.swc_ecma_parser_model.specs.Tree.{Tree, listed, trees}
 use Rattle.swc_ecma_parser_grammar.specs.Looks.{sees}
-use Rattle.swc_ecma_parser_grammar.specs.Names.{Code}
 use Rattle.swc_ecma_parser_grammar.specs.Notes.{notes, all_notes}
 use Rattle.swc_ecma_parser_grammar.specs.Walk as walks
 use Rattle.swc_ecma_parser_grammar.specs.Walk.{Env, walk, env_of, walk_items, tabled, drops}
 use Rattle.swc_ecma_parser_grammar.specs.language.Contexts.{in_module}
-use Rattle.swc_ecma_parser_grammar.specs.language.Goals.{Goal}
+use Rattle.swc_ecma_parser_grammar.specs.language.Items.{directs_on}
 use Rattle.swc_ecma_parser_grammar.specs.language.ModuleItems.{ModuleItemsRule}
 use Rattle.swc_ecma_parser_grammar.specs.language.Noted.{has_meta, any_has_meta}
 use Rattle.swc_ecma_parser_grammar.specs.language.Reads.{Reads}
 use Rattle.swc_ecma_parser_grammar.proofs.Tests.{and_both}
 use Rattle.swc_ecma_parser_grammar.proofs.Unnoted.{joined}
 use Rattle.swc_ecma_parser_reader.specs.Decorators.{Leading, has_any}
-use Rattle.swc_ecma_parser_reader.specs.Entry.{error_tokens, IsLater}
+use Rattle.swc_ecma_parser_reader.specs.Entry.{error_tokens}
+use Rattle.swc_ecma_parser_reader.proofs.Behind.{IsHeld}
 use Rattle.swc_ecma_parser_reader.specs.Limits.{has_out_of_memory_token}
 use Rattle.swc_ecma_parser_reader.specs.Notes.{Notes, notes_of, all_notes_with}
 use Rattle.swc_ecma_parser_reader.specs.Reader.{items_turn, at_end}
@@ -33,7 +32,7 @@ use Rattle.swc_ecma_parser_module_reader.specs.Modules.{begins_import, item_behi
 use Rattle.swc_ecma_parser_module_reader.specs.ProgramEntry.{any_module_decl}
 use Rattle.swc_ecma_parser_module_reader.specs.Programs.{begins_module, entered, first_behind, behind_front}
 use Rattle.swc_ecma_parser_module_reader.specs.Supported.{supported_item, all_supported_items}
-use Rattle.swc_ecma_parser_module_reader.proofs.ModuleCode.{IsModule, entered_code, behind_same, env_same, declared_code, declared_env}
+use Rattle.swc_ecma_parser_module_reader.proofs.ModuleCode.{IsModule, entered_code, declared_code, declared_env, undirected, undirected_walk}
 use Rattle.swc_ecma_parser_module_reader.proofs.ProgramItems.{Leads, LeadsPlainly, plainly_leads, around_walk, around_rule}
 use Rattle.swc_ecma_parser_module_reader.proofs.Sound.{items_behind}
 use Rattle.swc_ecma_parser_module_reader.proofs.SoundLed.{SoundLed, import_led, export_led}
@@ -49,6 +48,7 @@ pub record SoundAround (n : ℕ) (m : State) (recorded entering : List Fault) (c
   pub faults : t.faults ≡ m.faults ++ (list ++ recorded ++ behind)
   pub held : List Fault
   pub held_as : entering ≡ m.notes.held_back ++ held
+  pub untabled : tabled held ≡ []
   pub reads : list ++ behind ≡ [] → ModuleItemsRule (Reads n) m.code true ys c m.at t.at × (all_supported_items (trees ys) ≡ true)
   pub quiet : list ++ behind ≡ [] → held ≡ [] → all_notes (trees ys) ≡ []
   pub walked : error_tokens m.at.left ≡ error_tokens t.at.left → drops (list ++ behind) ≡ false → tabled (list ++ behind) ≡ walk_items (env_of m.code m.scope.labels) true (trees ys)
@@ -75,6 +75,7 @@ plain_around n m recorded c ys t may off q leads = let w = around_walk m.code m.
   faults = q.faults ∙ append_assoc m.faults recorded q.added;
   held = [];
   held_as = sym (append-nil m.notes.held_back);
+  untabled = refl;
   reads = λ g. let r = q.reads g in (around_rule n m.code ys c m.at t.at leads off may r.reads, r.support);
   quiet = λ g h. (q.reads g).unnoted;
   walked = λ g d. q.walked g d ∙ w;
@@ -87,16 +88,6 @@ plain_around n m recorded c ys t may off q leads = let w = around_walk m.code m.
 }
 
 -- ---- behind decorators
-
--- in module code a directive changes nothing
-undirected : (In : Goal → Type 0) (k : Code) → IsModule k → (zs : List Tree) (b : Bool) (c d : Place) → ModuleItemsRule In k true zs b c d → ModuleItemsRule In k false zs b c d
-undirected In k o [] b c d r = r
-undirected In k o (z ∷ zs) b c d (i, others, q, qs, e) =
-    (i, others, q, subst (λ j. ModuleItemsRule In j false zs others i d) (behind_same k o true z ∙ sym (behind_same k o false z)) qs, e)
-
-undirected_walk : (env : Env) → env.strict ≡ true → (zs : List Tree) → walk_items env true (trees zs) ≡ walk_items env false (trees zs)
-undirected_walk env h [] = refl
-undirected_walk env h (z ∷ zs) = ap (λ v. walk env z ++ walk_items v false (trees zs)) (env_same env h true z ∙ sym (env_same env h false z))
 
 or_third : (a b d e : Bool) → ((a || b) || (d || e)) ≡ (a || ((b || d) || e))
 or_third true b d e = refl
@@ -114,7 +105,7 @@ module _ (n : ℕ) (m u : State) (v : Leading) (l : SoundLeading n m v u) (may :
   enters = ap module_code l.reads.code ∙ entered_code m.code may
 
   module _ (x : Tree) (i : State) (p : SoundLed n m l.reads.added (notes_of (listed v.found)) e x i) (b : Bool) (zs : List Tree) (t : State) (q : SoundBehind (suc n) i b zs t)
-      (held : IsLater m.notes.held_back u.notes.held_back) where
+      (held : IsHeld m.notes.held_back u.notes.held_back) where
     inner : i.code ≡ in_module m.code
     inner = p.code ∙ enters
 
@@ -125,9 +116,9 @@ module _ (n : ℕ) (m u : State) (v : Leading) (l : SoundLeading n m v u) (may :
     env = env_of m.code m.scope.labels
 
     -- the walk of the items behind it
-    rest_walk : walk_items (env_of i.code i.scope.labels) true (trees zs) ≡ walk_items (walks.behind_item (walks.directed env true x) x) false (trees zs)
-    rest_walk = undirected_walk (env_of i.code i.scope.labels) is_inner.1 zs
-        ∙ ap (λ z. walk_items z false (trees zs)) ((λ j. env_of (inner j) (p.scope j).labels) ∙ sym (declared_env env true x p.declared))
+    rest_walk : walk_items (env_of i.code i.scope.labels) true (trees zs) ≡ walk_items (walks.behind_item (walks.directed env true x) x) (directs_on true x) (trees zs)
+    rest_walk = undirected_walk (env_of i.code i.scope.labels) is_inner.1 zs true (directs_on true x)
+        ∙ ap (λ z. walk_items z (directs_on true x) (trees zs)) ((λ j. env_of (inner j) (p.scope j).labels) ∙ sym (declared_env env true x p.declared))
 
     first_list : p.behind ++ q.added ≡ [] → (p.behind ≡ []) × (q.added ≡ [])
     first_list g = nil-split p.behind q.added g
@@ -148,12 +139,14 @@ module _ (n : ℕ) (m u : State) (v : Leading) (l : SoundLeading n m v u) (may :
       faults = q.faults ∙ ap (λ z. z ++ q.added) (p.faults ∙ ap (λ z. (z ++ recorded) ++ p.behind) l.reads.faults) ∙ three m.faults l.reads.added recorded p.behind q.added;
       held = held.0;
       held_as = held.1;
+      untabled = held.2;
       reads = λ g. let a = split g in let r = p.reads a.0 in let z = q.reads a.1 in (
         (
           i.at,
           b,
           r.0,
-          subst (λ j. ModuleItemsRule (Reads (suc n)) j false zs b i.at t.at) (inner ∙ sym (declared_code m.code true x p.declared)) (undirected (Reads (suc n)) i.code is_inner zs b i.at t.at z.reads),
+          subst (λ j. ModuleItemsRule (Reads (suc n)) j (directs_on true x) zs b i.at t.at) (inner ∙ sym (declared_code m.code true x p.declared))
+              (undirected (Reads (suc n)) i.code is_inner zs true (directs_on true x) b i.at t.at z.reads),
           ap (λ w. begins_here w || b) (sym p.declared),
         ),
         and_both (supported_item x) _ r.1 z.support,
@@ -165,7 +158,7 @@ module _ (n : ℕ) (m u : State) (v : Leading) (l : SoundLeading n m v u) (may :
           let c = same-between (error_tokens m.at.left) (error_tokens i.at.left) (error_tokens t.at.left) p.fewer q.fewer g in
           ap tabled (sym (append_assoc l.reads.added p.behind q.added)) ∙ tabled-append (l.reads.added ++ p.behind) q.added ∙ ap (λ z. z ++ tabled q.added) (p.walked c.0 a.0)
           ∙ ap (λ z. walk env x ++ z) (q.walked c.1 a.1 ∙ rest_walk);
-      clean = λ g. let a = split g in ap (λ z. z ++ walk_items (walks.behind_item (walks.directed env true x) x) false (trees zs)) (p.clean a.0) ∙ sym rest_walk ∙ q.clean a.1;
+      clean = λ g. let a = split g in ap (λ z. z ++ walk_items (walks.behind_item (walks.directed env true x) x) (directs_on true x) (trees zs)) (p.clean a.0) ∙ sym rest_walk ∙ q.clean a.1;
       fewer = fewer-then (error_tokens m.at.left) (error_tokens i.at.left) (error_tokens t.at.left) p.fewer q.fewer;
       remembers = λ h. p.remembers (q.remembers h);
       found = q.found ∙ ap (λ z. z || (any_has_meta (trees zs) || b)) p.found ∙ or_third m.notes.found_module_item (has_meta x) (any_has_meta (trees zs)) b;
@@ -190,7 +183,7 @@ module _ (n : ℕ) (m u : State) (v : Leading) (l : SoundLeading n m v u) (may :
         (λ h. meets_if _ (sees kind.Export e.at) _ _ (λ g. export_led n m u v l (module_code u.code) (u.faults ++ recorded) (record u.notes { held_back = [] }) enters refl any g)
         (λ g. absurd (true≢false (sym (neither (begins_import e.at) (sees kind.Export e.at) begins h) ∙ g))))
 
-    pub behind_list : IsLater m.notes.held_back u.notes.held_back
+    pub behind_list : IsHeld m.notes.held_back u.notes.held_back
         → Meets (λ ys t. (b : Bool) × SoundAround (suc n) m recorded u.notes.held_back b ys t × (any_module_decl (trees ys) ≡ true) × (at_end t.at ≡ true)) (behind_front (suc n) v e)
     unfolding behind_front first_behind
     behind_list held = meets_if _ (has_any v.found) _ _

@@ -21,7 +21,7 @@ use Rattle.swc_ecma_parser_model.specs.Tree as tree
 use Rattle.swc_ecma_parser_model.specs.Tree.{Tree, Trees, none, also, listed, trees}
 use Rattle.swc_ecma_parser_grammar.specs.Looks.{kind_at, first_kind, sees, span_at, first_span, spanned}
 use Rattle.swc_ecma_parser_grammar.specs.Names.{Code, is_one_of, reserved_words}
-use Rattle.swc_ecma_parser_grammar.specs.Ends.{OptionalEnds}
+use Rattle.swc_ecma_parser_grammar.specs.Ends.{Ends}
 use Rattle.swc_ecma_parser_grammar.specs.Follows.{word_at}
 use Rattle.swc_ecma_parser_grammar.specs.Notes.{notes}
 use Rattle.swc_ecma_parser_grammar.specs.Own.{only, specifier_faults, each_specifier, export_faults}
@@ -39,12 +39,12 @@ use Rattle.swc_ecma_parser_reader.specs.Notes.{no_notes, ◌⊕◌, notes_of}
 use Rattle.swc_ecma_parser_reader.specs.Jumps.{told}
 use Rattle.swc_ecma_parser_reader.specs.Operands.{literal}
 use Rattle.swc_ecma_parser_reader.specs.State.{State, moved, fault, name, expect_word, end}
-use Rattle.swc_ecma_parser_reader.specs.Reader.{optional_end, object_alone}
+use Rattle.swc_ecma_parser_reader.specs.Reader.{object_alone}
 use Rattle.swc_ecma_parser_reader.proofs.Meets.{Meets, meets_then, meets_if, wanted_meets, saw}
 use Rattle.swc_ecma_parser_reader.proofs.Between.{Sound, SoundStep, same, sound_then, sound_more, sound_here, sound_as, sound_after}
 use Rattle.swc_ecma_parser_reader.proofs.expressions.SoundSteps.{meets_as, fault_sound, paired, stepped, moved_back, stands, name_sound}
 use Rattle.swc_ecma_parser_reader.proofs.patterns.Sound.{anything}
-use Rattle.swc_ecma_parser_reader.proofs.SoundParts.{end_sound, optional_end_sound, meets_both}
+use Rattle.swc_ecma_parser_reader.proofs.SoundParts.{end_sound, meets_both}
 use Rattle.swc_ecma_parser_module_reader.specs.Imports.{str_or, str, source, module_name, attributes, specifiers}
 use Rattle.swc_ecma_parser_module_reader.specs.Exports.{renamed_export, plain_export, export_specifier, export_namespace, names_from, own_names, export_names, more_names, namespace_names, export_all, export_star, is_namespace_next, behind_default, is_name_from, name_from, default_from}
 use Rattle.swc_ecma_parser_module_reader.proofs.ModuleCode.{IsModule, in_module_same, module_env}
@@ -251,12 +251,12 @@ module _ (n : ℕ) (s : State) (o : IsModule s.code) (start : Span) where
       → Meets (SoundExport n s) (own_names start xs m)
   unfolding own_names spanned
   own_names_sound xs m p l h = meets_then _ (told (each_specifier (trees xs)) m) _ (told_sound (each_specifier (trees xs)) (each_tabled (trees xs)) m) (λ _ u q.
-      meets_then _ (optional_end u) _ (optional_end_sound u) (λ _ t z.
+      meets_then _ (end faults.Expected u) _ (end_sound faults.Expected u) (λ _ t z.
       let span : Span = record { lo = start.lo; hi = t.at.last.hi } in
       let env : Env = env_of s.code s.scope.labels in (
         sound_as s t refl (named_walk env span (listed xs) tree.absent tree.absent (l.empty (walks.in_module env)) refl) (named_notes span (listed xs) tree.absent tree.absent l.unnoted refl)
             (λ ((a, b), c). (
-              export_names_rule xs m.at a.0 a.2 h (subst (λ w. OptionalEnds w t.at) b c)
+              export_names_rule xs m.at a.0 a.2 h (subst (λ w. Ends w t.at) b c)
                   (ap (λ k. tree.export_named (record { lo = k.lo; hi = t.at.last.hi }) (listed xs) tree.absent tree.absent) a.1),
               refl,
               joined (notes (listed xs) ++ []) [] (joined (notes (listed xs)) [] (ap (λ w. w.held_back) l.unnoted) refl) refl,

@@ -19,7 +19,7 @@ use Rattle.swc_ecma_parser_reader.specs.DecoratorLevels.{decorated_in}
 use Rattle.swc_ecma_parser_reader.specs.Notes.{notes_of, Notes}
 use Rattle.swc_ecma_parser_reader.specs.Reader.{expr, pattern, member, stmt, parameters, object_alone, whole_stmt}
 use Rattle.swc_ecma_parser_reader.specs.State.{State, Outcome}
-use Rattle.swc_ecma_parser_reader.specs.Entry.{SoundStatement, IsLater}
+use Rattle.swc_ecma_parser_reader.specs.Entry.{SoundStatement}
 use Rattle.swc_ecma_parser_reader.specs.Limits.{has_out_of_memory_token}
 use Rattle.swc_ecma_parser_reader.proofs.Between.{Sound, same, sound_as, nil-split}
 use Rattle.swc_ecma_parser_reader.proofs.Meets.{Meets, Refuses, meets_if, too_deep_meets, saw, meant, meets_then}
@@ -50,7 +50,7 @@ use Rattle.swc_ecma_parser_input.specs.Place.{Place}
 use Rattle.swc_ecma_parser_grammar.specs.Follows.{begins_import_expression}
 use Rattle.swc_ecma_parser_grammar.proofs.Unnoted.{joined}
 use Rattle.swc_ecma_parser_reader.specs.Decorators.{Leading, leading, has_any}
-use Rattle.swc_ecma_parser_reader.proofs.Behind.{behind_self}
+use Rattle.swc_ecma_parser_reader.proofs.Behind.{IsHeld, behind_self}
 use Rattle.swc_ecma_parser_reader.proofs.decorators.Leading.{SoundLeading}
 use Rattle.swc_ecma_parser_module_reader.proofs.DecoratedItems.{signs, word_cases}
 use Rattle.swc_ecma_parser_module_reader.proofs.Keeps.{list_keeps}
@@ -99,6 +99,7 @@ declared_is n recorded s x t off noted_as p (d, w) = record {
   faults = p.faults ∙ append_assoc s.faults recorded p.added;
   held = [];
   recorded_as = noted_as ∙ sym (ap (λ b. if b then s.notes.held_back else []) d) ∙ sym (append-nil (if is_module_decl x then s.notes.held_back else []));
+  untabled = refl;
   plain = λ _. (refl, refl);
   stated = λ e. absurd (true≢false (sym d ∙ e));
   spells = λ h _. let r = p.reads h in ((declared_around n s.code x s.at t.at d off r.0, λ _. r.2), sym (w (env_of s.code s.scope.labels)) ∙ p.clean h);
@@ -120,6 +121,7 @@ stated_is n s x t p e = record {
   faults = p.faults;
   held = [];
   recorded_as = rw e refl;
+  untabled = refl;
   plain = λ _. (refl, refl);
   stated = λ _. (refl, refl);
   spells = λ h _. let r = p.spells h in ((stmt_item n s.code x s.at t.at r.0.0, r.0.1), r.1);
@@ -146,7 +148,7 @@ module _ (n : ℕ) (recorded : List Fault) (s : State) (begins : begins_decorato
       (λ h. import_led n s u v l (in_module u.code) (u.faults ++ recorded) (record u.notes { held_back = [] }) enters refl any h)
       (λ h. export_led n s u v l (in_module u.code) (u.faults ++ recorded) (record u.notes { held_back = [] }) enters refl any h)
 
-  module _ (x : Tree) (t : State) (p : Led x t) (held : IsLater s.notes.held_back u.notes.held_back) (noted_as : map as_note recorded ≡ u.notes.held_back) where
+  module _ (x : Tree) (t : State) (p : Led x t) (held : IsHeld s.notes.held_back u.notes.held_back) (noted_as : map as_note recorded ≡ u.notes.held_back) where
     -- it notes what its decorators do, and that is held back
     unnoted : l.reads.added ++ p.behind ≡ [] → held.0 ≡ [] → notes x ≡ []
     unnoted g h = sym (ap {A = Notes} (λ z. z.held_back) (p.noted g)) ∙ joined (notes (listed v.found)) (notes p.bare)
@@ -165,6 +167,7 @@ module _ (n : ℕ) (recorded : List Fault) (s : State) (begins : begins_decorato
       faults = p.faults ∙ ap (λ z. (z ++ recorded) ++ p.behind) l.reads.faults ∙ between s.faults l.reads.added recorded p.behind;
       held = held.0;
       recorded_as = noted_as ∙ held.1 ∙ ap (λ b. (if b then s.notes.held_back else []) ++ held.0) (sym p.declared);
+      untabled = held.2;
       plain = λ h. absurd (true≢false (sym (signs s.code s.at begins).1 ∙ h));
       stated = λ h. absurd (true≢false (sym p.declared ∙ h));
       spells = λ g h. (((p.reads g).0, λ _. unnoted g h), p.clean g);

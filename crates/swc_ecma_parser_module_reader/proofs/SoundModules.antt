@@ -66,8 +66,8 @@ use Rattle.swc_ecma_parser_module_reader.proofs.SoundShared.{object_sound}
 walk_push : (env : Env) → env.strict ≡ true → (directives : Bool) (xs : List Tree) (x : Tree) → walk_items env directives (trees xs) ++ walk env x ≡ walk_items env directives (trees (xs ++ x ∷ []))
 walk_push env h directives [] x = sym (append-nil (walk env x))
 walk_push env h directives (y ∷ ys) x = subst
-    (λ v. (walk env y ++ walk_items v false (trees ys)) ++ walk env x ≡ walk env y ++ walk_items v false (trees (ys ++ x ∷ []))) (sym (env_same env h directives y))
-    (append_assoc (walk env y) (walk_items env false (trees ys)) (walk env x) ∙ ap (λ z. walk env y ++ z) (walk_push env h false ys x))
+    (λ v. (walk env y ++ walk_items v (directs_on directives y) (trees ys)) ++ walk env x ≡ walk env y ++ walk_items v (directs_on directives y) (trees (ys ++ x ∷ []))) (sym (env_same env h directives y))
+    (append_assoc (walk env y) (walk_items env (directs_on directives y) (trees ys)) (walk env x) ∙ ap (λ z. walk env y ++ z) (walk_push env h (directs_on directives y) ys x))
 
 or_swap : (a b c d : Bool) → ((a || b) || (c || d)) ≡ ((a || c) || (b || d))
 or_swap true b c d = refl

@@ -25,14 +25,15 @@ use Rattle.swc_ecma_parser_grammar.specs.language.Reads.{Reads}
 use Rattle.swc_ecma_parser_grammar.proofs.Tests.{and_yes}
 use Rattle.swc_ecma_parser_grammar.proofs.Unnoted.{joined}
 use Rattle.swc_ecma_parser_reader.specs.Decorators.{Leading, has_any}
-use Rattle.swc_ecma_parser_reader.specs.Entry.{error_tokens, IsLater}
+use Rattle.swc_ecma_parser_reader.specs.Entry.{error_tokens}
 use Rattle.swc_ecma_parser_reader.specs.Limits.{has_out_of_memory_token}
 use Rattle.swc_ecma_parser_reader.specs.Notes.{all_notes_with}
 use Rattle.swc_ecma_parser_reader.specs.Reader.{directs, items_turn, items, at_end, whole_stmt, shebang}
 use Rattle.swc_ecma_parser_reader.specs.State.{State, Outcome, coded, flagged}
 use Rattle.swc_ecma_parser_reader.proofs.Notes.{or_nil}
 use Rattle.swc_ecma_parser_reader.proofs.Meets.{Answers, Meets, Refuses, meets_then, meets_if, Turned, loop_answers, meant}
-use Rattle.swc_ecma_parser_reader.proofs.Behind.{Kept, Lost, behind_self, shebang_keeps}
+use Rattle.swc_ecma_parser_reader.proofs.Behind as behind
+use Rattle.swc_ecma_parser_reader.proofs.Behind.{IsHeld, Kept, Lost, behind_self, none_tabled, shebang_keeps}
 use Rattle.swc_ecma_parser_reader.proofs.Keeps.{whole_stmt_keeps}
 use Rattle.swc_ecma_parser_reader.proofs.Errors.{none_counted, nothing_at_end}
 use Rattle.swc_ecma_parser_reader.proofs.Between.{Sound, SoundStep, sound_then, sound_as, flags_back, nil-split, drops-split, tabled-append, same-between}
@@ -59,14 +60,14 @@ use Rattle.swc_ecma_parser_module_reader.proofs.StatementForms.{whole_form}
 -- ---- the statements: no import and no export is among them, and what was held back stays
 
 abbrev HeldBehind : State → State → Type 0
-HeldBehind s t = IsLater s.notes.held_back t.notes.held_back
+HeldBehind s t = IsHeld s.notes.held_back t.notes.held_back
 
 keeps_held : {A : Type 0} (s : State) (o : Outcome A) → Answers (Kept s) (Lost s) o → Meets (λ _ t. HeldBehind s t) o
 keeps_held s (Ok p) h = h.1
 keeps_held s (Err e) h = tt
 
 held_then : (s t u : State) → HeldBehind s t → HeldBehind t u → HeldBehind s u
-held_then s t u (es, e) (fs, f) = (es ++ fs, f ∙ ap (λ z. z ++ fs) e ∙ append_assoc s.notes.held_back es fs)
+held_then s t u h g = behind.held_then s.notes.held_back t.notes.held_back u.notes.held_back h g
 
 none_push : (xs : List Tree) (x : Tree) → any_module_decl (trees xs) ≡ false → is_module_decl x ≡ false → any_module_decl (trees (xs ++ x ∷ [])) ≡ false
 none_push xs x h e = declarations_joined xs (x ∷ []) ∙ ap (λ b. b || (is_module_decl x || false)) h ∙ or_nil (is_module_decl x) ∙ e
@@ -188,6 +189,7 @@ script_is n s o b xs t p stated ends found =
       faults = p.faults ∙ ap (λ z. s.faults ++ z) (sym (append-nil (p.added ++ []) ∙ append-nil p.added));
       held = [];
       recorded_as = refl;
+      untabled = refl;
       spells = λ h g. let r = p.reads (plain p.added h) in (
         (reads (plain p.added h), λ m. tops_unnoted n (program_code s.code) true xs r.0 t.at (sym (or_nil s.code.flags.module) ∙ m) r.2.0),
         p.clean (plain p.added h),
@@ -300,6 +302,7 @@ module _ (n : ℕ) (s : State) (o : Option Text) (recorded entering : List Fault
     faults = q.faults ∙ ap (λ z. z ++ (q.list ++ recorded ++ q.behind)) p.faults ∙ four s.faults p.added q.list recorded q.behind;
     held = held.0 ++ q.held;
     recorded_as = noted_as ∙ q.held_as ∙ ap (λ z. z ++ q.held) held.1 ∙ append_assoc s.notes.held_back held.0 q.held;
+    untabled = none_tabled held.0 q.held held.2 q.untabled;
     spells = λ e g. let h = split e in (
       (module_reads h.0 h.1, λ _. unnoted h.0 h.1 g),
       sym (walk_joined k0 s.scope.labels true xs ys stated q.leads)
@@ -378,7 +381,7 @@ module _ (n : ℕ) (recorded : List Fault) (s : State) where
         )))
 
   module _ (o : Option Text) (b : Bool) (xs : List Tree) (m : State) (p : SoundFront n (begun s) o b xs m) (stated : any_module_decl (trees xs) ≡ false) where
-    list_behind : (j : ℕ) → n ≡ suc j → (v : Leading) (u : State) → (l : SoundLeading j m v u) → has_any v.found ≡ true → begins_module u.at ≡ true → IsLater m.notes.held_back u.notes.held_back
+    list_behind : (j : ℕ) → n ≡ suc j → (v : Leading) (u : State) → (l : SoundLeading j m v u) → has_any v.found ≡ true → begins_module u.at ≡ true → IsHeld m.notes.held_back u.notes.held_back
         → Meets (Behind o b xs m p stated u.notes.held_back) (behind_front n v (entered recorded u))
     list_behind j i v u l any word held =
         let q = meets_as {Q = λ ys t. (c : Bool) × SoundAround (suc j) m recorded u.notes.held_back c ys t × ((any_module_decl (trees ys) ≡ true) ⊎ (m.notes.found_module_item ≡ true)) × (at_end t.at ≡ true)}

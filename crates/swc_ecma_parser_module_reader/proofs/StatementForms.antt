@@ -24,7 +24,7 @@ use Rattle.swc_ecma_parser_reader.specs.State.{State, Reader, moved, coded, with
 use Rattle.swc_ecma_parser_reader.specs.Methods.{star}
 use Rattle.swc_ecma_parser_reader.specs.Expressions.{Cover}
 use Rattle.swc_ecma_parser_reader.specs.Reader as reader
-use Rattle.swc_ecma_parser_reader.specs.Reader.{decorated_in, declarators, items, closes, close, no_label, note_statement, optional_end, head, note_with, as_init, as_left, head_part, misdeclared, await_here, opening, link, alternative, target, unbroken, uncontinued, operand, misplaced, clauses, braced, handler, finalizer, handled, labelled_body, relabels, function_word, named, top_await, goes_on, Opening, begins_label, unless_awaited, empty, debugger, variables, block, block_from, stmt_end, expr_stmt, expr_stmt_at, import_stmt, import_stmt_at, thrown, throw, while_stmt, with_stmt, do_while, for_parts, for_in, for_of, for_behind, for_stmt, links, if_stmt, break_stmt, continue_stmt, returned, return_stmt, labeled_stmt, other_stmt, switch_stmt, try_stmt, function_parts, function_decl, function_stmt, const_stmt, let_stmt, async_or_other, stmt_by, stmt_level, stmt, whole_stmt, expr, head_cover, pattern, member, misusing, using_from, using_stmt, using_or_other, await_using_stmt, plain_stmt, declaration_end, stray}
+use Rattle.swc_ecma_parser_reader.specs.Reader.{decorated_in, declarators, items, closes, close, no_label, note_statement, optional_end, head, note_with, as_init, as_left, head_part, misdeclared, await_here, opening, link, alternative, target, unbroken, uncontinued, operand, misplaced, clauses, braced, handler, finalizer, handled, labelled_body, relabels, function_word, named, top_await, goes_on, Opening, begins_label, unless_awaited, empty, debugger, variables, block, block_from, stmt_end, expr_stmt, expr_stmt_at, import_stmt_at, thrown, throw, while_stmt, with_stmt, do_while, for_parts, for_in, for_of, for_behind, for_stmt, links, if_stmt, break_stmt, continue_stmt, returned, return_stmt, labeled_stmt, other_stmt, switch_stmt, try_stmt, function_parts, function_decl, function_stmt, const_stmt, let_stmt, async_or_other, stmt_by, stmt_level, stmt, whole_stmt, expr, head_cover, pattern, member, misusing, using_from, using_stmt, using_or_other, await_using_stmt, plain_stmt, declaration_end, stray}
 use Rattle.swc_ecma_parser_reader.proofs.Meets.{Meets, always, meets_then, meets_if, wanted_meets, too_deep_meets, refuse_meets}
 use Rattle.swc_ecma_parser_reader.proofs.SoundParts.{after_return_meets}
 use Rattle.swc_ecma_parser_reader.proofs.expressions.SoundSteps.{reject_meets}
@@ -58,10 +58,9 @@ module _ (inner : Position → Reader Tree) (inner_expr : Class → Reader Tree)
   unfolding expr_stmt_at
   expr_stmt_at_form p at s = meets_if _ (may_begin_expression_statement at s.at) _ _ (λ _. expr_stmt_form p s) (λ _. wanted_meets _ faults.Unexpected s)
 
-  import_form : (p : Reader Tree) (s : State) → Meets IsStatement (import_stmt_at p s)
-  unfolding import_stmt_at import_stmt
-  import_form p s = meets_if _ (begins_import_expression s.at) _ _ (λ _. always _ (within with_in p s) _ (λ x t. always _ (optional_end t) _ (λ _ u. refl))) (λ _.
-      refuse_meets _ faults.ImportExportInScript s)
+  import_form : (p : Reader Tree) (s : State) → Meets IsStatement (import_stmt_at p inner_operators s)
+  unfolding import_stmt_at
+  import_form p s = meets_if _ (begins_import_expression s.at) _ _ (λ _. expr_stmt_form p s) (λ _. refuse_meets _ faults.ImportExportInScript s)
 
   throw_form : (p : Reader Tree) (s : State) → Meets IsStatement (throw p s)
   unfolding throw thrown
@@ -194,7 +193,8 @@ module _ (inner : Position → Reader Tree) (inner_expr : Class → Reader Tree)
 
   using_form : (s : State) → Meets IsStatement (using_stmt (declarators inner_expr inner_pat false decl.Var) s)
   unfolding using_stmt using_from misusing
-  using_form s = always _ (within with_in (declarators inner_expr inner_pat false decl.Var) (moved s)) _ (λ xs t. always _ (misusing (record { lo = (span_at s.at).lo; hi = t.at.last.hi }) xs t) _ (λ _ u. refl))
+  using_form s = always _ (within with_in (declarators inner_expr inner_pat false decl.Var) (moved s)) _ (λ xs t. always _ (misusing (record { lo = (span_at s.at).lo; hi = t.at.last.hi }) xs t) _ (λ _ u.
+      always _ (end faults.Expected u) _ (λ _ v. refl)))
 
   using_or_other_form : (at : Position) (s : State) → Meets IsStatement (using_or_other inner inner_expr inner_pat inner_head inner_params inner_member inner_operators at s)
   unfolding using_or_other
@@ -248,7 +248,8 @@ module _ (plain : Position → Reader Tree) (at : Position) (form : (s : State) 
 
 await_using_form : (found : Reader (List Tree)) (s : State) → Meets IsStatement (await_using_stmt found s)
 unfolding await_using_stmt using_from misusing
-await_using_form found s = always _ (within with_in found (moved (moved s))) _ (λ xs t. always _ (misusing (record { lo = (span_at s.at).lo; hi = t.at.last.hi }) xs t) _ (λ _ u. refl))
+await_using_form found s = always _ (within with_in found (moved (moved s))) _ (λ xs t. always _ (misusing (record { lo = (span_at s.at).lo; hi = t.at.last.hi }) xs t) _ (λ _ u.
+    always _ (end faults.Expected u) _ (λ _ v. refl)))
 
 stmt_form : (n : ℕ) (at : Position) (s : State) → Meets IsStatement (stmt n at s)
 unfolding stmt stmt_level

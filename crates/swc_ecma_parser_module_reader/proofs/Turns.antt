@@ -1,15 +1,14 @@
 -- The loop over the statements of a program, turn by turn, as its code meets it.
 use Rattle.std.proofs.Common.{◌≡◌, ℕ, zero, suc, ◌-◌, ◌<◌, Bool, true, false, cond, List, [], ◌∷◌, ◌++◌, length, Ok, Err, refl, sym, ◌∙◌, ap, subst}
-use Rattle.std.specs.Prelude.{◌==◌}
 use Rattle.swc_ecma_parser_error.specs.Kind.{Fault, OutOfMemory}
 use Rattle.swc_ecma_parser_model.specs.Tree.{Tree}
 use Rattle.swc_ecma_parser_grammar.specs.Reads.{directed, top_item}
 use Rattle.swc_ecma_parser_reader.specs.DecoratedStatements.{stmt_behind}
 use Rattle.swc_ecma_parser_reader.specs.DecoratorLevels.{decorated_in}
 use Rattle.swc_ecma_parser_reader.specs.Decorators.{Leading, leading}
-use Rattle.swc_ecma_parser_reader.specs.Reader.{whole_stmt, plain_stmt}
+use Rattle.swc_ecma_parser_reader.specs.Reader.{directs, whole_stmt, plain_stmt}
 use Rattle.swc_ecma_parser_reader.specs.State.{State, Outcome, Reader, and_then, too_deep, coded, Step, More, Done, loop, fault_at}
-use Rattle.swc_ecma_parser_reader.proofs.Loops.{first_directs, whole_shorter}
+use Rattle.swc_ecma_parser_reader.proofs.Loops.{whole_shorter}
 use Rattle.swc_ecma_parser_reader.proofs.Steps.{loop_more, loop_done, loop_err}
 use Rattle.swc_ecma_parser_reader.proofs.expressions.Loops.{deeper}
 use Rattle.swc_ecma_parser_module_reader.specs.Decorated.{begins_decorators}
@@ -121,7 +120,7 @@ module _ (n : ℕ) (found : List Tree) (s : State) (e : before_module s.at ≡ f
   pub front_word : (v : Leading) (u : State) → turn n s ≡ Ok (Word v, u) → loop (front_turn n) found s ≡ Ok (record { before = found; list = v }, u)
   front_word v u h = loop_done (front_turn n) found (record { before = found; list = v }) s u (turn_step n found s e ∙ ap (λ o. and_then o (step found)) h)
 
-  pub front_read : (b : Bool) → b ≡ (length found == 0) → (x : Tree) (t : State) → turn n s ≡ Ok (Statement x, t)
+  pub front_read : (b : Bool) → directs true found ≡ b → (x : Tree) (t : State) → turn n s ≡ Ok (Statement x, t)
       → loop (front_turn n) found s ≡ loop (front_turn n) (found ++ x ∷ []) (coded (directed t.code b x) t)
   front_read b k x t h = loop_more (front_turn n) found (found ++ x ∷ []) s (coded (directed t.code b x) t)
-      (turn_step n found s e ∙ ap (λ o. and_then o (step found)) h ∙ ap (λ d. Ok (More (found ++ x ∷ []), coded (directed t.code d x) t)) (first_directs true found b k)) (turn_shorter n s x t h)
+      (turn_step n found s e ∙ ap (λ o. and_then o (step found)) h ∙ ap (λ d. Ok (More (found ++ x ∷ []), coded (directed t.code d x) t)) k) (turn_shorter n s x t h)

@@ -17,7 +17,7 @@ use Rattle.swc_ecma_parser_grammar.specs.language.Goals.{Class, assignment, left
 use Rattle.swc_ecma_parser_reader.specs.Jumps.{told}
 use Rattle.swc_ecma_parser_reader.specs.Members.{class_decl, class_expr}
 use Rattle.swc_ecma_parser_reader.specs.Methods.{star}
-use Rattle.swc_ecma_parser_reader.specs.Reader.{variables, function_decl, function_parts, function_word, named, optional_end}
+use Rattle.swc_ecma_parser_reader.specs.Reader.{variables, function_decl, function_parts, function_word, named}
 use Rattle.swc_ecma_parser_reader.specs.State.{Reader, ◌>>=◌, ◌>>◌, pure, span_here, since, skip, within, wanted, name, expect_word, end}
 use Rattle.swc_ecma_parser_module_reader.specs.Imports.{source, module_name, attributes, specifiers}
 
@@ -58,11 +58,11 @@ names_from object start xs = do
   span ← since start
   pure (tree.export_named span (listed xs) src given)
 
--- names of the module itself, whose end nothing demands; what is no such name is told before it
+-- names of the module itself; what is no such name is told before the end
 unfoldable pub own_names : Span → List Tree → Reader Tree
 own_names start xs = do
   told (export_faults tree.absent (listed xs))
-  optional_end
+  end faults.Expected
   span ← since start
   pure (tree.export_named span (listed xs) tree.absent tree.absent)
 

@@ -43,6 +43,8 @@ pub record SoundItemAlone (limit : ℕ) (s : State) (x : Tree) (t : State) : Typ
   pub faults : t.faults ≡ s.faults ++ (before ++ recorded ++ behind)
   pub held : List Fault
   pub recorded_as : map as_note recorded ≡ (if is_module_decl x then s.notes.held_back else []) ++ held
+  -- what decorators before its word held back is of kinds that no walk finds
+  pub untabled : tabled held ≡ []
   -- nothing stands before the word of an import or an export that is no decorator
   pub plain : sees kind.At s.at ≡ false → (before ≡ []) × (held ≡ [])
   -- nor does anything of a statement, which all faults are recorded behind

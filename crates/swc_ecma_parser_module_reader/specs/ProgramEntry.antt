@@ -59,6 +59,8 @@ pub record SoundProgram (limit : ℕ) (s : State) (x : Tree) (t : State) : Type 
   pub faults : t.faults ≡ s.faults ++ (before ++ recorded ++ behind)
   pub held : List Fault
   pub recorded_as : map as_note recorded ≡ (if is_module_program x then s.notes.held_back else []) ++ held
+  -- what the program itself held back is of kinds that no walk finds
+  pub untabled : tabled held ≡ []
   pub spells : before ++ behind ≡ [] → held ≡ [] → ReadsProgram limit s.notes.found_module_item s.code x s.at t.at × (program_walk s x ≡ [])
   pub walked : has_error_token s.at.left ≡ false → drops (before ++ behind) ≡ false → tabled (before ++ behind) ≡ program_walk s x
   -- whether one of its own statements begins with `await`

@@ -16,7 +16,7 @@ ghost use Rattle.swc_ecma_parser_reader.specs.State.{Gives, GivesAs, loop};
 
 use crate::parts::{attributes, made_name, module_name, source};
 use std::alloc::{AllocError, Global};
-use swc_ecma_parser_common::{Atom, Span};
+use swc_ecma_parser_common::{Atom, Boxed, Span};
 use swc_ecma_parser_error::{PResult, SyntaxError};
 use swc_ecma_parser_inner::steps::{grown, pushed, since};
 use swc_ecma_parser_model::Ident;
@@ -125,6 +125,7 @@ fn foreign<P: Source>(alloc: Global, p: &mut P, text: &str, span: Span) -> PResu
     ensures { Gives (rules.told (own.fault kinds.ExportExpectFrom span ∷ []) (P.seen p.old)) result (P.seen p.new) }
 {
     let text = grown(p, Atom::new(alloc, text))?;
+    let text = grown(p, Boxed::new(alloc, text))?;
     p.fault(SyntaxError::ExportExpectFrom(text), span)
 }
 
@@ -167,8 +168,8 @@ fn all_misnamed<P: Source, T: BuildsExport>(
     Ok(())
 }
 
-/// Names of the module itself, whose end nothing demands.
-#[tactic(auto, unfolding(swc_ecma_parser_module_reader::specs::Exports::own_names, swc_ecma_parser_reader::specs::Reader::optional_end))]
+/// Names of the module itself. What is no such name is recorded before the end.
+#[tactic(auto, unfolding(swc_ecma_parser_module_reader::specs::Exports::own_names))]
 fn own_names<P: Source, T: BuildsExport>(
     t: &MakerOf<T>,
     p: &mut P,
@@ -178,9 +179,7 @@ fn own_names<P: Source, T: BuildsExport>(
     ensures { GivesAs T.item_of (exports.own_names start (map T.export_specifier_of specifiers.items) (P.seen p.old)) result (P.seen p.new) }
 {
     all_misnamed::<P, T>(t, p, &specifiers)?;
-    if p.sees(TokenKind::Semi) {
-        p.skip()?;
-    }
+    p.end(Wanted::Token(";"))?;
     let span = since(p, start);
     grown(p, T::export_named(t.alloc, span, specifiers, None, None))
 }

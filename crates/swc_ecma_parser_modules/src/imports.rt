@@ -9,7 +9,7 @@ ghost use Rattle.swc_ecma_parser_reader.specs.State.{Gives, GivesAs, loop, pure}
 
 use crate::parts::{Name, attributes, made_name, module_name, source, string};
 use std::alloc::AllocError;
-use swc_ecma_parser_common::Span;
+use swc_ecma_parser_common::{Boxed, Span};
 use swc_ecma_parser_error::{PResult, SyntaxError};
 use swc_ecma_parser_inner::steps::{grown, pushed, since};
 use swc_ecma_parser_input::Context;
@@ -56,7 +56,8 @@ fn same_name<P: Source, T: BuildsImport>(
             grown(p, T::import_named(t.alloc, span, local, None))
         }
         Name::Str(text) => {
-            Err(p.reject(SyntaxError::ImportBindingIsString(text.value), text.span))
+            let value = grown(p, Boxed::new(t.alloc, text.value))?;
+            Err(p.reject(SyntaxError::ImportBindingIsString(value), text.span))
         }
     }
 }

@@ -25,6 +25,7 @@ use swc_ecma_parser_trees::{
 
 /// What stands in parentheses: the parameters of an arrow function before `=>`, else an expression, with what goes on with it.
 #[tactic(auto, unfolding(swc_ecma_parser_reader::specs::Arrows::grouped))]
+#[inline(never)]
 pub(crate) fn grouped<
     P: Source,
     T: BuildsExpr + BuildsCall + BuildsMethod + BuildsOperator + BuildsPattern,
@@ -48,6 +49,7 @@ pub(crate) fn grouped<
 /// `async` and what stands in parentheses on its line: the parameters of an arrow function before `=>`, else a call, with what goes
 /// on with it.
 #[tactic(auto, unfolding(swc_ecma_parser_reader::specs::AsyncArrows::async_grouped))]
+#[inline(never)]
 pub(crate) fn async_grouped<
     P: Source,
     T: BuildsExpr + BuildsCall + BuildsMethod + BuildsOperator + BuildsPattern,

@@ -32,6 +32,7 @@ use swc_ecma_parser_trees::{
 
 /// An operator before its operand.
 #[tactic(auto, unfolding(swc_ecma_parser_reader::specs::Expressions::prefixed))]
+#[inline(never)]
 fn prefixed<
     P: Source,
     T: BuildsOperator,
@@ -62,6 +63,7 @@ fn simple<P: Source, T: BuildsOperator>(p: &mut P, x: &T::Expr) -> PResult<()>
 
 /// `++` or `--` before its operand.
 #[tactic(auto, unfolding(swc_ecma_parser_reader::specs::Expressions::update_before))]
+#[inline(never)]
 fn update_before<
     P: Source,
     T: BuildsOperator,
@@ -82,6 +84,7 @@ fn update_before<
 
 /// `++` or `--` behind its operand.
 #[tactic(auto, unfolding(swc_ecma_parser_reader::specs::Expressions::update_behind))]
+#[inline(never)]
 fn update_behind<P: Source, T: BuildsOperator>(
     alloc: Global,
     p: &mut P,
@@ -142,6 +145,7 @@ fn postfix<
 
 /// A unary expression: sections 13.4, 13.5 and 15.8.
 #[tactic(auto, unfolding(swc_ecma_parser_reader::specs::Expressions::unary_expr))]
+#[inline(never)]
 fn unary_expr<
     P: Source,
     T: BuildsExpr + BuildsCall + BuildsMethod + BuildsOperator + BuildsPattern,
@@ -191,6 +195,7 @@ pub(crate) fn assigns_here<P: Source>(p: &P) -> bool
 
 /// The rest of a conditional, behind its test, which was read from a place on: section 13.14.
 #[tactic(auto, unfolding(swc_ecma_parser_reader::specs::Expressions::conditional, swc_ecma_parser_reader::specs::Expressions::unassigned))]
+#[inline(never)]
 fn conditional<
     P: Source,
     T: BuildsOperator,
@@ -224,6 +229,7 @@ fn unassignable(op: AssignOp) -> SyntaxError
 
 /// An assignment to what was read from a place on: section 13.15.
 #[tactic(auto, unfolding(swc_ecma_parser_reader::specs::Expressions::assigned, swc_ecma_parser_reader::specs::Expressions::assigned_to))]
+#[inline(never)]
 fn assigned<
     P: Source,
     T: BuildsOperator,
@@ -295,6 +301,7 @@ pub(crate) fn behind_operators<
 
 /// Operands and operators, and what stands behind them.
 #[tactic(auto, unfolding(swc_ecma_parser_reader::specs::Expressions::operators_expr))]
+#[inline(never)]
 fn operators_expr<
     P: Source,
     T: BuildsExpr + BuildsCall + BuildsMethod + BuildsOperator + BuildsPattern,
@@ -343,6 +350,7 @@ pub(crate) fn plain_expr<
 
 /// The rest of a sequence, behind what was read from a place on: section 13.16.
 #[tactic(auto, unfolding(swc_ecma_parser_reader::specs::Expressions::sequence_from), using(swc_ecma_parser_reader::proofs::expressions::Loops::sequence_done, swc_ecma_parser_reader::proofs::expressions::Loops::sequence_more, swc_ecma_parser_reader::proofs::expressions::Loops::sequence_err, swc_ecma_parser_reader::proofs::expressions::Loops::assignment_shorter, swc_ecma_parser_reader::proofs::expressions::Loops::sequence_shorter, std::proofs::lemmas::List::map_push))]
+#[inline(never)]
 pub(crate) fn sequence_from<
     P: Source,
     T: BuildsExpr + BuildsCall + BuildsMethod + BuildsOperator + BuildsPattern,
@@ -369,6 +377,7 @@ pub(crate) fn sequence_from<
 
 /// An expression: section 13.16.
 #[tactic(auto, unfolding(swc_ecma_parser_reader::specs::Expressions::expression_expr))]
+#[inline(never)]
 fn expression_expr<
     P: Source,
     T: BuildsExpr + BuildsCall + BuildsMethod + BuildsOperator + BuildsPattern,

@@ -220,6 +220,7 @@ fn properties<
 
 /// An object pattern.
 #[tactic(auto, unfolding(swc_ecma_parser_reader::specs::Patterns::object))]
+#[inline(never)]
 pub(crate) fn object_pat<
     P: Source,
     T: BuildsObjectPat,

@@ -109,6 +109,7 @@ fn elements<
 
 /// An array pattern.
 #[tactic(auto, unfolding(swc_ecma_parser_reader::specs::Patterns::array))]
+#[inline(never)]
 fn array_pat<
     P: Source,
     T: BuildsPattern,

@@ -1,7 +1,7 @@
 -- `await` before `using` at the beginning of a statement, as it is read: the word first, before it is known whether a declaration
 -- begins.
 use Rattle.std.proofs.Common.{◌≡◌, ℕ, zero, suc, ◌-◌, ◌<◌, Bool, true, false, cond, List, Ok, Err, refl, sym, ◌∙◌, ap, codes, ◌≢◌}
-use Rattle.std.specs.Prelude.{◌&&◌, ◌||◌}
+use Rattle.std.specs.Prelude.{◌&&◌, ◌||◌, not}
 use Rattle.swc_ecma_parser_common.specs.declared.span.Span.{Span}
 use Rattle.swc_ecma_parser_error.specs.Kind.{Fault}
 use Rattle.swc_ecma_parser_token.specs.declared.kind.TokenKind.TheVariants as kind
@@ -10,7 +10,7 @@ use Rattle.swc_ecma_parser_model.specs.declared.leaves.VarDeclKind.TheVariants a
 use Rattle.swc_ecma_parser_model.specs.Tree as tree
 use Rattle.swc_ecma_parser_model.specs.Tree.{Tree}
 use Rattle.swc_ecma_parser_grammar.specs.declared.position.Position.{Position}
-use Rattle.swc_ecma_parser_grammar.specs.Looks.{kind_at, sees, same_kind, span_at, spanned}
+use Rattle.swc_ecma_parser_grammar.specs.Looks.{kind_at, sees, same_kind, span_at, spanned, breaks_at}
 use Rattle.swc_ecma_parser_grammar.specs.Names.{Code, name_at}
 use Rattle.swc_ecma_parser_grammar.specs.Follows.{word_at, is_async_function, is_let_declaration, may_begin_expression_statement}
 use Rattle.swc_ecma_parser_grammar.specs.Reads.{with_in}
@@ -160,13 +160,13 @@ module _ (n : ℕ) (at : Position) (s : State) where
     unfolding stmt_level other_stmt expr_stmt_at
     level_goes h = rw (a, label_free, may_begin s.at a at) (expr_stmt_goes n s a w h)
 
-    stmt_goes : nests n ≡ true → at.include_decl || at.top_level ≡ true → plain_stmt n at s ≡ stmt_behind_await n (span_at s.at) (moved s)
+    stmt_goes : nests n ≡ true → at.include_decl || at.top_level ≡ true → breaks_at (after s.at) ≡ false → plain_stmt n at s ≡ stmt_behind_await n (span_at s.at) (moved s)
     unfolding stmt_behind_await await_using_stmt is_await_using_declaration same_kind
-    stmt_goes h g = by_test (is_using_declaration s.code (after s.at)) refl
+    stmt_goes h g l = by_test (is_using_declaration s.code (after s.at)) refl
       where
         by_test : (b : Bool) → is_using_declaration s.code (after s.at) ≡ b → plain_stmt n at s ≡ stmt_behind_await n (span_at s.at) (moved s)
-        by_test true e = is_first found (nests n) rest at s (rw (a, g, e) refl) h ∙ rw e refl
-        by_test false e = not_first found (nests n) rest at s (rw (a, g, e) refl) ∙ level_goes h ∙ rw e refl
+        by_test true e = is_first found (nests n) rest at s (rw (a, g, l, e) refl) h ∙ rw e refl
+        by_test false e = not_first found (nests n) rest at s (rw (a, g, l, e) refl) ∙ level_goes h ∙ rw e refl
 
   -- where a part may stand further in
   pub begins_behind : nests n && begins_await_using at s.at ≡ true → plain_stmt n at s ≡ stmt_behind_await n (span_at s.at) (moved s)
@@ -175,20 +175,26 @@ module _ (n : ℕ) (at : Position) (s : State) where
       let e = and_yes (nests n) _ h in
       let g = and_yes (at.include_decl || at.top_level) _ e.1 in
       let i = and_yes (sees kind.Await s.at) _ g.1 in
-      stmt_goes (saw s.at kind.Await i.0) i.1 e.0 g.0
+      let j = and_yes (word_at (codes "using") (after s.at)) _ i.1 in
+      stmt_goes (saw s.at kind.Await i.0) j.0 e.0 g.0 (unbroken (breaks_at (after s.at)) j.1)
+    where
+      unbroken : (b : Bool) → not b ≡ true → b ≡ false
+      unbroken true e = cc
+      unbroken false e = refl
 
   -- and anywhere else
   pub begins_elsewhere : nests n && begins_await_using at s.at ≡ false → plain_stmt n at s ≡ rest at s
   unfolding begins_await_using await_using_or is_await_using_declaration is_using_declaration
   begins_elsewhere h = ap (λ b. cond b (await_using_stmt found s) (rest at s))
-      (by_tests (nests n) (at.include_decl || at.top_level) (sees kind.Await s.at) (word_at (codes "using") (after s.at)) _ h)
+      (by_tests (nests n) (at.include_decl || at.top_level) (sees kind.Await s.at) (word_at (codes "using") (after s.at)) (breaks_at (after s.at)) _ h)
     where
-      by_tests : (i j l b e : Bool) → i && (j && (l && b)) ≡ false → (l && (j && (b && e))) && i ≡ false
-      by_tests i j false b e g = refl
-      by_tests i false true b e g = refl
-      by_tests i true true false e g = refl
-      by_tests false true true true e g = and_no e false refl
-      by_tests true true true true e g = cc
+      by_tests : (i j l b r e : Bool) → i && (j && (l && (b && not r))) ≡ false → (l && (j && (not r && (b && e)))) && i ≡ false
+      by_tests i j false b r e g = refl
+      by_tests i false true b r e g = refl
+      by_tests i true true b true e g = refl
+      by_tests i true true false false e g = refl
+      by_tests false true true true false e g = and_no e false refl
+      by_tests true true true true false e g = cc
 
 -- ---- levels
 
@@ -213,7 +219,8 @@ unfolding begins_await_using
 await_code n at k s h v t e =
     let g = and_yes (nests n) _ h in
     let i = and_yes (sees kind.Await s.at) _ (and_yes (at.include_decl || at.top_level) _ g.1).1 in
-    through (expr n expression (coded k s)) refl (sym (expr_goes n (coded k s) (saw s.at kind.Await i.0) i.1 g.0) ∙ e)
+    let j = and_yes (word_at (codes "using") (after s.at)) _ i.1 in
+    through (expr n expression (coded k s)) refl (sym (expr_goes n (coded k s) (saw s.at kind.Await i.0) j.0 g.0) ∙ e)
   where
     through : (o : Outcome Tree) → expr n expression (coded k s) ≡ o → and_then o (λ x u. Ok (done x, u)) ≡ Ok (v, t) → t.code ≡ k
     through (Ok p) g i = ap (λ (u : State). u.code) (sym (state_same p.1 i)) ∙ expr_code n expression (coded k s) p.0 p.1 g

@@ -23,9 +23,11 @@ use Rattle.swc_ecma_parser_grammar.specs.Looks.{kind_at, sees, span_at}
 use Rattle.swc_ecma_parser_grammar.specs.Names.{Code, is_name, is_identifier, may_bind_await}
 use Rattle.swc_ecma_parser_grammar.specs.Ends.{can_end}
 use Rattle.swc_ecma_parser_grammar.specs.Notes.{as_note}
+use Rattle.swc_ecma_parser_grammar.specs.Walk.{is_tabled, tabled}
+use Rattle.swc_ecma_parser_grammar.proofs.Tabled.{tabled-append}
 use Rattle.swc_ecma_parser_reader.specs.State.{State, Outcome, Reader, says_out_of_memory, moved, coded, flagged, marked, noted, holding_back, fault, recorded_in, recorded_at, fault_at, expect, end, name, name_in, name_by, wanted, wanted_in, wanted_at, too_deep, too_deep_in, too_deep_at, refuse, refuse_in, refuse_at, reject, reject_in, reject_at, refused, Step, after_turn, loop, next_turn, turns, More, Done, reference, unclean_name, as_name}
 use Rattle.swc_ecma_parser_reader.specs.Reader.{close, shebang_of, shebang_in, shebang_taken, shebang}
-use Rattle.swc_ecma_parser_reader.specs.Entry.{last_span, Behind, IsBehind, IsLater}
+use Rattle.swc_ecma_parser_reader.specs.Entry.{last_span, Behind, IsBehind}
 use Rattle.swc_ecma_parser_reader.specs.Limits.{has_out_of_memory_token}
 use Rattle.swc_ecma_parser_reader.proofs.Meets.{Answers, Meets, answers_if, answers_then, saw}
 use Rattle.swc_ecma_parser_reader.proofs.Errors.{is_error, after_remembers, spares_after, fault_here}
@@ -58,14 +60,18 @@ pub record AroundUnmarked (j k : EsSyntax) (a b : Bool) (m n : Option Mark) : Ty
 abbrev pub LeavesAround : State → State → Type 0
 LeavesAround b t = AroundUnmarked b.code.setting t.code.setting b.code.flags.module t.code.flags.module b.scope.mark t.scope.mark
 
+-- more is held back, of kinds that no walk finds
+abbrev pub IsHeld : List Fault → List Fault → Type 0
+IsHeld fs gs = (added : List Fault) × (gs ≡ fs ++ added) × (tabled added ≡ [])
+
 -- nothing is lost, of what was held back neither, no token that memory ran out for was passed, and what stands around stays
 abbrev pub NothingLost : State → State → Type 0
-NothingLost b s = IsBehind b s × IsLater b.notes.held_back s.notes.held_back × Remembers b s × StaysAround b s
+NothingLost b s = IsBehind b s × IsHeld b.notes.held_back s.notes.held_back × Remembers b s × StaysAround b s
 
 pub behind_self : (s : State) → NothingLost s s
 behind_self s = (
   record { added = []; faults = sym (append-nil s.faults); read = []; tokens = refl; last = refl },
-  ([], sym (append-nil s.notes.held_back)),
+  ([], sym (append-nil s.notes.held_back), refl),
   λ h. h,
   record { setting = refl; in_module = refl; mark = refl },
 )
@@ -114,8 +120,11 @@ behind_then b s t h g = record {
   last = g.last ∙ ap (λ z. last_span z g.read) h.last ∙ sym (last_appended b.at.last h.read g.read);
 }
 
-later_then : (a b c : List Fault) → IsLater a b → IsLater b c → IsLater a c
-later_then a b c h g = (h.0 ++ g.0, g.1 ∙ ap (λ z. z ++ g.0) h.1 ∙ append_assoc a h.0 g.0)
+pub none_tabled : (fs gs : List Fault) → tabled fs ≡ [] → tabled gs ≡ [] → tabled (fs ++ gs) ≡ []
+none_tabled fs gs h g = tabled-append fs gs ∙ ap (λ z. z ++ tabled gs) h ∙ g
+
+pub held_then : (a b c : List Fault) → IsHeld a b → IsHeld b c → IsHeld a c
+held_then a b c h g = (h.0 ++ g.0, g.1 ∙ ap (λ z. z ++ g.0) h.1 ∙ append_assoc a h.0 g.0, none_tabled h.0 g.0 h.2 g.2)
 
 -- behind one more token that memory did not run out for
 behind_past : (b s : State) → Remembers s (moved s) → NothingLost b s → NothingLost b (moved s)
@@ -137,9 +146,14 @@ pub behind_noted : (b : State) (f : Fault) (s : State) → NothingLost b s → N
 behind_noted b f s (h, k, r, w) =
     (record { added = h.added ++ f ∷ []; faults = ap (λ z. z ++ f ∷ []) h.faults ∙ append_assoc b.faults h.added (f ∷ []); read = h.read; tokens = h.tokens; last = h.last }, k, r, w)
 
--- or behind one more that is held back
-pub behind_held : (b : State) (f : Fault) (s : State) → NothingLost b s → NothingLost b (holding_back f s)
-behind_held b f s (h, k, r, w) = (h, (k.0 ++ as_note f ∷ [], ap (λ z. z ++ as_note f ∷ []) k.1 ∙ append_assoc b.notes.held_back k.0 (as_note f ∷ [])), r, w)
+-- or behind one more that is held back, of a kind that no walk finds
+pub behind_held : (b : State) (f : Fault) (s : State) → is_tabled f.kind ≡ false → NothingLost b s → NothingLost b (holding_back f s)
+behind_held b f s e (h, k, r, w) = (
+  h,
+  (k.0 ++ as_note f ∷ [], ap (λ z. z ++ as_note f ∷ []) k.1 ∙ append_assoc b.notes.held_back k.0 (as_note f ∷ []), none_tabled k.0 (as_note f ∷ []) k.2 (rw e refl)),
+  r,
+  w,
+)
 
 -- or under other code that has the settings and is a module's, or not, as before
 pub coded_kept : (b s : State) (k : Code) → k.setting ≡ s.code.setting → k.flags.module ≡ s.code.flags.module → NothingLost b s → NothingLost b (coded k s)
@@ -155,7 +169,7 @@ Kept b x t = NothingLost b t
 -- A refusal loses nothing either, unless it says that memory ran out no token that it ran out for was passed, and what stands around
 -- stays, but for the mark.
 abbrev pub Lost : State → Fault → State → Type 0
-Lost b e t = IsBehind b t × IsLater b.notes.held_back t.notes.held_back × (says_out_of_memory e.kind ≡ false → Remembers b t) × LeavesAround b t
+Lost b e t = IsBehind b t × IsHeld b.notes.held_back t.notes.held_back × (says_out_of_memory e.kind ≡ false → Remembers b t) × LeavesAround b t
 
 -- a refusal in a state in which nothing was lost
 pub lost : (b : State) (e : Fault) (t : State) → NothingLost b t → Lost b e t
@@ -208,13 +222,13 @@ follows b (Err e) h = h.0
 
 -- the same where the code may become a module's, or a script's: of what stands around nothing is said
 abbrev pub LosesNothing : State → State → Type 0
-LosesNothing b t = IsBehind b t × IsLater b.notes.held_back t.notes.held_back × Remembers b t
+LosesNothing b t = IsBehind b t × IsHeld b.notes.held_back t.notes.held_back × Remembers b t
 
 abbrev pub ItemKept : {A : Type 0} → State → A → State → Type 0
 ItemKept b x t = LosesNothing b t
 
 abbrev pub ItemLost : State → Fault → State → Type 0
-ItemLost b e t = IsBehind b t × IsLater b.notes.held_back t.notes.held_back × (says_out_of_memory e.kind ≡ false → Remembers b t)
+ItemLost b e t = IsBehind b t × IsHeld b.notes.held_back t.notes.held_back × (says_out_of_memory e.kind ≡ false → Remembers b t)
 
 abbrev pub ItemPasses : {A : Type 0} → Reader A → Type 0
 ItemPasses p = (b s : State) → LosesNothing b s → Answers (ItemKept b) (ItemLost b) (p s)
@@ -228,8 +242,8 @@ items_follow b (Err e) h = h.0
 
 -- what is kept from a state on is kept from one before
 pub items_from : {A : Type 0} (b s : State) (o : Outcome A) → LosesNothing b s → Answers (Kept s) (Lost s) o → Answers (ItemKept b) (ItemLost b) o
-items_from b s (Ok p) f h = (behind_then b s p.1 f.0 h.0, later_then b.notes.held_back s.notes.held_back p.1.notes.held_back f.1 h.1, λ g. f.2 (h.2 g))
-items_from b s (Err e) f h = (behind_then b s e.1 f.0 h.0, later_then b.notes.held_back s.notes.held_back e.1.notes.held_back f.1 h.1, λ j g. f.2 (h.2 j g))
+items_from b s (Ok p) f h = (behind_then b s p.1 f.0 h.0, held_then b.notes.held_back s.notes.held_back p.1.notes.held_back f.1 h.1, λ g. f.2 (h.2 g))
+items_from b s (Err e) f h = (behind_then b s e.1 f.0 h.0, held_then b.notes.held_back s.notes.held_back e.1.notes.held_back f.1 h.1, λ j g. f.2 (h.2 j g))
 
 -- a reader that keeps them
 abbrev pub Passes : {A : Type 0} → Reader A → Type 0
@@ -299,13 +313,13 @@ pub memory_refused_keeps : {A : Type 0} (P : A → State → Type 0) (b : State)
     → Answers (Kept s) (Lost s) o → Answers (λ _ _. Unit {0}) SaysMemory o → Answers P (Lost b) (refused f o)
 memory_refused_keeps P b f s (Ok p) e h g i = (
   behind_then b s p.1 h.0 g.0,
-  later_then b.notes.held_back s.notes.held_back p.1.notes.held_back h.1 g.1,
+  held_then b.notes.held_back s.notes.held_back p.1.notes.held_back h.1 g.1,
   (λ j. absurd (true≢false (sym e ∙ j))),
   leaves_then b s p.1 h.3 (stays_leaves s p.1 g.3),
 )
 memory_refused_keeps P b f s (Err p) e h g i = (
   behind_then b s p.1 h.0 g.0,
-  later_then b.notes.held_back s.notes.held_back p.1.notes.held_back h.1 g.1,
+  held_then b.notes.held_back s.notes.held_back p.1.notes.held_back h.1 g.1,
   (λ j. absurd (true≢false (sym i ∙ j))),
   leaves_then b s p.1 h.3 g.3,
 )

@@ -4,7 +4,7 @@ use Rattle.std.proofs.Common.{◌≡◌, ◌⊎◌, inl, inr, false, List, [], �
 use Rattle.swc_ecma_parser_error.specs.Kind.{Fault}
 use Rattle.swc_ecma_parser_input.specs.Place.{Place}
 use Rattle.swc_ecma_parser_model.specs.Tree.{Tree}
-use Rattle.swc_ecma_parser_grammar.specs.Ends.{Ends, by_semicolon, by_insertion, OptionalEnds, by_a_semicolon, by_nothing}
+use Rattle.swc_ecma_parser_grammar.specs.Ends.{Ends, by_semicolon, by_insertion}
 use Rattle.swc_ecma_parser_grammar.specs.Looks.{kind_at}
 use Rattle.swc_ecma_parser_grammar.specs.Names.{Code}
 use Rattle.swc_ecma_parser_reader.specs.Jumps.{told}
@@ -45,17 +45,9 @@ pub before_end : (m d : Place) → Ends m d → is_error (kind_at d) ≡ false �
 before_end m d (by_semicolon e g) q = ap is_error e
 before_end m d (by_insertion e i g) q = ap (λ z. is_error (kind_at z)) (sym g) ∙ q
 
-before_optional_end : (m d : Place) → OptionalEnds m d → is_error (kind_at d) ≡ false → is_error (kind_at m) ≡ false
-before_optional_end m d (by_a_semicolon e g) q = ap is_error e
-before_optional_end m d (by_nothing e g) q = ap (λ z. is_error (kind_at z)) (sym g) ∙ q
-
 pub calm_before : (m d : Place) (fs : List Fault) → Ends m d → (fs ≡ []) ⊎ (is_error (kind_at d) ≡ false) → (fs ≡ []) ⊎ (is_error (kind_at m) ≡ false)
 calm_before m d fs r (inl z) = inl z
 calm_before m d fs r (inr a) = inr (before_end m d r a)
-
-pub calm_before_optional : (m d : Place) (fs : List Fault) → OptionalEnds m d → (fs ≡ []) ⊎ (is_error (kind_at d) ≡ false) → (fs ≡ []) ⊎ (is_error (kind_at m) ≡ false)
-calm_before_optional m d fs r (inl z) = inl z
-calm_before_optional m d fs r (inr a) = inr (before_optional_end m d r a)
 
 -- ---- where no error token stands
 

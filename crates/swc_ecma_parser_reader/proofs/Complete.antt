@@ -247,9 +247,10 @@ module _ (n : ℕ) (below : Below n) (reads : (at : Position) (k : Code) (x : Tr
 
   -- ---- the block of an arrow function
 
-  arrow_block_reads : (a : Bool) (k : Code) (x : Tree) (c d : Place) → ReadsBlock (ReadsStmt n) (with_in (in_arrow k a)) x c d → ReadsEnclosed (function n (block_form a)) k x c d
+  arrow_block_reads : (a : Bool) (k : Code) (x : Tree) (c d : Place) → ReadsBraced (ReadsStmt n) true (with_in (in_arrow k a)) x c d → ReadsEnclosed (function n (block_form a)) k x c d
   unfolding function function_by arrow_block
-  arrow_block_reads a k x c d r w f h = rw (braced_reads (with_in (in_arrow k a)) x c d r (record w { labels = [] }) f h) refl
+  arrow_block_reads a k x c d r w f h =
+      rw (body_reads true (with_in (in_arrow k a)) x c d (record w { labels = [] }) f h r, behind_setting (with_in (in_arrow k a)) true r.items, r.is) refl
 
   -- ---- `switch`
 
@@ -635,12 +636,12 @@ module _ (n : ℕ) (below : Below n) (reads : (at : Position) (k : Code) (x : Tr
   by_rules at k x c d n' (variables_rule decl.Var xs m a e r g i) w f h q = rw (saw c kind.Var e) (variables_reads n below decl.Var xs m k x c d r g i w f h q)
   by_rules at k x c d n' (variables_rule decl.Const xs m a e r g i) w f h q = rw (saw c kind.Const e, declares at a) (variables_reads n below decl.Const xs m k x c d r g i w f h q)
   by_rules at k x c d n' (variables_rule decl.Let xs m a e r g i) w f h q = rw (let_stands c e, declares at a, e) (variables_reads n below decl.Let xs m k x c d r g i w f h q)
-  by_rules at k x c d n' (using_rule v xs m a (no_await l i) b r e g) w f h q =
+  by_rules at k x c d n' (using_rule v xs m p a (no_await l i) t b r e s g) w f h q =
       let b' = subst (λ z. is_using_declaration k z ≡ true) i b in
       rw (using_stands k c b', using_no_function k c b', placed at v l a, b')
-      (using_reads n below xs k x c d (subst (λ z. ReadsSeparated (DeclaratorRule (ReadsClass n assignment) (ReadsPat n) (with_in k) false decl.Var) xs (after z) d) i r) e (g ∙ ap (λ z. tree.using (spanned c d) z (listed xs)) l) w f h q)
-  by_rules at k x c d n' (using_rule v xs m a (await_word l i j) b r e g) w f h q =
-      absurd (true≢false (sym (declares_so at k c m v a i j b) ∙ n'))
+      (using_reads n below xs p k x c d (subst (λ z. ReadsSeparated (DeclaratorRule (ReadsClass n assignment) (ReadsPat n) (with_in k) false decl.Var) xs (after z) p) i r) e s (g ∙ ap (λ z. tree.using (spanned c d) z (listed xs)) l) w f h q)
+  by_rules at k x c d n' (using_rule v xs m p a (await_word l i j) t b r e s g) w f h q =
+      absurd (true≢false (sym (declares_so at k c m v a l i j t b) ∙ n'))
   by_rules at k x c d n' (if_statement_rule r) w f h q = rw (if_begins r) (if_reads r w f h q)
   by_rules at k x c d n' (switch_rule y xs m i e r a s b g j) w f h q = rw e (switch_reads y xs m i k x c d r a s b g j w f h)
   by_rules at k x c d n' (break_rule y m e r g i) w f h q = rw e (break_reads y m k x c d r g i w f h q)

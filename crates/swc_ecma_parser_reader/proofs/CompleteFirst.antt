@@ -9,7 +9,7 @@ use Rattle.swc_ecma_parser_model.specs.declared.leaves.VarDeclKind.TheVariants a
 use Rattle.swc_ecma_parser_model.specs.Tree as tree
 use Rattle.swc_ecma_parser_model.specs.Tree.{Tree, listed}
 use Rattle.swc_ecma_parser_grammar.specs.declared.position.Position.{Position}
-use Rattle.swc_ecma_parser_grammar.specs.Looks.{kind_at, same_kind, spanned}
+use Rattle.swc_ecma_parser_grammar.specs.Looks.{kind_at, same_kind, spanned, breaks_at}
 use Rattle.swc_ecma_parser_grammar.specs.Names.{Code}
 use Rattle.swc_ecma_parser_grammar.specs.Follows.{no_await, await_word, AsyncWord, not_async, async_word}
 use Rattle.swc_ecma_parser_grammar.specs.Variables.{begins_variables}
@@ -69,8 +69,9 @@ anywhere at v g = by_tests at.include_decl v at.top_level g
     by_tests false true e i = i
     by_tests false false e i = cc
 
-pub declares_so : (at : Position) (k : Code) (c m : Place) (v : Bool) → at.include_decl || (v && at.top_level) ≡ true → kind_at c ≡ kind.Await → m ≡ after c → is_using_declaration k m ≡ true → is_await_using_declaration at k c ≡ true
-declares_so at k c m v a i j b = behind_await_declares at k c (anywhere at v a) i (subst (λ z. is_using_declaration k z ≡ true) j b)
+pub declares_so : (at : Position) (k : Code) (c m : Place) (v : Bool) → at.include_decl || (v && at.top_level) ≡ true → v ≡ true → kind_at c ≡ kind.Await → m ≡ after c → v && breaks_at m ≡ false → is_using_declaration k m ≡ true
+    → is_await_using_declaration at k c ≡ true
+declares_so at k c m v a l i j o b = behind_await_declares at k c (anywhere at v a) i (ap breaks_at (sym j) ∙ ap (λ t. t && breaks_at m) (sym l) ∙ o) (subst (λ z. is_using_declaration k z ≡ true) j b)
 
 if_kind : (n : ℕ) {k : Code} {x : Tree} {c d : Place} → IfRule (ReadsStmt n) (ReadsClass n) k x c d → kind_at c ≡ kind.If
 if_kind n (if_rule t y z m i g r s o e) = g
@@ -88,10 +89,10 @@ module _ (n : ℕ) (below : Below n) where
   pub first_reads : (at : Position) (k : Code) (x : Tree) (c d : Place) → kind_at c ≡ kind.Await → is_using_declaration k (after c) ≡ true
       → StmtRule (ReadsStmt n) (ReadsClass n) (ReadsPat n) (ReadsTarget n) (ReadsParams n) (ReadsNamedClass n) k at x c d → AwaitUsing k x c d
   unfolding same_kind
-  first_reads at k x c d o u (using_rule v xs m a (no_await l i) b r e g) = apart c kind.Ident (sym (ap kind_at i) ∙ using_stands k m b) o refl
-  first_reads at k x c d o u (using_rule v xs m a (await_word l i j) b r e g) =
-      let s = subst (λ z. ReadsSeparated (DeclaratorRule (ReadsClass n assignment) (ReadsPat n) (with_in k) false decl.Var) xs (after z) d) j r in
-      (λ w f h q. await_using_reads n below xs k x c d s e (g ∙ ap (λ z. tree.using (spanned c d) z (listed xs)) l) w f h q, declarators_nest n (with_in k) xs (after (after c)) d s)
+  first_reads at k x c d o u (using_rule v xs m n' a (no_await l i) t b r e s g) = apart c kind.Ident (sym (ap kind_at i) ∙ using_stands k m b) o refl
+  first_reads at k x c d o u (using_rule v xs m n' a (await_word l i j) t b r e s g) =
+      let y = subst (λ z. ReadsSeparated (DeclaratorRule (ReadsClass n assignment) (ReadsPat n) (with_in k) false decl.Var) xs (after z) n') j r in
+      (λ w f h q. await_using_reads n below xs n' k x c d y e s (g ∙ ap (λ z. tree.using (spanned c d) z (listed xs)) l) w f h q, declarators_nest n (with_in k) xs (after (after c)) n' y)
   first_reads at k x c d o u (class_rule name y a r b e) = apart c kind.Class r.0.is_class o refl
   first_reads at k x c d o u (function_rule a r) = function_apart c r.word r.reads_async r.is_function o
   first_reads at k x c d o u (block_rule r) = apart c kind.LBrace r.opens o refl
@@ -121,5 +122,5 @@ module _ (n : ℕ) (below : Below n) where
   plain_reads at k x c d r other w f h q = by_test (is_await_using_declaration at k c) refl
     where
       by_test : (b : Bool) → is_await_using_declaration at k c ≡ b → plain_stmt n at (st c k w f h) ≡ Ok (x, st d k w (f ++ walk (env_of k w.labels) x) (h ⊕ notes_of x))
-      by_test true e = let (b, o, u) = declares_behind_await at k c e in let g = first_reads at k x c d o u r in is_first found (nests n) rest at (st c k w f h) e g.1 ∙ g.0 w f h q
+      by_test true e = let (b, o, u, _) = declares_behind_await at k c e in let g = first_reads at k x c d o u r in is_first found (nests n) rest at (st c k w f h) e g.1 ∙ g.0 w f h q
       by_test false e = not_first found (nests n) rest at (st c k w f h) e ∙ other e w f h q

@@ -40,7 +40,7 @@ use Rattle.swc_ecma_parser_grammar.proofs.AwaitHeads.{awaited_words, declares_so
 use Rattle.swc_ecma_parser_reader.specs.Notes.{Notes, no_notes, ◌⊕◌, notes_of, all_notes_of}
 use Rattle.swc_ecma_parser_reader.specs.State.{Scope, State, Outcome, Reader, coded, flagged, loop}
 use Rattle.swc_ecma_parser_reader.specs.Expressions.{Cover}
-use Rattle.swc_ecma_parser_reader.specs.Reader.{expr, head_cover, pattern, declarators, declarators_turn, Opening, Nothing, Variables, Resource, Named, Expression, as_init, as_left, head_variables, undeclared, using_head, named_head, await_or_expression, async_head, head_expression, await_head, async_or_expression, head_target, opening}
+use Rattle.swc_ecma_parser_reader.specs.Reader.{expr, head_cover, pattern, declarators, declarators_turn, Opening, Nothing, Variables, Resource, Named, Expression, as_init, as_left, head_variables, undeclared, using_head, named_head, await_or_expression, async_head, head_expression, await_head, async_or_expression, head_target, opening, begins_await_head}
 use Rattle.swc_ecma_parser_reader.proofs.Notes.{or_nil, notes_nil}
 use Rattle.swc_ecma_parser_reader.proofs.Answered.{st, Gets, ReadsAs}
 use Rattle.swc_ecma_parser_reader.proofs.Calm.{settled_as}
@@ -155,6 +155,14 @@ async_no_await : (c : Place) → begins_async_of c ≡ true → sees kind.Await 
 unfolding same_kind
 async_no_await c h = rw (word_place (codes "async") c (async_of_words c h).0) refl
 
+no_await_head : (c : Place) → sees kind.Await c ≡ false → begins_await_head c ≡ false
+unfolding begins_await_head
+no_await_head c h = ap (λ b. b && not (breaks_at (after c))) h
+
+await_heads : (c : Place) → sees kind.Await c ≡ true → breaks_at (after c) ≡ false → begins_await_head c ≡ true
+unfolding begins_await_head
+await_heads c h b = and_both (sees kind.Await c) _ h (ap not b)
+
 -- nor does a word that declares; and where `await` stands a head begins
 no_word : (j : TokenKind) → j ≡ kind.Await → j ≡ kind.Ident → ⊥
 no_word j e g = let f : kind.Await ≡ kind.Ident = sym e ∙ g in cc
@@ -191,12 +199,12 @@ module _ (inner_expr : Class → Reader Tree) (inner_pat : Reader Tree) (inner_c
   opening_declares decl.Const s e = let b = const_sees s.at (saw s.at kind.Const e) in rw (b.0, b.1, b.2) refl
   opening_declares decl.Let s e = let b = let_sees s.at (let_stands s.at e) in rw (b.0, b.1, b.2, e) refl
 
-  opening_target : (s : State) → may_begin_head s.at ≡ true → may_declare_using s.code s.at ≡ false → sees kind.Await s.at ≡ false
+  opening_target : (s : State) → may_begin_head s.at ≡ true → may_declare_using s.code s.at ≡ false → begins_await_head s.at ≡ false
       → opening inner_expr inner_pat inner_cover v s ≡ head_target inner_expr inner_pat inner_cover v s
   unfolding opening
   opening_target s e u a = let b = head_begins s.at e in rw (b.0, b.1, b.2, b.3, u, a) refl
 
-  opening_awaits : (s : State) → may_begin_head s.at ≡ true → may_declare_using s.code s.at ≡ false → sees kind.Await s.at ≡ true
+  opening_awaits : (s : State) → may_begin_head s.at ≡ true → may_declare_using s.code s.at ≡ false → begins_await_head s.at ≡ true
       → opening inner_expr inner_pat inner_cover v s ≡ await_head inner_expr inner_pat inner_cover s
   unfolding opening
   opening_awaits s e u a = let b = head_begins s.at e in rw (b.0, b.1, b.2, b.3, u, a) refl
@@ -219,9 +227,9 @@ module _ (inner_expr : Class → Reader Tree) (inner_pat : Reader Tree) (inner_c
   opening_starts : (s : State) → may_begin_head s.at ≡ true → may_declare_using s.code s.at ≡ false → (v && begins_async_of s.at) ≡ false
       → (x : Cover) (t : State) → inner_cover (coded (without_in s.code) s) ≡ Ok (x, t) → declares_behind (flagged s.code t).code t.at ≡ false
       → opening inner_expr inner_pat inner_cover v s ≡ head_expression inner_expr inner_pat inner_cover s
-  opening_starts s e u a x t g i = by_await (sees kind.Await s.at) refl
+  opening_starts s e u a x t g i = by_await (begins_await_head s.at) refl
     where
-      by_await : (b : Bool) → sees kind.Await s.at ≡ b → opening inner_expr inner_pat inner_cover v s ≡ head_expression inner_expr inner_pat inner_cover s
+      by_await : (b : Bool) → begins_await_head s.at ≡ b → opening inner_expr inner_pat inner_cover v s ≡ head_expression inner_expr inner_pat inner_cover s
       by_await true h = opening_awaits s e u h ∙ await_stays s x t g i
       by_await false h = opening_target s e u h ∙ target_stays s a
 
@@ -238,7 +246,7 @@ module _ (inner_expr : Class → Reader Tree) (inner_pat : Reader Tree) (inner_c
   opening_async : (s : State) → may_begin_head s.at ≡ true → may_declare_using s.code s.at ≡ false → v ≡ true → begins_async_of s.at ≡ true
       → opening inner_expr inner_pat inner_cover v s ≡ async_head inner_expr inner_pat s
   unfolding head_target async_or_expression
-  opening_async s e u a i = opening_target s e u (async_no_await s.at i) ∙ rw (a, i) refl
+  opening_async s e u a i = opening_target s e u (no_await_head s.at (async_no_await s.at i)) ∙ rw (a, i) refl
 
 module _ (n : ℕ) (below : Below n) where
   -- where no error token stands behind them, declarators and an expression are read
@@ -395,14 +403,14 @@ module _ (n : ℕ) (below : Below n) where
 
   named_with : (v : Bool) (k : Code) (y : Tree) (s : Span) (text : Text) (x : Tree) (c m d : Place) (w : Scope) (f : List Fault) (h : Notes)
       → Gets (AsExpr y) (head_cover n (st c (without_in k) w f h)) (st m (without_in k) w (f ++ walk (env_of (without_in k) w.labels) y) (h ⊕ notes_of y))
-      → kind_at c ≡ kind.Await → awaits_using y ≡ true → declares_behind k m ≡ true → ReadsPat n k (tree.ident_pat s text) m d
+      → kind_at c ≡ kind.Await → breaks_at (after c) ≡ false → awaits_using y ≡ true → declares_behind k m ≡ true → ReadsPat n k (tree.ident_pat s text) m d
       → x ≡ tree.using (spanned c d) true (listed (tree.declarator (spanned m d) (tree.ident_pat s text) tree.absent ∷ [])) → word_at (codes "of") d ≡ true
       → Gets (AsLeftSide x) (opening (expr n) (pattern n) (head_cover n) v (st c k w f h)) (st d k w (f ++ walk (env_of k w.labels) x) (h ⊕ notes_of x))
-  named_with v k y s text x c m d w f h g t a b q e o =
+  named_with v k y s text x c m d w f h g t l a b q e o =
       record {
         value = Resource x;
         holds = λ s. refl;
-        is = opening_awaits (expr n) (pattern n) (head_cover n) v (st c k w f h) (await_begins_head c t) (await_no_using k c t) (seen c kind.Await t)
+        is = opening_awaits (expr n) (pattern n) (head_cover n) v (st c k w f h) (await_begins_head c t) (await_no_using k c t) (await_heads c (seen c kind.Await t) l)
             ∙ await_step v k c m w f (walk (env_of (without_in k) w.labels) y) h (notes_of y) g.value g.is (awaited_walk y (without_in k) w.labels a) (awaited_notes y a) (ap awaits_using g.holds.0 ∙ a) b
             ∙ resource_declared true k s text c m d w f h q o
             ∙ ap (λ z. Ok (Resource (tree.using (spanned c d) true (listed (tree.declarator (spanned m d) (tree.ident_pat s text) tree.absent ∷ []))), z)) (sym (nothing_added d k w f [] h no_notes refl refl))
@@ -410,20 +418,20 @@ module _ (n : ℕ) (below : Below n) where
       }
 
   named_reads : (v : Bool) (k : Code) (y : Tree) (s : Span) (text : Text) (x : Tree) (c m d : Place) → k.setting.explicit_resource_management ≡ true → ReadsClass n expression (without_in k) y c m
-      → awaits_using y ≡ true → word_at (codes "of") m ≡ false → ReadsPat n k (tree.ident_pat s text) m d
+      → awaits_using y ≡ true → breaks_at (after c) ≡ false → word_at (codes "of") m ≡ false → ReadsPat n k (tree.ident_pat s text) m d
       → x ≡ tree.using (spanned c d) true (listed (tree.declarator (spanned m d) (tree.ident_pat s text) tree.absent ∷ [])) → word_at (codes "of") d ≡ true
       → ReadsAs (AsLeftSide x) (opening (expr n) (pattern n) (head_cover n) v) k x c d
-  named_reads v k y s text x c m d u r a b q e o w f h =
+  named_reads v k y s text x c m d u r a j b q e o w f h =
       let t = awaited_words n (without_in k) y c m r.0 a in
       let l = (names_stand n k (tree.ident_pat s text) m d q.0 refl q.1).1 in
-      named_with v k y s text x c m d w f h (head_awaited (without_in k) y c m r a w f h) t.stands a
+      named_with v k y s text x c m d w f h (head_awaited (without_in k) y c m r a w f h) t.stands j a
       (declares_so k m u (bound_stands n k (tree.ident_pat s text) m d refl q.0) b (in_head (after m) (ap (word_at (codes "of")) (sym l) ∙ o))) q e o
 
   awaited_reads : (v : Bool) (k : Code) (y name x : Tree) (c m d : Place) → k.setting.explicit_resource_management ≡ true → ReadsClass n expression (without_in k) y c m → awaits_using y ≡ true
-      → word_at (codes "of") m ≡ false → ReadsPat n k name m d → is_binding_name name ≡ true → x ≡ tree.using (spanned c d) true (listed (tree.declarator (spanned m d) name tree.absent ∷ []))
+      → breaks_at (after c) ≡ false → word_at (codes "of") m ≡ false → ReadsPat n k name m d → is_binding_name name ≡ true → x ≡ tree.using (spanned c d) true (listed (tree.declarator (spanned m d) name tree.absent ∷ []))
       → word_at (codes "of") d ≡ true → ReadsAs (AsLeftSide x) (opening (expr n) (pattern n) (head_cover n) v) k x c d
-  awaited_reads v k y name x c m d u r a b q i e o = let z = name_shape name i in
-      named_reads v k y z.span z.text x c m d u r a b (subst (λ p. ReadsPat n k p m d) z.is q)
+  awaited_reads v k y name x c m d u r a j b q i e o = let z = name_shape name i in
+      named_reads v k y z.span z.text x c m d u r a j b (subst (λ p. ReadsPat n k p m d) z.is q)
       (e ∙ ap (λ p. tree.using (spanned c d) true (listed (tree.declarator (spanned m d) p tree.absent ∷ []))) z.is) o
 
   -- behind it `of` stands, and no `=>` behind that
@@ -439,4 +447,4 @@ module _ (n : ℕ) (below : Below n) where
       by_test true e = let g = and_yes v (begins_async_of c) e in async_reads v k x c d b r u g.0 g.1 w f h
       by_test false e = target_reads v k x c d b r u e (undeclared_of k d o) (inr (o, elsewhere n v (without_in k) x c d r.0 o a i e)) w f h
   opening_reads_of v k x c d (of_using_rule name u r i e) o a w f h = resource_reads v k name x c d u r i e o w f h
-  opening_reads_of v k x c d (of_await_rule y name m u r a b q i e) o z w f h = awaited_reads v k y name x c m d u r a b q i e o w f h
+  opening_reads_of v k x c d (of_await_rule y name m u r a j b q i e) o z w f h = awaited_reads v k y name x c m d u r a j b q i e o w f h

@@ -9,11 +9,12 @@ use Rattle.swc_ecma_parser_token.specs.declared.token.Word.{Word}
 use Rattle.std.proofs.Common.{Err, true≢false, ◌≡◌, ◌⊎◌, inl, inr, ℕ, zero, suc, ◌<◌, Bool, true, false, cond, List, [], ◌∷◌, ◌++◌, length, Option, Some, None, Ok, refl, sym, ◌∙◌, ap, append_assoc, append-nil}
 use Rattle.swc_ecma_parser_reader.proofs.Meets.{saw}
 use Rattle.swc_ecma_parser_reader.specs.Notes.{no_notes, Notes, held, ◌⊕◌, notes_of, all_notes_of}
-use Rattle.swc_ecma_parser_grammar.proofs.Tests.{and_yes}
+use Rattle.swc_ecma_parser_grammar.proofs.Unnoted.{import_unnamed}
+use Rattle.swc_ecma_parser_grammar.proofs.Tests.{and_yes, and_no}
 use Rattle.swc_ecma_parser_grammar.proofs.Marks.{name_before_colon}
 use Rattle.swc_ecma_parser_grammar.specs.Names.{is_name, is_reserved, name_at, is_clean_name, is_identifier, Code}
 use Rattle.swc_ecma_parser_reader.proofs.StatementEnds.{no_lack}
-use Rattle.swc_ecma_parser_reader.specs.Reader.{begins_label, note_with, expr, pattern, target, unbroken, break_stmt, uncontinued, continue_stmt, misplaced, operand, returned, return_stmt, empty, debugger, initialized, declarator, declarators_turn, declarators, declaration_end, variables, closes, at_end, close, directs, items_turn, items, note_statement, no_label, stmt_end, expr_stmt, optional_end, import_stmt, thrown, throw, head, condition, begins_clause, closes_clause, shebang_of, shebang_in, shebang, misusing, using_from, using_stmt, await_using_stmt, nests, operators}
+use Rattle.swc_ecma_parser_reader.specs.Reader.{begins_label, note_with, expr, pattern, target, unbroken, break_stmt, uncontinued, continue_stmt, misplaced, operand, returned, return_stmt, empty, debugger, initialized, declarator, declarators_turn, declarators, declaration_end, variables, closes, at_end, close, directs, items_turn, items, note_statement, no_label, stmt_end, expr_stmt, optional_end, thrown, throw, head, condition, begins_clause, closes_clause, shebang_of, shebang_in, shebang, misusing, using_from, using_stmt, await_using_stmt, nests, operators}
 use Rattle.std.specs.Prelude.{◌&&◌, ◌||◌, codes}
 use Rattle.swc_ecma_parser_common.specs.declared.span.Span.{Span}
 use Rattle.swc_ecma_parser_error.specs.Kind as faults
@@ -45,16 +46,16 @@ use Rattle.swc_ecma_parser_grammar.specs.Walk.{env_of, walk, walks}
 use Rattle.swc_ecma_parser_reader.specs.State.{Scope, State, Outcome, Reader, noted, holding_back, labelled, expect, end, fault_at, loop}
 use Rattle.swc_ecma_parser_reader.proofs.Notes.{or_nil, or_assoc}
 use Rattle.swc_ecma_parser_reader.proofs.Answered.{st, Reads, Calm, ReadsCalm}
-use Rattle.swc_ecma_parser_reader.proofs.Calm.{told_reads, calm_same, calm_first, calm_last, calm_before, calm_before_optional}
+use Rattle.swc_ecma_parser_reader.proofs.Calm.{told_reads, calm_same, calm_first, calm_last, calm_before}
 use Rattle.swc_ecma_parser_reader.proofs.Errors.{is_error}
 use Rattle.swc_ecma_parser_reader.proofs.expressions.CompleteParts.{name_reads}
 use Rattle.swc_ecma_parser_grammar.specs.Own.{break_faults, continue_faults, return_faults}
 use Rattle.swc_ecma_parser_reader.proofs.expressions.CompleteKinds.{seen, named_here}
 use Rattle.swc_ecma_parser_reader.proofs.Below.{Below, expr_reads, pattern_reads}
 use Rattle.swc_ecma_parser_reader.proofs.Declarators.{declarator_begins}
-use Rattle.swc_ecma_parser_reader.proofs.Loops.{items_stop, items_more, declarators_done, declarators_more}
+use Rattle.swc_ecma_parser_reader.proofs.Loops.{items_stop, items_more, directs_push, declarators_done, declarators_more}
 use Rattle.swc_ecma_parser_grammar.proofs.SupportedBegins.{expr_opens}
-use Rattle.swc_ecma_parser_reader.proofs.Opens.{import_unnoted, goes_open}
+use Rattle.swc_ecma_parser_reader.proofs.Opens.{goes_open}
 use Rattle.swc_ecma_parser_grammar.proofs.Naming.{name_is_free}
 use Rattle.swc_ecma_parser_reader.proofs.CleanStarts.{Starts, expressions_start}
 use Rattle.swc_ecma_parser_grammar.proofs.Ended.{ends_name, ended_awaits}
@@ -201,23 +202,31 @@ variables_reads n below word xs m k x c d r e g w f h q =
       g,
     ) refl
 
-pub using_reads : (n : ℕ) (below : Below n) (xs : List Tree) (k : Code) (x : Tree) (c d : Place)
-    → ReadsSeparated (DeclaratorRule (ReadsClass n assignment) (ReadsPat n) (with_in k) false decl.Var) xs (after c) d
-    → using_faults k.setting.explicit_resource_management (spanned c d) xs ≡ [] → x ≡ tree.using (spanned c d) false (listed xs)
+pub using_reads : (n : ℕ) (below : Below n) (xs : List Tree) (m : Place) (k : Code) (x : Tree) (c d : Place)
+    → ReadsSeparated (DeclaratorRule (ReadsClass n assignment) (ReadsPat n) (with_in k) false decl.Var) xs (after c) m
+    → using_faults k.setting.explicit_resource_management (spanned c m) xs ≡ [] → Ends m d → x ≡ tree.using (spanned c d) false (listed xs)
     → ReadsCalm (using_stmt (declarators (expr n) (pattern n) false decl.Var)) k x c d
 unfolding using_stmt using_from misusing declarators spanned
-using_reads n below xs k x c d r e g w f h q =
-    rw (many_declarators n below false decl.Var xs [] (with_in k) (after c) d w f h r (calm_same d _ (walks (env_of k w.labels) false (trees xs)) (ap (walk (env_of k w.labels)) g) q), e, g) refl
+using_reads n below xs m k x c d r e o g w f h q =
+    let a = walks (env_of k w.labels) false (trees xs) in
+    rw (
+      many_declarators n below false decl.Var xs [] (with_in k) (after c) m w f h r (calm_before m d a o (calm_same d _ a (ap (walk (env_of k w.labels)) g) q)),
+      e,
+      ends_read faults.Expected m d k w (f ++ walks (env_of k w.labels) false (trees xs)) (h ⊕ all_notes_of (trees xs)) o,
+      g,
+    ) refl
 
-pub await_using_reads : (n : ℕ) (below : Below n) (xs : List Tree) (k : Code) (x : Tree) (c d : Place)
-    → ReadsSeparated (DeclaratorRule (ReadsClass n assignment) (ReadsPat n) (with_in k) false decl.Var) xs (after (after c)) d
-    → using_faults k.setting.explicit_resource_management (spanned c d) xs ≡ [] → x ≡ tree.using (spanned c d) true (listed xs)
+pub await_using_reads : (n : ℕ) (below : Below n) (xs : List Tree) (m : Place) (k : Code) (x : Tree) (c d : Place)
+    → ReadsSeparated (DeclaratorRule (ReadsClass n assignment) (ReadsPat n) (with_in k) false decl.Var) xs (after (after c)) m
+    → using_faults k.setting.explicit_resource_management (spanned c m) xs ≡ [] → Ends m d → x ≡ tree.using (spanned c d) true (listed xs)
     → ReadsCalm (await_using_stmt (declarators (expr n) (pattern n) false decl.Var)) k x c d
 unfolding await_using_stmt using_from misusing declarators spanned
-await_using_reads n below xs k x c d r e g w f h q =
+await_using_reads n below xs m k x c d r e o g w f h q =
+    let a = walks (env_of k w.labels) false (trees xs) in
     rw (
-      many_declarators n below false decl.Var xs [] (with_in k) (after (after c)) d w f h r (calm_same d _ (walks (env_of k w.labels) false (trees xs)) (ap (walk (env_of k w.labels)) g) q),
+      many_declarators n below false decl.Var xs [] (with_in k) (after (after c)) m w f h r (calm_before m d a o (calm_same d _ a (ap (walk (env_of k w.labels)) g) q)),
       e,
+      ends_read faults.Expected m d k w (f ++ walks (env_of k w.labels) false (trees xs)) (h ⊕ all_notes_of (trees xs)) o,
       g,
     ) refl
 
@@ -235,7 +244,7 @@ declarators_nest zero k (x ∷ y ∷ ys) c d (m, initialized_rule p z i r e s g,
 -- the code behind statements: a directive may have turned it strict
 abbrev pub code_behind : Code → Bool → List Tree → Code
 code_behind k directives [] = k
-code_behind k directives (x ∷ xs) = code_behind (directed k directives x) false xs
+code_behind k directives (x ∷ xs) = code_behind (directed k directives x) (directs_on directives x) xs
 
 -- without directives it stays
 pub code_stays : (k : Code) (xs : List Tree) → code_behind k false xs ≡ k
@@ -249,12 +258,11 @@ in_strict_setting false k = refl
 
 pub behind_setting : (k : Code) (directives : Bool) (xs : List Tree) → (code_behind k directives xs).setting ≡ k.setting
 behind_setting k directives [] = refl
-behind_setting k directives (x ∷ xs) = behind_setting (directed k directives x) false xs ∙ in_strict_setting (directives && is_use_strict x) k
+behind_setting k directives (x ∷ xs) = behind_setting (directed k directives x) (directs_on directives x) xs ∙ in_strict_setting (directives && is_use_strict x) k
 
--- behind a first statement there is no directive
-pub directs_behind : (directives : Bool) (found : List Tree) (x : Tree) → directs directives (found ++ x ∷ []) ≡ false
-directs_behind directives [] x = refl
-directs_behind directives (y ∷ ys) x = refl
+-- whether a directive can stand behind one item more
+pub directs_behind : (directives : Bool) (found : List Tree) (x : Tree) (b : Bool) → directs directives found ≡ b → directs directives (found ++ x ∷ []) ≡ directs_on b x
+directs_behind directives found x b e = directs_push directives found x ∙ ap (λ o. directs_on o x) e
 
 -- the walk and the reader agree on what a directive turns strict
 pub strict_walk : (b : Bool) (k : Code) (labels : List Text) → env_of (cond b (in_strict k) k) labels ≡ cond b (record (env_of k labels) { strict = true }) (env_of k labels)
@@ -282,7 +290,7 @@ module _ (Inner : Code → Tree → Place → Place → Type 0) (inner : Reader 
       let one = reads k x c m r w f h (inr (no_error (directed k b x) (directs_on b x) xs m d more a)) in
       let first = items_more inner stops directives found (st c k w f h) x (st m k w (f ++ walk (env_of k w.labels) x) (h ⊕ notes_of x)) (goes k x c m r) one
       (shorter (st c k w f h) x (st m k w (f ++ walk (env_of k w.labels) x) (h ⊕ notes_of x)) one) in
-      let rest = many_items directives xs (found ++ x ∷ []) false (directed k b x) m d w (f ++ walk (env_of k w.labels) x) (h ⊕ notes_of x) (directs_behind directives found x) more e a in
+      let rest = many_items directives xs (found ++ x ∷ []) (directs_on b x) (directed k b x) m d w (f ++ walk (env_of k w.labels) x) (h ⊕ notes_of x) (directs_behind directives found x b p) more e a in
       let turn = rw p at first in
       turn ∙ rest ∙ rw (directed_walk k b x w.labels) (simp (append_assoc, or_assoc) refl)
 
@@ -348,17 +356,17 @@ expr_stmt_reads n below e m k x c d r l i g j w f h q =
       or_nil (has_meta e),
     ) refl
 
-pub import_stmt_reads : (n : ℕ) (below : Below n) (e : Tree) (m : Place) (k : Code) (x : Tree) (c d : Place) → begins_import_expression c ≡ true → ReadsClass n expression (with_in k) e c m → OptionalEnds m d
-    → x ≡ tree.expr_stmt (spanned c d) e → ReadsCalm (import_stmt (expr n expression)) k x c d
-unfolding import_stmt
-import_stmt_reads n below e m k x c d b r g j w f h q =
-    rw (
-      expr_reads n below expression (with_in k) e c m r w f h (calm_before_optional m d _ g (calm_same d _ (walk (env_of k w.labels) e) (ap (walk (env_of k w.labels)) j) q)),
-      optional_end_reads m d k w (f ++ walk (env_of k w.labels) e) (h ⊕ notes_of e) g,
-      j,
-      import_unnoted n (with_in k) e c m r b,
-      append-nil (notes e),
-    ) refl
+-- one that begins with `import` is no bare name
+unnamed : (text : Text) (e : Tree) → is_ident e ≡ false → is_ident_named text e ≡ false
+unnamed text (tree.ident s i) a = cc
+unnamed text _ a = refl
+
+pub import_stmt_reads : (n : ℕ) (below : Below n) (e : Tree) (m : Place) (k : Code) (x : Tree) (c d : Place) → begins_import_expression c ≡ true → ReadsClass n expression (with_in k) e c m → Ends m d
+    → x ≡ tree.expr_stmt (spanned c d) e → ReadsCalm (expr_stmt (expr n expression) (operators n)) k x c d
+unfolding begins_import_expression
+import_stmt_reads n below e m k x c d b r g j =
+    let i = import_unnamed n (with_in k) e c m r (and_yes (sees kind.Import c) _ b).0 in
+    expr_stmt_reads n below e m k x c d r (ap (λ a. a && sees kind.Colon m) i) (and_no k.flags.module _ (unnamed (codes "interface") e i)) g j
 
 -- ---- `throw`, `while` and `do`
 

@@ -81,7 +81,7 @@ module _ (n : ℕ) (stops : Place → Bool) (begins : (k : Code) (x : Tree) (c d
       let j = st m k w (f ++ walk (env_of k w.labels) x) (h ⊕ notes_with x (sees kind.Await c)) in
       let one = whole_reads n top_item k x c m r w f h (inr (no_error (directed k b x) (directs_on b x) xs m d more a)) in
       let first = items_more (whole_stmt n top_item) stops true found (st c k w f h) x j (begins k x c m r) one (whole_shorter n top_item (st c k w f h) x j one) in
-      let rest = many_read xs (found ++ x ∷ []) false (directed k b x) m d w j.faults j.notes (directs_behind true found x) more e a in
+      let rest = many_read xs (found ++ x ∷ []) (directs_on b x) (directed k b x) m d w j.faults j.notes (directs_behind true found x b p) more e a in
       let turn = rw p at first in
       turn ∙ rest ∙ rw (directed_walk k b x w.labels) (simp (append_assoc, or_shift) refl)
 

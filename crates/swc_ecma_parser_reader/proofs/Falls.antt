@@ -10,7 +10,7 @@ use Rattle.swc_ecma_parser_reader.proofs.decorators.Falls.{decorated_falls}
 use Rattle.swc_ecma_parser_reader.proofs.decorators.Taking.{either_falls}
 use Rattle.swc_ecma_parser_reader.specs.State.{Scope, and_then, below, relabelled, below_label, enclosed, unlabelled, fault_at, noted, module_found, reference, State, Outcome, Reader, moved, coded, within, fault, labelled, labelled_as, name, expect, end}
 use Rattle.swc_ecma_parser_grammar.specs.language.Items.{labelled_item, sub_statement}
-use Rattle.swc_ecma_parser_reader.specs.Reader.{begins_label, right_operand, relabels, labelled_body, labeled_stmt, other_stmt, note_with, with_stmt, await_here, unless_awaited, function_body, function_decl, function_parts, function_stmt, misdirected, function_word, async_or_other, missing_initializer, Opening, Nothing, Variables, Expression, as_init, as_left, head_variables, head_expression, opening, head_part, misdeclared, for_parts, for_in, for_of, for_behind, for_stmt, const_stmt, let_stmt, no_parameter, one_parameter, getter, setter, plain_method, arrow_block, function_by, named, own_name, function_expr, expr, cover, head_cover, pattern, element, decorated_in, member, function, empty, debugger, uninitialized, initialized, ends_declarators, missing_at, no_declarator, declarator, declarators_turn, declarators, declaration_end, variables, closes, at_end, close, items_turn, items, block_from, block, braced, note_statement, no_label, stmt_end, expr_stmt, expr_stmt_at, told, target, unbroken, break_stmt, uncontinued, continue_stmt, misplaced, after_return, operand, returned, return_stmt, optional_end, import_stmt, import_stmt_at, thrown, throw, head, while_stmt, do_while, Link, goes_on, condition, alternative, link_from, link, behind_link, links, if_stmt, begins_clause, closes_clause, Clauses, clause_from, default_clause, case_clause, clause, clauses_turn, clauses, switch_stmt, is_handled, handled, bound, parameter, finalizer, caught, handler, try_stmt, stmt_by, stmt_level, stmt, top_await_fault, top_await, whole_stmt, shebang_in, shebang_taken, shebang, script_body, script, misusing, using_from, using_stmt, using_or_other, Resource, Named, undeclared, using_head, named_head, await_or_expression, await_head, async_head, unfollowed, async_or_expression, head_target}
+use Rattle.swc_ecma_parser_reader.specs.Reader.{begins_label, right_operand, relabels, labelled_body, labeled_stmt, other_stmt, note_with, with_stmt, await_here, unless_awaited, function_body, function_decl, function_parts, function_stmt, misdirected, function_word, async_or_other, missing_initializer, Opening, Nothing, Variables, Expression, as_init, as_left, head_variables, head_expression, opening, head_part, misdeclared, for_parts, for_in, for_of, for_behind, for_stmt, const_stmt, let_stmt, no_parameter, one_parameter, getter, setter, plain_method, arrow_block, function_by, named, own_name, function_expr, expr, cover, head_cover, pattern, element, decorated_in, member, function, empty, debugger, uninitialized, initialized, ends_declarators, missing_at, no_declarator, declarator, declarators_turn, declarators, declaration_end, variables, closes, at_end, close, items_turn, items, block_from, block, braced, note_statement, no_label, stmt_end, expr_stmt, expr_stmt_at, told, target, unbroken, break_stmt, uncontinued, continue_stmt, misplaced, after_return, operand, returned, return_stmt, optional_end, import_stmt_at, thrown, throw, head, while_stmt, do_while, Link, goes_on, condition, alternative, link_from, link, behind_link, links, if_stmt, begins_clause, closes_clause, Clauses, clause_from, default_clause, case_clause, clause, clauses_turn, clauses, switch_stmt, is_handled, handled, bound, parameter, finalizer, caught, handler, try_stmt, stmt_by, stmt_level, stmt, top_await_fault, top_await, whole_stmt, shebang_in, shebang_taken, shebang, script_body, script, misusing, using_from, using_stmt, using_or_other, Resource, Named, undeclared, using_head, named_head, await_or_expression, await_head, async_head, unfollowed, async_or_expression, head_target, begins_await_head}
 use Rattle.swc_ecma_parser_grammar.specs.language.Contexts.{without_in, named_by, in_body, in_arrow, in_parameters, in_loop, in_breakable, in_with}
 use Rattle.swc_ecma_parser_grammar.specs.Variables.{is_const, needs_no_initializer}
 use Rattle.swc_ecma_parser_model.specs.declared.leaves.VarDeclKind.{VarDeclKind}
@@ -109,7 +109,8 @@ module _ (inner_expr : Class → Reader Tree) (g : (class : Class) (s : State) �
   unfolding using_stmt using_from misusing
   using_falls s e = falls_past s _ e (falls_then 0 0 (length (after s.at).left) (within with_in (declarators inner_expr inner false decl.Var) (moved s)) _
       (falls_coded 0 (length (after s.at).left) (declarators inner_expr inner false decl.Var (coded (with_in s.code) (moved s))) _ _ (declarators_fall false decl.Var (coded (with_in s.code) (moved s))))
-      (λ found t. falls_last 0 (length t.at.left) (misusing (record { lo = (span_at s.at).lo; hi = t.at.last.hi }) found t) _ (told_falls _ t)))
+      (λ found t. falls_then 0 0 (length t.at.left) (misusing (record { lo = (span_at s.at).lo; hi = t.at.last.hi }) found t) _ (told_falls _ t) (λ _ u.
+      falls_last 0 (length u.at.left) (end faults.Expected u) _ (end_falls faults.Expected u))))
 
 module _ (inner : Reader Tree) (h : (s : State) → Falls 1 (length s.at.left) (inner s)) where
   items_turn_falls : (stops : Place → Bool) (directives : Bool) (found : List Tree) (s : State) → Falls 0 (length s.at.left) (items_turn inner stops directives found s)
@@ -159,14 +160,9 @@ module _ (inner : Reader Tree) (h : (s : State) → Falls 1 (length s.at.left) (
   unfolding expr_stmt_at
   expr_stmt_at_falls operators p at s = falls_if 1 (length s.at.left) (may_begin_expression_statement at s.at) _ _ (expr_stmt_falls operators p s) (wanted_falls Tree 1 (length s.at.left) faults.Unexpected s)
 
-  import_stmt_falls : (s : State) → Falls 1 (length s.at.left) (import_stmt inner s)
-  unfolding import_stmt
-  import_stmt_falls s = falls_next (length s.at.left) (within with_in inner s) _ (whole_falls s) (λ x t.
-      falls_last 0 (length t.at.left) (optional_end t) _ (optional_end_falls t))
-
-  import_stmt_at_falls : (s : State) → Falls 1 (length s.at.left) (import_stmt_at inner s)
+  import_stmt_at_falls : (operators : Span → Tree → Reader Tree) → ((start : Span) (x : Tree) → Passes (operators start x)) → (s : State) → Falls 1 (length s.at.left) (import_stmt_at inner operators s)
   unfolding import_stmt_at
-  import_stmt_at_falls s = falls_if 1 (length s.at.left) (begins_import_expression s.at) _ _ (import_stmt_falls s)
+  import_stmt_at_falls operators p s = falls_if 1 (length s.at.left) (begins_import_expression s.at) _ _ (expr_stmt_falls operators p s)
       (refuse_falls Tree 1 (length s.at.left) faults.ImportExportInScript s)
 
 -- ---- `throw`, loops and `if`
@@ -319,7 +315,7 @@ module _ (inner : Reader Tree) (h : (s : State) → Falls 1 (length s.at.left) (
   unfolding opening
   opening_falls w s = falls_if 0 (length s.at.left) (sees kind.Semi s.at) _ _ (omega arith) (falls_if 0 (length s.at.left) (sees kind.Var s.at) _ _ (head_variables_falls decl.Var s)
       (falls_if 0 (length s.at.left) (sees kind.Const s.at) _ _ (head_variables_falls decl.Const s) (falls_if 0 (length s.at.left) (is_let_declaration s.at) _ _ (head_variables_falls decl.Let s)
-      (falls_if 0 (length s.at.left) (may_declare_using s.code s.at) _ _ (named_head_falls s) (falls_if 0 (length s.at.left) (sees kind.Await s.at) _ _ (await_head_falls s) (head_target_falls w s))))))
+      (falls_if 0 (length s.at.left) (may_declare_using s.code s.at) _ _ (named_head_falls s) (falls_if 0 (length s.at.left) (begins_await_head s.at) _ _ (await_head_falls s) (head_target_falls w s))))))
 
   head_part_falls : (behind : TokenKind) (s : State) → Falls 0 (length s.at.left) (head_part behind (inner_expr expression) s)
   unfolding head_part
@@ -586,8 +582,8 @@ module _ (inner : Reader Tree) (h : (s : State) → Falls 1 (length s.at.left) (
   arrow_block_falls : (w : Bool) (s : State) → Falls 1 (length s.at.left) (arrow_block inner params w s)
   unfolding arrow_block
   arrow_block_falls w s = let t = coded (with_in (in_arrow s.code w)) s in
-      falls_coded 1 (length s.at.left) (enclosed (braced inner false) t) _ _
-      (falls_found 1 (length s.at.left) (braced inner false (unlabelled t)) _ _ (λ _ u. refl) (braced_takes inner h false (unlabelled t)))
+      falls_coded 1 (length s.at.left) (enclosed (braced inner true) t) _ _
+      (falls_found 1 (length s.at.left) (braced inner true (unlabelled t)) _ _ (λ _ u. refl) (braced_takes inner h true (unlabelled t)))
 
   method_falls : (pat inner_class : Reader Tree) (form : MethodForm) (start : Span) (x : Tree) (s : State) → Falls 0 (length s.at.left) (function_by inner params pat inner_class (property_form form start x) s)
   unfolding function_by plain_method
@@ -650,8 +646,8 @@ module _ (inner : Position → Reader Tree) (h : (at : Position) (s : State) →
   stmt_by_falls at kind.Function s e = function_stmt_falls (inner nested_item) (h nested_item) inner_params l at s e
   stmt_by_falls at kind.Class s e = classes.class_stmt_falls (inner_expr left_side) (g left_side) inner_member m at s e
   stmt_by_falls at kind.Ident s e = async_or_other_falls at s
-  stmt_by_falls at kind.Import s e = import_stmt_at_falls (inner_expr expression) (g expression) s
-  stmt_by_falls at kind.Export s e = import_stmt_at_falls (inner_expr expression) (g expression) s
+  stmt_by_falls at kind.Import s e = import_stmt_at_falls (inner_expr expression) (g expression) inner_operators lossless.operations s
+  stmt_by_falls at kind.Export s e = import_stmt_at_falls (inner_expr expression) (g expression) inner_operators lossless.operations s
   stmt_by_falls at _ s e = other_falls inner h (inner_expr expression) (g expression) inner_operators lossless.operations at s
 
   pub stmt_level_falls : (at : Position) (s : State) → Falls 1 (length s.at.left) (stmt_level inner inner_expr inner_pat inner_cover inner_params inner_member inner_operators at s)

@@ -1,25 +1,26 @@
 -- `await using` before anything else of a statement: it takes a token, loses nothing, and is not too deep of itself.
 use Rattle.std.proofs.Common.{◌≡◌, ◌≢◌, ℕ, Bool, true, false, cond, List, length, refl, sym, ◌∙◌, ap}
-use Rattle.std.specs.Prelude.{◌&&◌, ◌||◌}
+use Rattle.std.specs.Prelude.{not, ◌&&◌, ◌||◌}
+use Rattle.swc_ecma_parser_error.specs.Kind as faults
 use Rattle.swc_ecma_parser_token.specs.declared.kind.TokenKind.{TokenKind}
 use Rattle.swc_ecma_parser_token.specs.declared.kind.TokenKind.TheVariants as kind
 use Rattle.swc_ecma_parser_input.specs.Place.{after}
 use Rattle.swc_ecma_parser_model.specs.Tree.{Tree}
 use Rattle.swc_ecma_parser_grammar.specs.declared.position.Position.{Position}
-use Rattle.swc_ecma_parser_grammar.specs.Looks.{kind_at, sees, same_kind, span_at}
+use Rattle.swc_ecma_parser_grammar.specs.Looks.{kind_at, breaks_at, sees, same_kind, span_at}
 use Rattle.swc_ecma_parser_grammar.specs.Reads.{with_in}
 use Rattle.swc_ecma_parser_grammar.specs.Using.{is_using_declaration, is_await_using_declaration}
 use Rattle.swc_ecma_parser_grammar.proofs.Tests.{and_yes}
 use Rattle.swc_ecma_parser_grammar.proofs.AwaitUsing.{declares_behind_await}
 use Rattle.swc_ecma_parser_grammar.proofs.Using.{using_stands}
-use Rattle.swc_ecma_parser_reader.specs.State.{State, Reader, moved, coded, within}
+use Rattle.swc_ecma_parser_reader.specs.State.{State, Reader, moved, coded, within, end}
 use Rattle.swc_ecma_parser_reader.specs.Reader.{misusing, using_from, await_using_stmt, await_using_or}
-use Rattle.swc_ecma_parser_reader.proofs.Takes.{Falls, falls_then, falls_last, falls_coded, falls_past, falls_moved}
+use Rattle.swc_ecma_parser_reader.proofs.Takes.{Falls, falls_then, falls_last, falls_coded, falls_past, falls_moved, end_falls}
 use Rattle.swc_ecma_parser_reader.proofs.Meets.{Answers, Meets, answers_then, answers_if, meets_if}
 use Rattle.swc_ecma_parser_reader.proofs.Behind as behind
-use Rattle.swc_ecma_parser_reader.proofs.Behind.{Passes, NothingLost, Lost, flagged_kept, behind_after}
+use Rattle.swc_ecma_parser_reader.proofs.Behind.{Passes, NothingLost, Lost, flagged_kept, behind_after, end_keeps}
 use Rattle.swc_ecma_parser_reader.proofs.Shallow as shallow
-use Rattle.swc_ecma_parser_reader.proofs.Shallow.{Fine, Shallow, fine_after}
+use Rattle.swc_ecma_parser_reader.proofs.Shallow.{Fine, Shallow, fine_after, end_shallow}
 use Rattle.swc_ecma_parser_reader.proofs.expressions.Falls.{told_falls}
 use Rattle.swc_ecma_parser_reader.proofs.expressions.Keeps.{told_keeps}
 use Rattle.swc_ecma_parser_reader.proofs.expressions.LimitSteps.{told_shallow}
@@ -36,7 +37,7 @@ module _ (found : Reader (List Tree)) (v : Bool) (rest : Position → Reader Tre
 
   pub first_elsewhere : (s : State) → sees kind.Await s.at ≡ false → await_using_or found v rest at s ≡ rest at s
   unfolding is_await_using_declaration
-  first_elsewhere s e = not_first s (ap (λ b. b && ((at.include_decl || at.top_level) && is_using_declaration s.code (after s.at))) e)
+  first_elsewhere s e = not_first s (ap (λ b. b && ((at.include_decl || at.top_level) && (not (breaks_at (after s.at)) && is_using_declaration s.code (after s.at)))) e)
 
   pub first_at : (j : TokenKind) (s : State) → kind_at s.at ≡ j → same_kind j kind.Await ≡ false → await_using_or found v rest at s ≡ rest at s
   first_at j s e h = first_elsewhere s (ap (λ i. same_kind i kind.Await) e ∙ h)
@@ -50,7 +51,8 @@ module _ (found : Reader (List Tree)) (v : Bool) (rest : Position → Reader Tre
     unfolding await_using_stmt using_from misusing
     await_using_falls s e = falls_past s _ e (falls_moved 0 (moved s) _ (falls_then 0 0 (length (after (after s.at)).left) (within with_in found (moved (moved s))) _
         (falls_coded 0 (length (after (after s.at)).left) (found (coded (with_in s.code) (moved (moved s)))) _ _ (h (coded (with_in s.code) (moved (moved s)))))
-        (λ xs t. falls_last 0 (length t.at.left) (misusing (record { lo = (span_at s.at).lo; hi = t.at.last.hi }) xs t) _ (told_falls _ t))))
+        (λ xs t. falls_then 0 0 (length t.at.left) (misusing (record { lo = (span_at s.at).lo; hi = t.at.last.hi }) xs t) _ (told_falls _ t) (λ _ u.
+        falls_last 0 (length u.at.left) (end faults.Expected u) _ (end_falls faults.Expected u)))))
 
     no_end : (s : State) → is_await_using_declaration at s.code s.at && v ≡ true → kind_at s.at ≢ kind.End
     no_end s e n = let o : kind.Await ≡ kind.End = sym (declares_behind_await at s.code s.at (and_yes (is_await_using_declaration at s.code s.at) v e).0).1 ∙ n in cc
@@ -66,12 +68,13 @@ module _ (found : Reader (List Tree)) (v : Bool) (rest : Position → Reader Tre
   module _ (h : Passes found) (b s : State) (f : NothingLost b s) where
     await_using_keeps : is_await_using_declaration at s.code s.at ≡ true → Answers (behind.Kept b) (Lost b) (await_using_stmt found s)
     unfolding await_using_stmt using_from misusing
-    await_using_keeps e = let (_, a, u) = declares_behind_await at s.code s.at e in
+    await_using_keeps e = let (_, a, u, _) = declares_behind_await at s.code s.at e in
         let g = behind_after b (moved s) (using_stands s.code (after s.at) u) refl (behind_after b s a refl f) in
         answers_then _ _ (within with_in found (moved (moved s))) _
         (answers_then (behind.Kept b) _ (found (coded (with_in s.code) (moved (moved s)))) _ (h b (coded (with_in s.code) (moved (moved s))) g)
         (λ xs t k. flagged_kept b (moved (moved s)) t g k)) (λ xs t k.
-        answers_then (behind.Kept b) _ (misusing (record { lo = (span_at s.at).lo; hi = t.at.last.hi }) xs t) _ (told_keeps b _ t k) (λ _ u j. j))
+        answers_then (behind.Kept b) _ (misusing (record { lo = (span_at s.at).lo; hi = t.at.last.hi }) xs t) _ (told_keeps b _ t k) (λ _ u j.
+        answers_then _ _ (end faults.Expected u) _ (end_keeps b u j faults.Expected) (λ _ v i. i)))
 
     pub first_keeps : Answers (behind.Kept b) (Lost b) (rest at s) → Answers (behind.Kept b) (Lost b) (await_using_or found v rest at s)
     unfolding await_using_or
@@ -82,7 +85,8 @@ module _ (found : Reader (List Tree)) (v : Bool) (rest : Position → Reader Tre
     unfolding await_using_stmt using_from misusing
     await_using_shallow = answers_then _ _ (within with_in found (moved (moved s))) _
         (answers_then (shallow.Kept m) _ (found (coded (with_in s.code) (moved (moved s)))) _ (h (coded (with_in s.code) (moved (moved s))) (fine_after m (after s.at) (fine_after m s.at f))) (λ xs t k. k)) (λ xs t k.
-        answers_then (shallow.Kept m) _ (misusing (record { lo = (span_at s.at).lo; hi = t.at.last.hi }) xs t) _ (told_shallow m _ t k) (λ _ u j. j))
+        answers_then (shallow.Kept m) _ (misusing (record { lo = (span_at s.at).lo; hi = t.at.last.hi }) xs t) _ (told_shallow m _ t k) (λ _ u j.
+        answers_then _ _ (end faults.Expected u) _ (end_shallow m u j faults.Expected (λ e. cc)) (λ _ v i. i)))
 
     pub first_shallow : Answers (shallow.Kept m) Shallow (rest at s) → Answers (shallow.Kept m) Shallow (await_using_or found v rest at s)
     unfolding await_using_or

@@ -17,7 +17,7 @@ use Rattle.swc_ecma_parser_grammar.proofs.StatementBegins.{word_place}
 use Rattle.swc_ecma_parser_grammar.proofs.Tests.{and_yes}
 use Rattle.swc_ecma_parser_grammar.proofs.Using.{using_stands}
 use Rattle.swc_ecma_parser_reader.specs.Methods.{FunctionForm, expression_form, class_form, property_form, getter_form, setter_form, method_form, parameter_form, block_form, star}
-use Rattle.swc_ecma_parser_reader.specs.Reader.{no_parameter, one_parameter, getter, setter, plain_method, arrow_block, function_by, named, own_name, function_expr, expr, cover, head_cover, pattern, element, decorated_in, member, operators, right_operand, function, function_word, async_or_other, begins_label, relabels, labelled_body, labeled_stmt, other_stmt, note_with, with_stmt, await_here, function_decl, function_stmt, function_parts, function_body, misdirected, missing_initializer, variables, Opening, as_init, as_left, head_variables, head_expression, opening, head_part, misdeclared, for_parts, for_in, for_of, for_behind, for_stmt, const_stmt, let_stmt, empty, debugger, initialized, ends_declarators, missing_at, no_declarator, declarator, declarators_turn, declarators, declaration_end, stray, closes, at_end, close, directs, items_turn, items, block_from, block, braced, note_statement, no_label, stmt_end, expr_stmt, expr_stmt_at, optional_end, import_stmt, import_stmt_at, told, target, unbroken, break_stmt, uncontinued, continue_stmt, operand, returned, return_stmt, thrown, throw, head, while_stmt, do_while, goes_on, condition, alternative, link_from, link, links, if_stmt, begins_clause, closes_clause, clause_from, default_clause, case_clause, clause, clauses_turn, clauses, switch_stmt, begins_at, is_handled, handled, bound, parameter, finalizer, caught, handler, try_stmt, stmt_by, stmt_level, stmt, top_await_fault, top_await, whole_stmt, shebang, script_body, script, misusing, using_from, using_stmt, using_or_other, undeclared, using_head, named_head, await_or_expression, await_head, async_head, async_or_expression, head_target}
+use Rattle.swc_ecma_parser_reader.specs.Reader.{no_parameter, one_parameter, getter, setter, plain_method, arrow_block, function_by, named, own_name, function_expr, expr, cover, head_cover, pattern, element, decorated_in, member, operators, right_operand, function, function_word, async_or_other, begins_label, relabels, labelled_body, labeled_stmt, other_stmt, note_with, with_stmt, await_here, function_decl, function_stmt, function_parts, function_body, misdirected, missing_initializer, variables, Opening, as_init, as_left, head_variables, head_expression, opening, head_part, misdeclared, for_parts, for_in, for_of, for_behind, for_stmt, const_stmt, let_stmt, empty, debugger, initialized, ends_declarators, missing_at, no_declarator, declarator, declarators_turn, declarators, declaration_end, stray, closes, at_end, close, directs, items_turn, items, block_from, block, braced, note_statement, no_label, stmt_end, expr_stmt, expr_stmt_at, optional_end, import_stmt_at, told, target, unbroken, break_stmt, uncontinued, continue_stmt, operand, returned, return_stmt, thrown, throw, head, while_stmt, do_while, goes_on, condition, alternative, link_from, link, links, if_stmt, begins_clause, closes_clause, clause_from, default_clause, case_clause, clause, clauses_turn, clauses, switch_stmt, begins_at, is_handled, handled, bound, parameter, finalizer, caught, handler, try_stmt, stmt_by, stmt_level, stmt, top_await_fault, top_await, whole_stmt, shebang, script_body, script, misusing, using_from, using_stmt, using_or_other, undeclared, using_head, named_head, await_or_expression, await_head, async_head, async_or_expression, head_target, begins_await_head}
 use Rattle.swc_ecma_parser_grammar.specs.Names.{name_at}
 use Rattle.swc_ecma_parser_error.specs.declared.error.Error.{Error}
 use Rattle.swc_ecma_parser_grammar.specs.language.Programs.{at_top}
@@ -211,8 +211,8 @@ module _ (inner : Reader Tree) (below : Passes inner) where
     -- the block of an arrow function
     arrow_block_keeps : (w : Bool) → Passes (arrow_block inner params w)
     unfolding arrow_block
-    arrow_block_keeps w b s f = let t = coded (with_in (in_arrow s.code w)) s in answers_then (Kept b) _ (enclosed (braced inner false) t) _
-        (answers_then (Kept b) _ (braced inner false (unlabelled t)) _ (braces_keep false b (unlabelled t) f) (λ x u k. k))
+    arrow_block_keeps w b s f = let t = coded (with_in (in_arrow s.code w)) s in answers_then (Kept b) _ (enclosed (braced inner true) t) _
+        (answers_then (Kept b) _ (braced inner true (unlabelled t)) _ (braces_keep true b (unlabelled t) f) (λ x u k. k))
         (λ x u k. flagged_kept b s u f k)
 
     -- a function as a part of an expression
@@ -287,7 +287,8 @@ module _ (inner : Position → Reader Tree) (inner_expr : Class → Reader Tree)
   using_keeps e = let g = behind_after b s (using_stands s.code s.at e) refl f in answers_then _ _ (within with_in (declarators inner_expr inner_pat false decl.Var) (moved s)) _
       (answers_then (Kept b) _ (declarators inner_expr inner_pat false decl.Var (coded (with_in s.code) (moved s))) _
       (declarators_keeps inner_expr inner_pat below_expr below_pat b false decl.Var (coded (with_in s.code) (moved s)) g) (λ x t k. flagged_kept b (moved s) t g k)) (λ x t k.
-      answers_then (Kept b) _ (misusing (record { lo = (span_at s.at).lo; hi = t.at.last.hi }) x t) _ (told_keeps b _ t k) (λ _ u j. j))
+      answers_then (Kept b) _ (misusing (record { lo = (span_at s.at).lo; hi = t.at.last.hi }) x t) _ (told_keeps b _ t k) (λ _ u j.
+      answers_then _ _ (end faults.Expected u) _ (end_keeps b u j faults.Expected) (λ _ v g. g)))
 
   const_keeps : kind_at s.at ≡ kind.Const → Answers (Kept b) (Lost b) (const_stmt inner inner_expr inner_pat inner_head inner_params inner_member inner_operators at s)
   unfolding const_stmt
@@ -306,21 +307,16 @@ module _ (inner : Position → Reader Tree) (inner_expr : Class → Reader Tree)
   expr_stmt_keeps = answers_then _ _ (within with_in (inner_expr expression) s) _ whole_keeps (λ x t k.
       answers_then _ _ (no_label x t) _ (answers_if (Kept b) _ (is_ident x && sees kind.Colon t.at) _ _ (λ _. wanted_keeps _ faults.Unexpected b t k) (λ _. k)) (λ _ u j.
       answers_then _ _ (note_statement x u) _ (answers_if (Kept b) _ (is_ident_named (codes "interface") x) _ _
-      (λ _. module_fault_keeps b (fault_at (span_of x) faults.InvalidIdentInStrict) u j) (λ _. j)) (λ _ v g.
+      (λ _. module_fault_keeps b (fault_at (span_of x) faults.InvalidIdentInStrict) u refl j) (λ _. j)) (λ _ v g.
       answers_then _ _ (stmt_end inner_operators (span_at s.at) x v) _ (stmt_end_keeps inner_operators below_operators (span_at s.at) x b v g) (λ _ w z. z))))
 
   expr_stmt_at_keeps : Answers (Kept b) (Lost b) (expr_stmt_at (inner_expr expression) inner_operators at s)
   unfolding expr_stmt_at
   expr_stmt_at_keeps = answers_if _ _ (may_begin_expression_statement at s.at) _ _ (λ _. expr_stmt_keeps) (λ _. wanted_keeps _ faults.Unexpected b s f)
 
-  import_stmt_keeps : Answers (Kept b) (Lost b) (import_stmt (inner_expr expression) s)
-  unfolding import_stmt
-  import_stmt_keeps = answers_then _ _ (within with_in (inner_expr expression) s) _ whole_keeps (λ x t k.
-      answers_then _ _ (optional_end t) _ (optional_end_keeps b t k) (λ _ u j. j))
-
-  import_stmt_at_keeps : Answers (Kept b) (Lost b) (import_stmt_at (inner_expr expression) s)
+  import_stmt_at_keeps : Answers (Kept b) (Lost b) (import_stmt_at (inner_expr expression) inner_operators s)
   unfolding import_stmt_at
-  import_stmt_at_keeps = answers_if _ _ (begins_import_expression s.at) _ _ (λ _. import_stmt_keeps) (λ _. refuse_keeps _ faults.ImportExportInScript b s f)
+  import_stmt_at_keeps = answers_if _ _ (begins_import_expression s.at) _ _ (λ _. expr_stmt_keeps) (λ _. refuse_keeps _ faults.ImportExportInScript b s f)
 
   head_keeps : (t : State) → NothingLost b t → Answers (Kept b) (Lost b) (head (inner_expr expression) t)
   unfolding head
@@ -454,7 +450,7 @@ module _ (inner : Position → Reader Tree) (inner_expr : Class → Reader Tree)
       (λ _. answers_if _ _ (sees kind.Const t.at) _ _ (λ e. head_variables_keeps decl.Const t (variables_stand decl.Const t.at e) g)
       (λ _. answers_if _ _ (is_let_declaration t.at) _ _ (λ e. head_variables_keeps decl.Let t (variables_stand decl.Let t.at e) g)
       (λ _. answers_if _ _ (may_declare_using t.code t.at) _ _ (λ _. named_head_keeps t g)
-      (λ _. answers_if _ _ (sees kind.Await t.at) _ _ (λ _. await_head_keeps t g)
+      (λ _. answers_if _ _ (begins_await_head t.at) _ _ (λ _. await_head_keeps t g)
       (λ _. head_target_keeps w t g))))))
 
   head_part_keeps : (j : TokenKind) (t : State) → NothingLost b t → Answers (Kept b) (Lost b) (head_part j (inner_expr expression) t)

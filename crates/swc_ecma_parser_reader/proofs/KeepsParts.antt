@@ -17,20 +17,21 @@ use Rattle.swc_ecma_parser_token.specs.declared.kind.TokenKind.TheVariants as ki
 use Rattle.swc_ecma_parser_model.specs.Forms.{span_of}
 use Rattle.swc_ecma_parser_grammar.specs.Looks.{kind_at, sees}
 use Rattle.swc_ecma_parser_grammar.specs.Ends.{ends_at}
+use Rattle.swc_ecma_parser_grammar.specs.Walk.{is_tabled}
 use Rattle.swc_ecma_parser_reader.proofs.Meets.{Answers, answers_then, answers_if}
 use Rattle.swc_ecma_parser_reader.proofs.Behind.{NothingLost, Kept, Lost, leaves_stays, behind_self, behind_seen, behind_noted, behind_held, refused_keeps, memory_refused_keeps, wanted_keeps, reject_keeps, expect_keeps, name_keeps}
 
 -- a fault of module code, whether recorded or held back
-pub module_fault_keeps : (b : State) (g : Fault) (s : State) → NothingLost b s → NothingLost b (module_fault g s)
-module_fault_keeps b g s f = by_module s.code.flags.module
+pub module_fault_keeps : (b : State) (g : Fault) (s : State) → is_tabled g.kind ≡ false → NothingLost b s → NothingLost b (module_fault g s)
+module_fault_keeps b g s e f = by_module s.code.flags.module
   where
     by_module : (o : Bool) → NothingLost b (cond o (noted g s) (holding_back g s))
     by_module true = behind_noted b g s f
-    by_module false = behind_held b g s f
+    by_module false = behind_held b g s e f
 
 pub note_with_keeps : (b : State) (span : Span) (s : State) → NothingLost b s → Answers (Kept b) (Lost b) (note_with span s)
 unfolding note_with
-note_with_keeps b span s f = module_fault_keeps b (fault_at span faults.WithInStrict) s f
+note_with_keeps b span s f = module_fault_keeps b (fault_at span faults.WithInStrict) s refl f
 
 pub optional_end_keeps : (b : State) (s : State) → NothingLost b s → Answers (Kept b) (Lost b) (optional_end s)
 unfolding optional_end

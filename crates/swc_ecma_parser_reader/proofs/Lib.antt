@@ -50,3 +50,4 @@ pub mod Spans
 pub mod Refusals
 pub mod Entries
 pub mod Statements
+pub mod Calls

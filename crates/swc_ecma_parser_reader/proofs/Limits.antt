@@ -9,7 +9,7 @@ use Rattle.swc_ecma_parser_reader.proofs.decorators.Limits.{decorated_shallow}
 use Rattle.swc_ecma_parser_reader.proofs.decorators.Taking.{either_shallow}
 use Rattle.swc_ecma_parser_reader.specs.Reader as reader
 use Rattle.swc_ecma_parser_reader.specs.Methods.{MethodForm, getter_form, setter_form, method_form, property_form, star}
-use Rattle.swc_ecma_parser_reader.specs.Reader.{no_parameter, one_parameter, getter, setter, plain_method, arrow_block, function_by, named, own_name, function_expr, expr, cover, head_cover, pattern, element, decorated_in, member, operators, right_operand, function, function_word, async_or_other, begins_label, relabels, labelled_body, labeled_stmt, other_stmt, note_with, with_stmt, await_here, unless_awaited, function_decl, function_stmt, function_parts, function_body, misdirected, missing_initializer, variables, Opening, Nothing, Variables, Expression, as_init, as_left, head_variables, head_expression, opening, head_part, misdeclared, for_parts, for_in, for_of, for_behind, for_stmt, const_stmt, let_stmt, empty, debugger, initialized, ends_declarators, missing_at, no_declarator, declarator, declarators_turn, declarators, declaration_end, stray, closes, at_end, close, items_turn, items, block_from, block, braced, note_statement, no_label, stmt_end, expr_stmt, expr_stmt_at, optional_end, import_stmt, import_stmt_at, told, target, unbroken, break_stmt, uncontinued, continue_stmt, misplaced, after_return, operand, returned, return_stmt, thrown, throw, head, while_stmt, do_while, goes_on, condition, alternative, link_from, link, links, if_stmt, begins_clause, closes_clause, clause_from, default_clause, case_clause, clause, clauses_turn, clauses, switch_stmt, begins_at, is_handled, handled, bound, parameter, finalizer, caught, handler, try_stmt, stmt_by, stmt_level, stmt, top_await_fault, top_await, whole_stmt, shebang, script_body, script, misusing, using_from, using_stmt, using_or_other, Resource, Named, undeclared, using_head, named_head, await_or_expression, await_head, async_head, unfollowed, async_or_expression, head_target}
+use Rattle.swc_ecma_parser_reader.specs.Reader.{no_parameter, one_parameter, getter, setter, plain_method, arrow_block, function_by, named, own_name, function_expr, expr, cover, head_cover, pattern, element, decorated_in, member, operators, right_operand, function, function_word, async_or_other, begins_label, relabels, labelled_body, labeled_stmt, other_stmt, note_with, with_stmt, await_here, unless_awaited, function_decl, function_stmt, function_parts, function_body, misdirected, missing_initializer, variables, Opening, Nothing, Variables, Expression, as_init, as_left, head_variables, head_expression, opening, head_part, misdeclared, for_parts, for_in, for_of, for_behind, for_stmt, const_stmt, let_stmt, empty, debugger, initialized, ends_declarators, missing_at, no_declarator, declarator, declarators_turn, declarators, declaration_end, stray, closes, at_end, close, items_turn, items, block_from, block, braced, note_statement, no_label, stmt_end, expr_stmt, expr_stmt_at, optional_end, import_stmt_at, told, target, unbroken, break_stmt, uncontinued, continue_stmt, misplaced, after_return, operand, returned, return_stmt, thrown, throw, head, while_stmt, do_while, goes_on, condition, alternative, link_from, link, links, if_stmt, begins_clause, closes_clause, clause_from, default_clause, case_clause, clause, clauses_turn, clauses, switch_stmt, begins_at, is_handled, handled, bound, parameter, finalizer, caught, handler, try_stmt, stmt_by, stmt_level, stmt, top_await_fault, top_await, whole_stmt, shebang, script_body, script, misusing, using_from, using_stmt, using_or_other, Resource, Named, undeclared, using_head, named_head, await_or_expression, await_head, async_head, unfollowed, async_or_expression, head_target, begins_await_head}
 use Rattle.swc_ecma_parser_grammar.specs.Names.{name_at}
 use Rattle.swc_ecma_parser_reader.proofs.Meets.{saw, Answers, answers_then, answers_if, loop_answers, meant}
 use Rattle.swc_ecma_parser_model.specs.Tree.{Text, Tree}
@@ -271,8 +271,8 @@ module _ (inner : Reader Tree) (n : ℕ) (below : StmtLevels n inner) where
     -- the block of an arrow function
     arrow_block_shallow : (w : Bool) → StmtLevels n (arrow_block inner params w)
     unfolding arrow_block
-    arrow_block_shallow w i s h f = let t = coded (with_in (in_arrow s.code w)) s in answers_then (Kept i) _ (enclosed (braced inner false) t) _
-        (answers_then (Kept i) _ (braced inner false (unlabelled t)) _ (braces_shallow false i (unlabelled t) h f) (λ x u k. k))
+    arrow_block_shallow w i s h f = let t = coded (with_in (in_arrow s.code w)) s in answers_then (Kept i) _ (enclosed (braced inner true) t) _
+        (answers_then (Kept i) _ (braced inner true (unlabelled t)) _ (braces_shallow true i (unlabelled t) h f) (λ x u k. k))
         (λ x u k. k)
 
 module _ (inner : Position → Reader Tree) (inner_expr : Class → Reader Tree) (inner_pat : Reader Tree) (inner_head : Reader Cover) (inner_params : Reader (List Tree)) (inner_member : Reader Tree) (inner_operators : Span → Tree → Reader Tree) (n : ℕ)
@@ -307,7 +307,8 @@ module _ (inner : Position → Reader Tree) (inner_expr : Class → Reader Tree)
   using_shallow = answers_then _ _ (within with_in (declarators inner_expr inner_pat false decl.Var) (moved s)) _
       (answers_then (Kept m) _ (declarators inner_expr inner_pat false decl.Var (coded (with_in s.code) (moved s))) _
       (declarators_shallow inner_expr inner_pat n below_expr below_pat m (omega arith) false decl.Var (coded (with_in s.code) (moved s)) (fine_after m s.at f)) (λ x t k. k)) (λ x t k.
-      answers_then (Kept m) _ (misusing (record { lo = (span_at s.at).lo; hi = t.at.last.hi }) x t) _ (told_shallow m _ t k) (λ _ u j. j))
+      answers_then (Kept m) _ (misusing (record { lo = (span_at s.at).lo; hi = t.at.last.hi }) x t) _ (told_shallow m _ t k) (λ _ u j.
+      answers_then _ _ (end faults.Expected u) _ (end_shallow m u j faults.Expected (λ e. cc)) (λ _ v g. g)))
 
   const_shallow : Answers (Kept m) Shallow (const_stmt inner inner_expr inner_pat inner_head inner_params inner_member inner_operators at s)
   unfolding const_stmt
@@ -333,14 +334,9 @@ module _ (inner : Position → Reader Tree) (inner_expr : Class → Reader Tree)
   unfolding expr_stmt_at
   expr_stmt_at_shallow = answers_if _ _ (may_begin_expression_statement at s.at) _ _ (λ _. expr_stmt_shallow) (λ _. wanted_shallow _ faults.Unexpected (λ e. cc) m s f)
 
-  import_stmt_shallow : Answers (Kept m) Shallow (import_stmt (inner_expr expression) s)
-  unfolding import_stmt
-  import_stmt_shallow = answers_then _ _ (within with_in (inner_expr expression) s) _ whole_shallow (λ x t k.
-      answers_then _ _ (optional_end t) _ (optional_end_shallow m t k) (λ _ u j. j))
-
-  import_stmt_at_shallow : Answers (Kept m) Shallow (import_stmt_at (inner_expr expression) s)
+  import_stmt_at_shallow : Answers (Kept m) Shallow (import_stmt_at (inner_expr expression) inner_operators s)
   unfolding import_stmt_at
-  import_stmt_at_shallow = answers_if _ _ (begins_import_expression s.at) _ _ (λ _. import_stmt_shallow) (λ _. refuse_shallow _ faults.ImportExportInScript (λ e. cc) m s f)
+  import_stmt_at_shallow = answers_if _ _ (begins_import_expression s.at) _ _ (λ _. expr_stmt_shallow) (λ _. refuse_shallow _ faults.ImportExportInScript (λ e. cc) m s f)
 
   head_shallow : (i : ℕ) → 2 * i ≤ n → (t : State) → Fine i t.at.left → Answers (Kept i) Shallow (head (inner_expr expression) t)
   unfolding head
@@ -470,7 +466,7 @@ module _ (inner : Position → Reader Tree) (inner_expr : Class → Reader Tree)
   unfolding opening
   opening_shallow i h w t g = answers_if _ _ (sees kind.Semi t.at) _ _ (λ _. g) (λ _. answers_if _ _ (sees kind.Var t.at) _ _ (λ _. head_variables_shallow i h decl.Var t g)
       (λ _. answers_if _ _ (sees kind.Const t.at) _ _ (λ _. head_variables_shallow i h decl.Const t g) (λ _. answers_if _ _ (is_let_declaration t.at) _ _ (λ _. head_variables_shallow i h decl.Let t g)
-      (λ _. answers_if _ _ (may_declare_using t.code t.at) _ _ (λ _. named_head_shallow i h t g) (λ _. answers_if _ _ (sees kind.Await t.at) _ _ (λ _. await_head_shallow i h t g)
+      (λ _. answers_if _ _ (may_declare_using t.code t.at) _ _ (λ _. named_head_shallow i h t g) (λ _. answers_if _ _ (begins_await_head t.at) _ _ (λ _. await_head_shallow i h t g)
       (λ _. head_target_shallow i h w t g))))))
 
   head_part_shallow : (i : ℕ) → 2 * i ≤ n → (j : TokenKind) (t : State) → Fine i t.at.left → Answers (Kept i) Shallow (head_part j (inner_expr expression) t)

@@ -1,7 +1,6 @@
 -- The turns of the loops, and the levels, in the shapes that a loop over tokens and a recursion meet them.
-use Rattle.std.proofs.Common.{◌≡◌, ℕ, suc, nat_eq, ◌-◌, ◌<◌, Bool, true, false, List, [], ◌∷◌, ◌++◌, length, Ok, Err, refl, sym, ◌∙◌, arith}
-use Rattle.std.specs.Prelude.{◌==◌, ◌&&◌, ◌||◌}
-use Rattle.std.proofs.lemmas.Bool.Decides.{nat_tests}
+use Rattle.std.proofs.Common.{◌≡◌, ℕ, ◌-◌, ◌<◌, Bool, true, false, List, [], ◌∷◌, ◌++◌, length, Ok, Err, refl, arith}
+use Rattle.std.specs.Prelude.{◌||◌}
 use Rattle.swc_ecma_parser_error.specs.Kind as faults
 use Rattle.swc_ecma_parser_error.specs.Kind.{Fault}
 use Rattle.swc_ecma_parser_token.specs.declared.kind.TokenKind.TheVariants as kind
@@ -12,9 +11,8 @@ use Rattle.swc_ecma_parser_model.specs.Tree.{Tree}
 use Rattle.swc_ecma_parser_grammar.specs.declared.position.Position.{Position}
 use Rattle.swc_ecma_parser_grammar.specs.Looks.{sees}
 use Rattle.swc_ecma_parser_grammar.specs.Names.{name_at}
-use Rattle.swc_ecma_parser_grammar.specs.Reads.{directed, nested_item}
+use Rattle.swc_ecma_parser_grammar.specs.Reads.{directed, directs_on, nested_item}
 use Rattle.swc_ecma_parser_grammar.specs.language.Contexts.{named_by}
-use Rattle.swc_ecma_parser_grammar.proofs.Tests.{and_no}
 use Rattle.swc_ecma_parser_grammar.specs.language.Goals.{expression}
 use Rattle.swc_ecma_parser_reader.specs.Members.{member_level}
 use Rattle.swc_ecma_parser_reader.specs.State.{State, Reader, coded, moved, within, too_deep, fault, fault_at, loop}
@@ -56,14 +54,10 @@ module _ (item : Reader Tree) (stops : Place → Bool) (directives : Bool) (foun
   unfolding items_turn
   items_more x t h g k = loop_more (items_turn item stops directives) found (found ++ x ∷ []) s (coded (directed t.code (directs directives found) x) t) (rw (h, g) refl) k
 
-some_items : (n : ℕ) → nat_eq (suc n) 0 ≡ false
-some_items n = grind (arith, nat_tests)
-
--- the first of a body with directives can be one
-pub first_directs : (directives : Bool) (found : List Tree) (b : Bool) → b ≡ (length found == 0) → directs directives found ≡ (directives && b)
-first_directs true [] b e = sym e
-first_directs false [] b e = refl
-first_directs directives (x ∷ xs) b e = sym (and_no directives b (e ∙ some_items (length xs)))
+-- whether a directive can stand behind one item more
+pub directs_push : (directives : Bool) (found : List Tree) (x : Tree) → directs directives (found ++ x ∷ []) ≡ directs_on (directs directives found) x
+directs_push directives [] x = refl
+directs_push directives (y ∷ ys) x = directs_push (directs_on directives y) ys x
 
 -- ---- declarators with commas between
 

@@ -23,7 +23,7 @@ use Rattle.swc_ecma_parser_reader.specs.DecoratedStatements.{either_stmt}
 use Rattle.swc_ecma_parser_reader.proofs.decorators.Declared.{declared_is_bare, first_declares}
 use Rattle.swc_ecma_parser_reader.proofs.decorators.Either.{either_at}
 use Rattle.swc_ecma_parser_reader.proofs.decorators.Labels.{either_unlabelled}
-use Rattle.swc_ecma_parser_reader.specs.Reader.{decorated_in, told, named, with_stmt, note_with, await_here, unless_awaited, misdirected, function_body, function_parts, function_decl, function_stmt, expr, head_cover, pattern, member, function_word, async_or_other, items, closes, close, declarators, declaration_end, stray, link, alternative, head, clauses, target, unbroken, uncontinued, operand, braced, handler, finalizer, handled, optional_end, Opening, as_init, as_left, opening, head_part, misdeclared, labelled_body, relabels, no_label, note_statement, empty, debugger, variables, block, block_from, stmt_end, expr_stmt, expr_stmt_at, import_stmt, import_stmt_at, thrown, throw, while_stmt, do_while, for_parts, for_in, for_of, for_behind, for_stmt, goes_on, links, if_stmt, break_stmt, continue_stmt, returned, return_stmt, misplaced, begins_label, labeled_stmt, other_stmt, switch_stmt, try_stmt, const_stmt, let_stmt, stmt_by, stmt_level, stmt, misusing, using_from, using_stmt, using_or_other, await_using_stmt, plain_stmt}
+use Rattle.swc_ecma_parser_reader.specs.Reader.{decorated_in, told, named, with_stmt, note_with, await_here, unless_awaited, misdirected, function_body, function_parts, function_decl, function_stmt, expr, head_cover, pattern, member, function_word, async_or_other, items, closes, close, declarators, declaration_end, stray, link, alternative, head, clauses, target, unbroken, uncontinued, operand, braced, handler, finalizer, handled, optional_end, Opening, as_init, as_left, opening, head_part, misdeclared, labelled_body, relabels, no_label, note_statement, empty, debugger, variables, block, block_from, stmt_end, expr_stmt, expr_stmt_at, import_stmt_at, thrown, throw, while_stmt, do_while, for_parts, for_in, for_of, for_behind, for_stmt, goes_on, links, if_stmt, break_stmt, continue_stmt, returned, return_stmt, misplaced, begins_label, labeled_stmt, other_stmt, switch_stmt, try_stmt, const_stmt, let_stmt, stmt_by, stmt_level, stmt, misusing, using_from, using_stmt, using_or_other, await_using_stmt, plain_stmt}
 use Rattle.swc_ecma_parser_reader.proofs.Meets.{meets_then, Meets, Refuses, always, meets_if, wanted_meets, too_deep_meets, refuse_meets, meant, saw}
 use Rattle.std.specs.Prelude.{◌&&◌, ◌||◌, codes}
 use Rattle.std.proofs.lemmas.List.Recursion.{is_count_by}
@@ -85,7 +85,8 @@ module _ (inner : Position → Reader Tree) (inner_expr : Class → Reader Tree)
 
   using_plain : (s : State) → Meets Plain (using_stmt (declarators inner_expr inner_pat false decl.Var) s)
   unfolding using_stmt using_from misusing
-  using_plain s = always Plain (within with_in (declarators inner_expr inner_pat false decl.Var) (moved s)) _ (λ xs t. always Plain (misusing (record { lo = (span_at s.at).lo; hi = t.at.last.hi }) xs t) _ (λ _ u b. refl))
+  using_plain s = always Plain (within with_in (declarators inner_expr inner_pat false decl.Var) (moved s)) _ (λ xs t. always Plain (misusing (record { lo = (span_at s.at).lo; hi = t.at.last.hi }) xs t) _ (λ _ u.
+      always Plain (end faults.Expected u) _ (λ _ v b. refl)))
 
   const_plain : (at : Position) (s : State) → Meets Plain (const_stmt inner inner_expr inner_pat inner_head inner_params inner_member inner_operators at s)
   unfolding const_stmt
@@ -189,10 +190,14 @@ module _ (inner : Position → Reader Tree) (inner_expr : Class → Reader Tree)
   for_plain s = always Plain (await_here (moved s)) _ (λ word v. always Plain (expect kind.LParen v) _ (λ _ t.
       always Plain (opening inner_expr inner_pat inner_head (is_some word) t) _ (λ o u. for_behind_plain (span_at s.at) word o u)))
 
-  import_plain : (s : State) → Meets Plain (import_stmt_at (inner_expr expression) s)
-  unfolding import_stmt_at import_stmt
-  import_plain s = meets_if Plain (begins_import_expression s.at) _ _
-      (λ _. always Plain (within with_in (inner_expr expression) s) _ (λ x t. always Plain (optional_end t) _ (λ _ u b. refl))) (λ _. refuse_meets Plain faults.ImportExportInScript s)
+  expression_plain : (s : State) → Meets Plain (expr_stmt (inner_expr expression) inner_operators s)
+  unfolding expr_stmt
+  expression_plain s = always Plain (within with_in (inner_expr expression) s) _ (λ x t. always Plain (no_label x t) _ (λ _ u. always Plain (note_statement x u) _ (λ _ v.
+      always Plain (stmt_end inner_operators (span_at s.at) x v) _ (λ _ o b. refl))))
+
+  import_plain : (s : State) → Meets Plain (import_stmt_at (inner_expr expression) inner_operators s)
+  unfolding import_stmt_at
+  import_plain s = meets_if Plain (begins_import_expression s.at) _ _ (λ _. expression_plain s) (λ _. refuse_meets Plain faults.ImportExportInScript s)
 
   labeled_plain : (s : State) → Meets Plain (labeled_stmt inner s)
   unfolding labeled_stmt
@@ -200,10 +205,8 @@ module _ (inner : Position → Reader Tree) (inner_expr : Class → Reader Tree)
       always Plain (labelled_body inner i.sym u) _ (λ y v. always Plain (relabels (tree.ident i.span i.sym) y v) _ (λ _ o b. refl))))
 
   expr_plain : (at : Position) (s : State) → Meets Plain (expr_stmt_at (inner_expr expression) inner_operators at s)
-  unfolding expr_stmt_at expr_stmt
-  expr_plain at s = meets_if Plain (may_begin_expression_statement at s.at) _ _
-      (λ _. always Plain (within with_in (inner_expr expression) s) _ (λ x t. always Plain (no_label x t) _ (λ _ u. always Plain (note_statement x u) _ (λ _ v.
-      always Plain (stmt_end inner_operators (span_at s.at) x v) _ (λ _ o b. refl))))) (λ _. wanted_meets Plain faults.Unexpected s)
+  unfolding expr_stmt_at
+  expr_plain at s = meets_if Plain (may_begin_expression_statement at s.at) _ _ (λ _. expression_plain s) (λ _. wanted_meets Plain faults.Unexpected s)
 
   other_plain : (at : Position) (s : State) → Meets Plain (other_stmt inner (inner_expr expression) inner_operators at s)
   unfolding other_stmt
@@ -309,7 +312,8 @@ unseen_told j b o e h = meets_as o h (λ x t g strict. g strict ∙ sym (ap (λ 
 
 await_using_plain : (found : Reader (List Tree)) (s : State) → Meets Plain (await_using_stmt found s)
 unfolding await_using_stmt using_from misusing
-await_using_plain found s = always Plain (within with_in found (moved (moved s))) _ (λ xs t. always Plain (misusing (record { lo = (span_at s.at).lo; hi = t.at.last.hi }) xs t) _ (λ _ u b. refl))
+await_using_plain found s = always Plain (within with_in found (moved (moved s))) _ (λ xs t. always Plain (misusing (record { lo = (span_at s.at).lo; hi = t.at.last.hi }) xs t) _ (λ _ u.
+    always Plain (end faults.Expected u) _ (λ _ v b. refl)))
 
 module _ (n : ℕ) (at : Position) where
   abbrev plain : Position → Reader Tree

@@ -19,10 +19,10 @@ use Rattle.swc_ecma_parser_grammar.specs.Reads.{with_in}
 use Rattle.swc_ecma_parser_grammar.proofs.Tests.{or_no}
 use Rattle.swc_ecma_parser_reader.specs.State.{State, Outcome, Reader, moved, coded, within, fault, fault_at, put_back, dropped_as, attempted, says_out_of_memory}
 use Rattle.swc_ecma_parser_reader.specs.Recovery.{passed_at, passed_in, any_token, behind_any, end_turn, up_to_end, no_end, declaration_end}
-use Rattle.swc_ecma_parser_reader.specs.Entry.{IsBehind, IsLater, error_tokens}
+use Rattle.swc_ecma_parser_reader.specs.Entry.{IsBehind, error_tokens}
 use Rattle.swc_ecma_parser_reader.specs.Limits.{is_too_deep, has_too_deep_token}
 use Rattle.swc_ecma_parser_reader.proofs.Meets.{Answers, answers_then, answers_if, loop_answers, meant}
-use Rattle.swc_ecma_parser_reader.proofs.Behind.{Remembers, NothingLost, Kept, Lost, Passes, behind_self, behind_seen, behind_taken, error_taken, error_lost, flagged_kept, fault_keeps, loop_keeps}
+use Rattle.swc_ecma_parser_reader.proofs.Behind.{Remembers, IsHeld, NothingLost, Kept, Lost, Passes, behind_self, behind_seen, behind_taken, error_taken, error_lost, flagged_kept, fault_keeps, loop_keeps}
 use Rattle.swc_ecma_parser_reader.proofs.Takes.{Falls, falls_past}
 use Rattle.swc_ecma_parser_reader.proofs.Shallow as shallow
 use Rattle.swc_ecma_parser_reader.proofs.Shallow.{Fine, Shallow, Levels, either_false, error_shallow, fine_after, fault_shallow}
@@ -75,7 +75,7 @@ kept_takes s o e h = falls_past s o e (kept_falls (moved s) o h)
 
 -- ---- what is dropped
 
-pub put_back_kept : (b s t : State) → s.code.flags.module ≡ b.code.flags.module → IsBehind b t → IsLater b.notes.held_back t.notes.held_back → Remembers b t → t.code.setting ≡ b.code.setting
+pub put_back_kept : (b s t : State) → s.code.flags.module ≡ b.code.flags.module → IsBehind b t → IsHeld b.notes.held_back t.notes.held_back → Remembers b t → t.code.setting ≡ b.code.setting
     → t.scope.mark ≡ b.scope.mark → NothingLost b (put_back s t)
 put_back_kept b s t f h k r g m = (h, k, r, record { setting = g; in_module = f; mark = m })
 

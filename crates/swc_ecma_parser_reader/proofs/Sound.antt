@@ -12,20 +12,21 @@ use Rattle.swc_ecma_parser_reader.proofs.decorators.SoundStatements.{either_soun
 use Rattle.swc_ecma_parser_reader.proofs.patterns.Sound as patterns
 use Rattle.swc_ecma_parser_reader.proofs.expressions.Sound as expressions
 use Rattle.swc_ecma_parser_reader.proofs.expressions.SoundLefts.{FunctionRead, FunctionsSound}
-use Rattle.std.proofs.Common.{append_assoc, ◌≡◌, ℕ, zero, suc, Bool, true, false, cond, List, [], ◌∷◌, ◌++◌, length, Ok, refl, sym, ◌∙◌, ap, subst, append-nil}
+use Rattle.std.proofs.Common.{append_assoc, ◌≡◌, ℕ, zero, suc, Bool, true, false, cond, List, [], ◌∷◌, ◌++◌, length, Ok, refl, sym, ◌∙◌, ap, subst}
 use Rattle.swc_ecma_parser_reader.specs.Notes.{no_notes, ◌⊕◌, notes_of, all_notes_of}
-use Rattle.swc_ecma_parser_reader.proofs.Between.{sound_below, sound_coded, Sound, SoundTree, SoundStep, no_faults, same, nil-split, sound_then, sound_more, sound_moved, sound_here, sound_as, sound_held, sound_after, within_sound}
+use Rattle.swc_ecma_parser_reader.proofs.Between.{sound_below, sound_coded, Sound, SoundTree, SoundStep, no_faults, same, nil-split, sound_then, sound_more, sound_moved, sound_here, sound_as, sound_after, within_sound}
 use Rattle.swc_ecma_parser_reader.specs.State.{name, reference, below, below_label, State, Reader, moved, coded, within, fault_at, wanted, labelled, labelled_as, expect, end}
-use Rattle.swc_ecma_parser_grammar.specs.Reads.{labeled_rule, with_rule, class_rule, function_rule, with_in, nested_item, ReadsItems, TargetRule, OperandRule, no_operand_rule, operand_rule, break_rule, continue_rule, return_rule, StmtRule, block_rule, empty_rule, debugger_rule, if_statement_rule, CaseRule, case_clause_rule, default_clause_rule, ReadsCases, switch_rule, throw_rule, try_rule, while_rule, do_while_rule, import_rule, ReadsBlock, CatchRule, no_catch_rule, catch_rule, catch_parameter_rule, FinallyRule, no_finally_rule, finally_rule, ReadsHead, IfRule, if_rule, ElseRule, no_else_rule, else_rule, else_if_rule}
+use Rattle.swc_ecma_parser_grammar.specs.Reads.{labeled_rule, with_rule, class_rule, function_rule, with_in, nested_item, ReadsItems, TargetRule, OperandRule, no_operand_rule, operand_rule, break_rule, continue_rule, return_rule, StmtRule, block_rule, empty_rule, debugger_rule, if_statement_rule, CaseRule, case_clause_rule, default_clause_rule, ReadsCases, switch_rule, throw_rule, try_rule, while_rule, do_while_rule, ReadsBlock, CatchRule, no_catch_rule, catch_rule, catch_parameter_rule, FinallyRule, no_finally_rule, finally_rule, ReadsHead, IfRule, if_rule, ElseRule, no_else_rule, else_rule, else_if_rule}
 use Rattle.swc_ecma_parser_grammar.specs.Own.{labelled_function, duplicates}
 use Rattle.swc_ecma_parser_reader.proofs.SoundParts.{labelled_meets, relabels_sound, SoundWith, note_with_sound, using_sound, end_sound, optional_end_sound, Declarators, declarators_sound, inside_sound, variables_sound, code_stays, items_sound, and_false, unbroken_sound, uncontinued_sound, misplaced_sound, target_sound, after_return_meets, first_sound}
 use Rattle.swc_ecma_parser_grammar.specs.language.Items.{labelled_item, sub_statement}
-use Rattle.swc_ecma_parser_reader.specs.Reader.{begins_label, relabels, labelled_body, labeled_stmt, other_stmt, with_stmt, note_with, function_stmt, async_or_other, function_decl, variables, const_stmt, let_stmt, expr, cover, head_cover, pattern, element, decorated_in, member, operators, right_operand, function, function_by, getter, setter, plain_method, target, unbroken, break_stmt, uncontinued, continue_stmt, misplaced, operand, returned, return_stmt, empty, debugger, declarators, closes, close, items, block_from, block, braced, expr_stmt_at, optional_end, import_stmt, import_stmt_at, thrown, throw, head, while_stmt, do_while, Link, goes_on, condition, alternative, link_from, link, links, if_stmt, begins_clause, closes_clause, Clauses, clause_from, default_clause, case_clause, clause, clauses_turn, clauses, switch_stmt, begins_at, is_handled, handled, bound, parameter, finalizer, caught, handler, try_stmt, stmt_by, stmt_level, stmt, using_or_other}
+use Rattle.swc_ecma_parser_reader.specs.Reader.{begins_label, relabels, labelled_body, labeled_stmt, other_stmt, with_stmt, note_with, function_stmt, async_or_other, function_decl, variables, const_stmt, let_stmt, expr, cover, head_cover, pattern, element, decorated_in, member, operators, right_operand, function, function_by, getter, setter, plain_method, target, unbroken, break_stmt, uncontinued, continue_stmt, misplaced, operand, returned, return_stmt, empty, debugger, declarators, closes, close, items, block_from, block, braced, expr_stmt_at, optional_end, import_stmt_at, thrown, throw, head, while_stmt, do_while, Link, goes_on, condition, alternative, link_from, link, links, if_stmt, begins_clause, closes_clause, Clauses, clause_from, default_clause, case_clause, clause, clauses_turn, clauses, switch_stmt, begins_at, is_handled, handled, bound, parameter, finalizer, caught, handler, try_stmt, stmt_by, stmt_level, stmt, using_or_other}
 use Rattle.swc_ecma_parser_model.specs.declared.leaves.VarDeclKind.{VarDeclKind}
 use Rattle.swc_ecma_parser_model.specs.declared.leaves.VarDeclKind.TheVariants as decl
 use Rattle.swc_ecma_parser_grammar.specs.Variables.{begins_variables, is_var}
 use Rattle.swc_ecma_parser_reader.proofs.expressions.CompleteKinds.{seen}
 use Rattle.swc_ecma_parser_reader.proofs.expressions.Loops.{cover_shorter}
+use Rattle.swc_ecma_parser_reader.proofs.expressions.NoBlocks.{no_block_read}
 use Rattle.swc_ecma_parser_reader.proofs.expressions.Covers.{met}
 use Rattle.swc_ecma_parser_reader.proofs.expressions.Groups.{ReadsParts}
 use Rattle.swc_ecma_parser_reader.proofs.expressions.GroupLevels.{tied_at, begins_at as part_begins}
@@ -33,7 +34,7 @@ use Rattle.swc_ecma_parser_reader.proofs.expressions.Heads.{SoundHead, head_expr
 use Rattle.swc_ecma_parser_reader.proofs.Keeps.{loses_nothing}
 use Rattle.swc_ecma_parser_reader.proofs.Recovered.{Lossless}
 use Rattle.swc_ecma_parser_reader.proofs.Strays.{stray_sound}
-use Rattle.swc_ecma_parser_reader.proofs.SoundEnds.{SoundWild, expr_stmt_sound}
+use Rattle.swc_ecma_parser_reader.proofs.SoundEnds.{SoundWild, expr_stmt_sound, import_stmt_sound}
 use Rattle.swc_ecma_parser_reader.proofs.expressions.SoundOperators.{levels_inside, operators_sound}
 use Rattle.swc_ecma_parser_reader.proofs.SoundFor.{HeadSound, looped_sound, for_sound}
 use Rattle.swc_ecma_parser_grammar.proofs.UsingParts.{bound_target}
@@ -56,7 +57,7 @@ use Rattle.swc_ecma_parser_grammar.specs.language.Goals.{Class, expression, left
 use Rattle.swc_ecma_parser_grammar.specs.ReadsSupported.{ReadsClass, ReadsPat, ReadsElement, ReadsTarget, ReadsStmt, ReadsParams, ReadsDecorated, ReadsMember, ReadsNamedClass}
 use Rattle.swc_ecma_parser_grammar.specs.Walk as walks
 use Rattle.swc_ecma_parser_grammar.specs.Walk.{walk, env_of}
-use Rattle.swc_ecma_parser_grammar.specs.Notes.{notes, statement_note}
+use Rattle.swc_ecma_parser_grammar.specs.Notes.{notes}
 use Rattle.swc_ecma_parser_grammar.proofs.Tests.{or_no, and_yes, and_both}
 use Rattle.swc_ecma_parser_grammar.proofs.FunctionExprs.{function_widens, function_supported}
 use Rattle.swc_ecma_parser_grammar.proofs.MethodParts.{parts_widen, params_supported, body_supported, parameters_unnoted, body_unnoted}
@@ -74,7 +75,7 @@ use Rattle.swc_ecma_parser_reader.proofs.expressions.SoundCovers.{SoundCover, He
 use Rattle.swc_ecma_parser_reader.proofs.expressions.SoundSteps.{meets_as, FreeWord, Takes, expect_sound, fault_sound, walks_push, notes_push, reference_sound}
 use Rattle.swc_ecma_parser_reader.proofs.Notes.{or_true, notes_nil}
 use Rattle.swc_ecma_parser_reader.proofs.Meets.{Meets, Refuses, meets_then, meets_if, wanted_meets, too_deep_meets, refuse_meets, Turned, loop_answers, saw, meant}
-use Rattle.swc_ecma_parser_reader.proofs.Opens.{import_unnoted, chain_goes, chain_stops}
+use Rattle.swc_ecma_parser_reader.proofs.Opens.{chain_goes, chain_stops}
 use Rattle.swc_ecma_parser_grammar.specs.Using.{is_using_declaration}
 
 -- ---- statements
@@ -89,7 +90,7 @@ module _ (Stmt : Code → Position → Tree → Place → Place → Type 0) (Exp
     (sound_params : (s : State) → Meets (λ ps t. Sound same (λ k l. walks.walks (env_of k l) false (trees ps)) (all_notes_of (trees ps)) (λ k. Params k ps) s t) (inner_params s))
     (sound_class : (at : Position) (s : State) → kind_at s.at ≡ kind.Class → Meets (λ x t. SoundTree (Declared Named at) s x t) (class_stmt (inner_expr left_side) inner_member at s))
     (sound_operators : (start : Span) (x : Tree) (s t : State) → SoundWild s x t → Meets (λ y u. SoundWild s y u) (inner_operators start x t))
-    (unnoted : (k : Code) (x : Tree) (c d : Place) → begins_import_expression c ≡ true → Expr expression k x c d → statement_note x ≡ []) (lossless : Lossless (inner nested_item) (inner_expr expression) inner_pat inner_operators) (at : Position) where
+    (lossless : Lossless (inner nested_item) (inner_expr expression) inner_pat inner_operators) (at : Position) where
   -- a statement in its place
   abbrev SoundStmt : State → Tree → State → Type 0
   SoundStmt s x t = SoundTree (λ k. StmtRule Stmt Expr Pat Target Params Named k at) s x t
@@ -117,18 +118,10 @@ module _ (Stmt : Code → Position → Tree → Place → Place → Type 0) (Exp
   expr_stmt_at_sound s = meets_if _ (may_begin_expression_statement at s.at) _ _
       (λ h. expr_stmt_sound inner_operators sound_operators Stmt Expr Pat Target Params Named at (inner_expr expression) (sound_expr expression) s h) (λ _. wanted_meets _ faults.Unexpected s)
 
-  import_stmt_sound : (s : State) → begins_import_expression s.at ≡ true → Meets (SoundStmt s) (import_stmt (inner_expr expression) s)
-  unfolding import_stmt
-  import_stmt_sound s h = meets_then _ (within with_in (inner_expr expression) s) _
-      (within_sound (λ x k l. walk (env_of k l) x) notes_of (λ x k. Expr expression k x) with_in (λ k. refl) (inner_expr expression) s (sound_expr expression (coded (with_in s.code) s))) (λ x m p.
-      meets_then _ (optional_end m) _ (optional_end_sound m) (λ _ t q.
-      sound_as s t refl refl refl (λ (i, a, b). import_rule x i h a b refl)
-      (sound_held s t (notes x ++ statement_note x) (λ (i, a, b). sym (append-nil (notes x)) ∙ ap (λ z. notes x ++ z) (sym (unnoted (with_in s.code) x s.at i h a)))
-      (sound_more p q))))
-
-  import_stmt_at_sound : (s : State) → Meets (SoundStmt s) (import_stmt_at (inner_expr expression) s)
+  import_stmt_at_sound : (s : State) → Meets (SoundStmt s) (import_stmt_at (inner_expr expression) inner_operators s)
   unfolding import_stmt_at
-  import_stmt_at_sound s = meets_if _ (begins_import_expression s.at) _ _ (λ h. import_stmt_sound s h) (λ _. refuse_meets _ faults.ImportExportInScript s)
+  import_stmt_at_sound s = meets_if _ (begins_import_expression s.at) _ _
+      (λ h. import_stmt_sound inner_operators sound_operators Stmt Expr Pat Target Params Named at (inner_expr expression) (sound_expr expression) s h) (λ _. refuse_meets _ faults.ImportExportInScript s)
 
   -- ---- `throw`, `while` and `do`
 
@@ -618,7 +611,7 @@ module _ (n : ℕ) (b : Sounds n) where
   }
 
   -- functions as parts of expressions are those of the whole language
-  functions : FunctionsSound n (function n)
+  functions : FunctionsSound n (expr n) (function n)
   unfolding function function_by
   functions = record {
     expressions = λ s e. meets_as (function n expression_form s)
@@ -628,6 +621,7 @@ module _ (n : ℕ) (b : Sounds n) where
     methods = methods;
     parameters = b.patterns;
     names = names n;
+    no_blocks = no_block_read n;
     blocks = λ w s. meets_as (function n (block_form w) s)
         (arrow_block_sound (ReadsStmt n) (ReadsParams n) (stmt n nested_item) (b.stmts nested_item) (reader.parameters n) params w s)
         (λ x t p. sound_as s t refl refl refl
@@ -679,7 +673,7 @@ all_sound (suc n) = let b = all_sound n in record {
   stmts = λ at. either_sound n (reader.plain_stmt n) at
       (λ s. first_sound (ReadsClass n) (ReadsPat n) (expr n) (pattern n) b.exprs b.patterns (ReadsStmt n) (ReadsTarget n) (ReadsParams n) (ReadsNamedClass n) at (reader.nests n) (stmt_level (stmt n) (expr n) (pattern n) (head_cover n) (reader.parameters n) (member n) (operators n)) s
       (level_sound (ReadsStmt n) (ReadsClass n) (ReadsPat n) (ReadsTarget n) (ReadsParams n) (ReadsNamedClass n) (stmt n) (expr n) (pattern n) (head_cover n) (reader.parameters n) (member n) (operators n)
-      b.stmts b.exprs b.patterns (openings n b) (params n b) (class_stmt_sound n (expr n left_side) (member n) (b.exprs left_side) b.members) (operations n b) (λ k x c d h r. import_unnoted n k x c d r h) (loses_nothing n) at s))
+      b.stmts b.exprs b.patterns (openings n b) (params n b) (class_stmt_sound n (expr n left_side) (member n) (b.exprs left_side) b.members) (operations n b) (loses_nothing n) at s))
       (λ s. declares_plainly (stmt n) (expr n) (pattern n) (head_cover n) (reader.parameters n) (member n) (operators n) at s n (b.stmts nested_item) (params n b)
       (class_stmt_sound n (expr n left_side) (member n) (b.exprs left_side) b.members) (reader.declarators (expr n) (pattern n) false decl.Var) (reader.nests n))
       (λ s. plain_exports (stmt n) (expr n) (pattern n) (head_cover n) (reader.parameters n) (member n) (operators n) at s (reader.declarators (expr n) (pattern n) false decl.Var) (reader.nests n) (λ x t. ⊥)) (decorated_in n) b.decorateds;
@@ -714,7 +708,7 @@ pub function_sound : (n : ℕ) (s : State) → begins_function s.at ≡ true →
 function_sound n = (functions n (all_sound n)).expressions
 
 -- what a part of an expression holds that is none
-pub functions_sound : (n : ℕ) → FunctionsSound n (function n)
+pub functions_sound : (n : ℕ) → FunctionsSound n (expr n) (function n)
 functions_sound n = functions n (all_sound n)
 
 -- a statement is in the grammar within as many levels
@@ -739,9 +733,6 @@ pub class_sound : (n : ℕ) (s : State) → kind_at s.at ≡ kind.Class → Meet
 class_sound n = class_expr_sound n (expr n left_side) (member n) (expr_sound n left_side) (member_sound n)
 
 -- what is read leaves the code as it was
-pub member_code : (n : ℕ) (s : State) (x : Tree) (t : State) → member n s ≡ Ok (x, t) → t.code ≡ s.code
-member_code n s x t e = let p : SoundTree (ReadsMember n) s x t = meant (λ y u. SoundTree (ReadsMember n) s y u) Refuses (member n s) (Ok (x, t)) e (member_sound n s) in p.code
-
 pub stmt_code : (n : ℕ) (at : Position) (s : State) (x : Tree) (t : State) → stmt n at s ≡ Ok (x, t) → t.code ≡ s.code
 stmt_code n at s x t e =
     let P : Tree → State → Type 0 = λ y u. SoundTree (λ k. ReadsStmt n k at) s y u in
@@ -769,9 +760,6 @@ pattern_code n s x t e = let p : SoundTree (ReadsPat n) s x t = meant (λ y u. S
 pub element_code : (n : ℕ) (s : State) (x : Tree) (t : State) → element n s ≡ Ok (x, t) → t.code ≡ s.code
 element_code n s x t e = let p : SoundTree (ReadsElement n) s x t = meant (λ y u. SoundTree (ReadsElement n) s y u) Refuses (element n s) (Ok (x, t)) e (element_sound n s) in p.code
 
-pub function_code : (n : ℕ) (s : State) (x : Tree) (t : State) → begins_function s.at ≡ true → function n expression_form s ≡ Ok (x, t) → t.code ≡ s.code
-function_code n s x t k e = let p : SoundTree (FunctionRead n) s x t = meant (λ y u. SoundTree (FunctionRead n) s y u) Refuses (function n expression_form s) (Ok (x, t)) e (function_sound n s k) in p.code
-
 -- so do methods, from behind their key
 pub getter_code : (n : ℕ) (start : Span) (key : Tree) (s : State) (x : Tree) (t : State) → getter (stmt n nested_item) (reader.parameters n) start key s ≡ Ok (x, t) → t.code ≡ s.code
 getter_code n start key s x t e = meant (λ _ u. u.code ≡ s.code) Refuses (getter (stmt n nested_item) (reader.parameters n) start key s) (Ok (x, t)) e
@@ -788,10 +776,9 @@ method_code n w g start key s x t e = meant (λ _ u. u.code ≡ s.code) Refuses 
 
 pub clauses_code : (n : ℕ) (s : State) (xs : List Tree) (t : State) → clauses (stmt n nested_item) (expr n expression) s ≡ Ok (xs, t) → t.code ≡ s.code
 clauses_code n s xs t e =
-    let noted : (k : Code) (x : Tree) (c d : Place) → begins_import_expression c ≡ true → ReadsClass n expression k x c d → statement_note x ≡ [] = λ k x c d h r. import_unnoted n k x c d r h in
-    let P : List Tree → State → Type 0 = SoundCases (ReadsStmt n) (ReadsClass n) (ReadsPat n) (ReadsTarget n) (ReadsParams n) (ReadsNamedClass n) (stmt n) (expr n) (pattern n) (head_cover n) (reader.parameters n) (member n) (operators n) (stmt_sound n) (expr_sound n) (pattern_sound n) (opens_sound n) (parameters_sound n) (classes_sound n) (operations_sound n) noted (loses_nothing n) nested_item s in
+    let P : List Tree → State → Type 0 = SoundCases (ReadsStmt n) (ReadsClass n) (ReadsPat n) (ReadsTarget n) (ReadsParams n) (ReadsNamedClass n) (stmt n) (expr n) (pattern n) (head_cover n) (reader.parameters n) (member n) (operators n) (stmt_sound n) (expr_sound n) (pattern_sound n) (opens_sound n) (parameters_sound n) (classes_sound n) (operations_sound n) (loses_nothing n) nested_item s in
     let p : P xs t = meant P Refuses (clauses (stmt n nested_item) (expr n expression) s) (Ok (xs, t)) e
-    (clauses_sound (ReadsStmt n) (ReadsClass n) (ReadsPat n) (ReadsTarget n) (ReadsParams n) (ReadsNamedClass n) (stmt n) (expr n) (pattern n) (head_cover n) (reader.parameters n) (member n) (operators n) (stmt_sound n) (expr_sound n) (pattern_sound n) (opens_sound n) (parameters_sound n) (classes_sound n) (operations_sound n) noted (loses_nothing n) nested_item s) in p.code
+    (clauses_sound (ReadsStmt n) (ReadsClass n) (ReadsPat n) (ReadsTarget n) (ReadsParams n) (ReadsNamedClass n) (stmt n) (expr n) (pattern n) (head_cover n) (reader.parameters n) (member n) (operators n) (stmt_sound n) (expr_sound n) (pattern_sound n) (opens_sound n) (parameters_sound n) (classes_sound n) (operations_sound n) (loses_nothing n) nested_item s) in p.code
 
 pub declarators_code : (n : ℕ) (in_head : Bool) (word : VarDeclKind) (s : State) (xs : List Tree) (t : State) → declarators (expr n) (pattern n) in_head word s ≡ Ok (xs, t) → t.code ≡ s.code
 declarators_code n in_head word s xs t e =

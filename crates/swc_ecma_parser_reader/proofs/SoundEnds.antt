@@ -1,19 +1,21 @@
 -- An expression statement is in the grammar where nothing was recorded. Of the operators in the place of a missing end no rule has what
 -- is read, but whether a module's item is found there counts.
 use Rattle.std.proofs.Common.{◌≡◌, Bool, true, false, cond, List, [], ◌∷◌, ◌++◌, refl, sym, ◌∙◌, ap, subst, append_assoc, append-nil, true≢false}
-use Rattle.std.specs.Prelude.{◌||◌}
+use Rattle.std.specs.Prelude.{◌&&◌, ◌||◌, codes}
 use Rattle.swc_ecma_parser_common.specs.declared.span.Span.{Span}
 use Rattle.swc_ecma_parser_error.specs.Kind as faults
 use Rattle.swc_ecma_parser_error.specs.Kind.{Fault}
+use Rattle.swc_ecma_parser_token.specs.declared.kind.TokenKind.TheVariants as kind
 use Rattle.swc_ecma_parser_input.specs.Place.{Place}
+use Rattle.swc_ecma_parser_model.specs.Forms.{is_ident, is_ident_named}
 use Rattle.swc_ecma_parser_model.specs.Tree as tree
 use Rattle.swc_ecma_parser_model.specs.Tree.{Tree}
 use Rattle.swc_ecma_parser_grammar.specs.declared.position.Position.{Position}
-use Rattle.swc_ecma_parser_grammar.specs.Looks.{span_at, spanned}
+use Rattle.swc_ecma_parser_grammar.specs.Looks.{sees, span_at, spanned}
 use Rattle.swc_ecma_parser_grammar.specs.Names.{Code}
 use Rattle.swc_ecma_parser_grammar.specs.Ends.{Ends}
-use Rattle.swc_ecma_parser_grammar.specs.Follows.{may_begin_expression_statement}
-use Rattle.swc_ecma_parser_grammar.specs.Reads.{with_in, StmtRule, expr_rule}
+use Rattle.swc_ecma_parser_grammar.specs.Follows.{may_begin_expression_statement, begins_import_expression}
+use Rattle.swc_ecma_parser_grammar.specs.Reads.{with_in, StmtRule, expr_rule, import_rule}
 use Rattle.swc_ecma_parser_grammar.specs.Notes.{notes, statement_note}
 use Rattle.swc_ecma_parser_grammar.specs.Walk.{walk, env_of, is_dropping, drops}
 use Rattle.swc_ecma_parser_grammar.specs.language.Goals.{Class, expression}
@@ -89,9 +91,12 @@ module _ (operators : Span → Tree → Reader Tree) (sound_operators : (start :
   module _ (Stmt : Code → Position → Tree → Place → Place → Type 0) (Expr : Class → Code → Tree → Place → Place → Type 0) (Pat Target : Code → Tree → Place → Place → Type 0)
       (Params : Code → List Tree → Place → Place → Type 0) (Named : Code → (name x : Tree) → Place → Place → Type 0) (at : Position) (expr : Reader Tree)
       (sound_expr : (s : State) → Meets (λ x t. SoundTree (Expr expression) s x t) (expr s)) where
-    pub expr_stmt_sound : (s : State) → may_begin_expression_statement at s.at ≡ true → Meets (λ x t. SoundTree (λ k. StmtRule Stmt Expr Pat Target Params Named k at) s x t) (expr_stmt expr operators s)
+    -- by a rule that has an expression and its end
+    ended_sound : (s : State)
+        → ((x : Tree) (m d : Place) → Expr expression (with_in s.code) x s.at m → is_ident x && sees kind.Colon m ≡ false → s.code.flags.module && is_ident_named (codes "interface") x ≡ false → Ends m d
+        → StmtRule Stmt Expr Pat Target Params Named s.code at (tree.expr_stmt (spanned s.at d) x) s.at d) → Meets (λ x t. SoundTree (λ k. StmtRule Stmt Expr Pat Target Params Named k at) s x t) (expr_stmt expr operators s)
     unfolding expr_stmt stmt_end SoundNote NoNote NoLabel
-    expr_stmt_sound s e = meets_then _ (within with_in expr s) _
+    ended_sound s rule = meets_then _ (within with_in expr s) _
         (within_sound (λ x k l. walk (env_of k l) x) notes_of (λ x k. Expr expression k x) with_in (λ k. refl) expr s (sound_expr (coded (with_in s.code) s))) (λ x i p.
         meets_then _ (no_label x i) _ (no_label_sound x i) (λ _ j q.
         meets_then _ (note_statement x j) _ (note_sound x j) (λ _ m r.
@@ -100,6 +105,12 @@ module _ (operators : Span → Tree → Reader Tree) (sound_operators : (start :
         (λ _. meets_as (operators_on operators (span_at s.at) x m) (operators_on_sound (span_at s.at) x s m (or_nil (has_meta x)) (sound_then (sound_more p q) r)) (λ y t z. sound_never s t refl refl z))
         (λ _. meets_then _ (end faults.ExpectedSemiForExprStmt m) _ (end_sound faults.ExpectedSemiForExprStmt m) (λ _ t z.
         sound_as s t refl (append-nil (walk (env_of s.code s.scope.labels) x)) (λ l. record { held_back = notes x ++ statement_note x; found_module_item = or_nil (has_meta x) l })
-        (λ (i, (j, (m, a, b), g), y). expr_rule x m e a b.0 g.0 (subst (λ v. Ends v t.at) (g.1 ∙ b.1) y) refl)
+        (λ (i, (j, (m, a, b), g), y). rule x m t.at a b.0 g.0 (subst (λ v. Ends v t.at) (g.1 ∙ b.1) y))
         (sound_more (sound_then (sound_more p q) r) z))))
         (λ y t z. z))))
+
+    pub expr_stmt_sound : (s : State) → may_begin_expression_statement at s.at ≡ true → Meets (λ x t. SoundTree (λ k. StmtRule Stmt Expr Pat Target Params Named k at) s x t) (expr_stmt expr operators s)
+    expr_stmt_sound s e = ended_sound s (λ x m d r l i g. expr_rule x m e r l i g refl)
+
+    pub import_stmt_sound : (s : State) → begins_import_expression s.at ≡ true → Meets (λ x t. SoundTree (λ k. StmtRule Stmt Expr Pat Target Params Named k at) s x t) (expr_stmt expr operators s)
+    import_stmt_sound s e = ended_sound s (λ x m d r l i g. import_rule x m e r g refl)

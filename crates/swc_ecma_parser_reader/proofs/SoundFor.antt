@@ -2,7 +2,7 @@
 use Rattle.swc_ecma_parser_model.specs.Forms.{is_binding_name, is_ident_named}
 use Rattle.swc_ecma_parser_common.specs.declared.span.Span.{Span}
 use Rattle.std.proofs.Common.{◌≡◌, Bool, true, false, List, [], ◌∷◌, ◌++◌, Some, None, refl, true≢false, sym, ◌∙◌, ap, subst, Option, is_some}
-use Rattle.std.specs.Prelude.{◌&&◌, codes}
+use Rattle.std.specs.Prelude.{◌&&◌, codes, not}
 use Rattle.swc_ecma_parser_error.specs.Kind as faults
 use Rattle.swc_ecma_parser_error.specs.Kind.{Kind}
 use Rattle.swc_ecma_parser_token.specs.declared.kind.TokenKind.{TokenKind}
@@ -19,7 +19,7 @@ use Rattle.swc_ecma_parser_model.specs.Tree as tree
 use Rattle.swc_ecma_parser_model.specs.Tree.{Tree, Text, trees, listed}
 use Rattle.swc_ecma_parser_model.specs.Targets.{as_target}
 use Rattle.swc_ecma_parser_grammar.specs.declared.position.Position.{Position}
-use Rattle.swc_ecma_parser_grammar.specs.Looks.{kind_at, first_kind, sees, span_at, spanned}
+use Rattle.swc_ecma_parser_grammar.specs.Looks.{kind_at, first_kind, sees, span_at, spanned, breaks_at}
 use Rattle.swc_ecma_parser_grammar.specs.Names.{Code, identifier_at}
 use Rattle.swc_ecma_parser_grammar.specs.Follows.{token_is, first_is, word_at, is_let_declaration, may_begin_head, is_async_of, begins_async_of, AwaitWord, no_await, await_word}
 use Rattle.swc_ecma_parser_grammar.specs.Variables.{begins_variables}
@@ -35,7 +35,7 @@ use Rattle.swc_ecma_parser_reader.specs.Notes.{no_notes, ◌⊕◌, notes_of, al
 use Rattle.swc_ecma_parser_reader.specs.State.{State, Reader, moved, coded, within, expect}
 use Rattle.swc_ecma_parser_reader.specs.Expressions as exprs
 use Rattle.swc_ecma_parser_reader.specs.Expressions.{Cover, is_literal}
-use Rattle.swc_ecma_parser_reader.specs.Reader.{declarators, Opening, Nothing, Variables, Resource, Named, Expression, unfollowed, as_init, as_left, head_variables, undeclared, using_head, named_head, await_or_expression, async_head, head_expression, await_head, async_or_expression, head_target, opening, head_part, misdeclared, for_parts, for_in, for_of, for_behind, for_stmt, await_here, unless_awaited}
+use Rattle.swc_ecma_parser_reader.specs.Reader.{declarators, Opening, Nothing, Variables, Resource, Named, Expression, unfollowed, as_init, as_left, head_variables, undeclared, using_head, named_head, await_or_expression, async_head, head_expression, await_head, async_or_expression, head_target, opening, head_part, misdeclared, for_parts, for_in, for_of, for_behind, for_stmt, await_here, unless_awaited, begins_await_head}
 use Rattle.swc_ecma_parser_reader.proofs.expressions.Targets.{pattern_alike}
 use Rattle.swc_ecma_parser_reader.proofs.expressions.CompleteKinds.{seen}
 use Rattle.swc_ecma_parser_reader.proofs.patterns.Sound.{Moves}
@@ -252,10 +252,10 @@ module _ (Stmt : Code → Position → Tree → Place → Place → Type 0) (Exp
       meets_if _ (stands_in_head (after m.at)) _ _ (λ j. using_head_sound w s m p h b i r j)
       (λ _. named_sound w s m p (word_place (codes "using") s.at g.1) b (λ o. absurd (true≢false (sym o ∙ ap (word_at (codes "of")) i ∙ g.3))) r))
 
-  await_using_sound : (w : Bool) (s m : State) (v : Cover) → awaits_using v.x ≡ true → declares_behind m.code m.at ≡ true
+  await_using_sound : (w : Bool) (s m : State) (v : Cover) → awaits_using v.x ≡ true → breaks_at (after s.at) ≡ false → declares_behind m.code m.at ≡ true
       → Sound same (λ k l. walk (env_of (without_in k) l) v.x) (notes_of v.x) (λ k. CoverAs Expr Target v (without_in k)) s m → Meets (SoundOpening w s) (using_head inner_expr inner_pat true (span_at s.at) m)
   unfolding using_head undeclared spanned
-  await_using_sound w s m v h j r =
+  await_using_sound w s m v h b j r =
       let f = behind_declares m.code m.at j in
       meets_then _ (inner_pat m) _ (word_sound m f.named (head_stands (after m.at) f.headed)) (λ name t (z, _, q).
       let span : Span = record { lo = (span_at s.at).lo; hi = t.at.last.hi } in
@@ -267,18 +267,26 @@ module _ (Stmt : Code → Position → Tree → Place → Place → Type 0) (Exp
       (λ (d1, (d0, (x0, e0), (w0, y0)), (fe, de)).
       let l : u.at ≡ t.at = de ∙ y0 in (
         of_await_rule v.x name m.at (ap (λ k. k.setting.explicit_resource_management) (sym r.code) ∙ f.is_set)
-            (subst (λ d. Expr expression (without_in s.code) v.x s.at d) e0 (x0.plain (x0.unmarked (awaited_unmarked v.x h)))) h f.no_of
+            (subst (λ d. Expr expression (without_in s.code) v.x s.at d) e0 (x0.plain (x0.unmarked (awaited_unmarked v.x h)))) h b f.no_of
             (subst (λ c. Pat s.code name c u.at) e0 (subst (λ d. Pat s.code name d0 d) (sym de) w0)) z
             (ap (λ d. tree.using (spanned s.at d) true (listed (tree.declarator (spanned m.at d) name tree.absent ∷ []))) (sym l)),
         ap (sees kind.In) l ∙ unsaid (sees kind.In t.at) _ _ fe,
       ))
       (sound_more (sound_then a y) p)))
 
-  await_head_sound : (w : Bool) (s : State) → may_begin_head s.at ≡ true → Meets (SoundOpening w s) (await_head inner_expr inner_pat inner_head s)
+  on_line : (c : Place) → begins_await_head c ≡ true → breaks_at (after c) ≡ false
+  unfolding begins_await_head
+  on_line c h = unbroken (breaks_at (after c)) (and_yes (sees kind.Await c) _ h).1
+    where
+      unbroken : (b : Bool) → not b ≡ true → b ≡ false
+      unbroken true e = cc
+      unbroken false e = refl
+
+  await_head_sound : (w : Bool) (s : State) → may_begin_head s.at ≡ true → breaks_at (after s.at) ≡ false → Meets (SoundOpening w s) (await_head inner_expr inner_pat inner_head s)
   unfolding await_head await_or_expression
-  await_head_sound w s h = meets_then _ (within without_in inner_head s) _
+  await_head_sound w s h b = meets_then _ (within without_in inner_head s) _
       (within_sound (λ v k l. walk (env_of k l) v.x) (λ v. notes_of v.x) (λ v k. CoverAs Expr Target v k) without_in (λ k. refl) inner_head s (sound_head.covers (coded (without_in s.code) s))) (λ v t p.
-      meets_if _ (awaits_using v.x && declares_behind t.code t.at) _ _ (λ i. let g = and_yes (awaits_using v.x) _ i in await_using_sound w s t v g.0 g.1 p) (λ _. sound_as s t refl refl refl (λ r. (h, r)) p))
+      meets_if _ (awaits_using v.x && declares_behind t.code t.at) _ _ (λ i. let g = and_yes (awaits_using v.x) _ i in await_using_sound w s t v g.0 b g.1 p) (λ _. sound_as s t refl refl refl (λ r. (h, r)) p))
 
   async_head_sound : (w : Bool) (s : State) → w ≡ true → begins_async_of s.at ≡ true → Meets (SoundOpening w s) (async_head inner_expr inner_pat s)
   unfolding async_head
@@ -302,7 +310,7 @@ module _ (Stmt : Code → Position → Tree → Place → Place → Type 0) (Exp
       (λ f. meets_if _ (sees kind.Const s.at) _ _ (λ h. head_variables_sound w decl.Const s h)
       (λ g. meets_if _ (is_let_declaration s.at) _ _ (λ h. head_variables_sound w decl.Let s h)
       (λ h. meets_if _ (may_declare_using s.code s.at) _ _ (λ i. named_head_sound w s i)
-      (λ _. meets_if _ (sees kind.Await s.at) _ _ (λ _. await_head_sound w s (begins_head s.at e f g h))
+      (λ _. meets_if _ (begins_await_head s.at) _ _ (λ i. await_head_sound w s (begins_head s.at e f g h) (on_line s.at i))
       (λ _. head_target_sound w s (begins_head s.at e f g h)))))))
 
   -- as the first part of three

@@ -19,7 +19,7 @@ use Rattle.swc_ecma_parser_grammar.specs.Names.{Code, is_name, name_at}
 use Rattle.swc_ecma_parser_grammar.specs.Own.{misplaced_directive}
 use Rattle.swc_ecma_parser_grammar.specs.language.Noted.{has_meta}
 use Rattle.swc_ecma_parser_grammar.specs.Parameters.{parameter, parameters}
-use Rattle.swc_ecma_parser_grammar.specs.Reads.{nested_item, with_in, ReadsToken, ReadsItems, ReadsBraced, ReadsBlock, ReadsParts, ReadsFunction, ReadsFunctionExpr, OwnNameRule, no_own_name_rule, own_name_rule}
+use Rattle.swc_ecma_parser_grammar.specs.Reads.{nested_item, with_in, ReadsToken, ReadsItems, ReadsBraced, ReadsParts, ReadsFunction, ReadsFunctionExpr, OwnNameRule, no_own_name_rule, own_name_rule}
 use Rattle.swc_ecma_parser_grammar.specs.language.Contexts.{named_by, in_parameters, in_body, in_arrow}
 use Rattle.swc_ecma_parser_grammar.specs.Walk as walks
 use Rattle.swc_ecma_parser_grammar.specs.Walk.{Env, walk, env_of}
@@ -27,6 +27,7 @@ use Rattle.swc_ecma_parser_reader.specs.Notes.{no_notes, ◌⊕◌, notes_of, al
 use Rattle.swc_ecma_parser_reader.specs.State.{State, Reader, and_then, reject, moved, coded, unlabelled, relabelled, found_as, enclosed, within, expect, name, noted, fault_at, flagged}
 use Rattle.swc_ecma_parser_reader.specs.Methods.{star}
 use Rattle.swc_ecma_parser_reader.specs.Reader.{closes, close, items, block_from, braced, misdirected, function_body, function_parts, function_decl, function_stmt, named, own_name, function_expr, function_word, told, no_parameter, one_parameter, getter, setter, plain_method, arrow_block}
+use Rattle.swc_ecma_parser_grammar.proofs.Arrows.{body_walk}
 use Rattle.swc_ecma_parser_reader.proofs.Notes.{or_nil, notes_nil}
 use Rattle.swc_ecma_parser_reader.proofs.Meets.{Meets, meets_then, meets_if}
 use Rattle.swc_ecma_parser_reader.proofs.Errors.{is_error, fault_here}
@@ -140,25 +141,26 @@ module _ (Stmt : Code → Position → Tree → Place → Place → Type 0) (Par
       sound_under {f = λ k. code_after k true xs} {w = λ k l. walks.walk_body (env_of k []) x} {P = λ k. ReadsBraced Stmt true k x}
       (λ k. in_body k w g) (λ k. code_setting (in_body k w g) true xs) s t p)
 
-  -- the block of an arrow function has no directives
+  -- the block of an arrow function is one that has directives
   SoundBlock : State → Tree → State → Type 0
-  SoundBlock j x t = (xs : List Tree) × Sound (λ k. code_after k false xs) (λ k l. walk (env_of k []) x) (record (notes_of x) { found_module_item = false }) (λ k. ReadsBlock Stmt k x) j t
+  SoundBlock j x t = (xs : List Tree) × Sound (λ k. code_after k true xs) (λ k l. body_walk (env_of k []) x) (record (notes_of x) { found_module_item = false }) (λ k. ReadsBraced Stmt true k x) j t
 
-  enclosed_block_sound : (j : State) → Meets (SoundBlock j) (enclosed (braced inner false) j)
+  enclosed_block_sound : (j : State) → Meets (SoundBlock j) (enclosed (braced inner true) j)
   unfolding SoundBlock
-  enclosed_block_sound j = meets_then _ (braced inner false (unlabelled j)) _ (braces_sound Stmt inner sound false (unlabelled j)) (λ x t (xs, e, p). (
+  enclosed_block_sound j = meets_then _ (braced inner true (unlabelled j)) _ (braces_sound Stmt inner sound true (unlabelled j)) (λ x t (xs, e, p). (
     xs,
-    sound_as j (found_as j.notes (relabelled j.scope t)) refl (sym (ap (walk (env_of j.code [])) e)) (sym (ap (λ z. record (notes_of z) { found_module_item = false }) e))
-        (λ r. in_braces Stmt inner sound false xs e r) (sound_enclosed j t p),
+    sound_as j (found_as j.notes (relabelled j.scope t)) refl (sym (ap (body_walk (env_of j.code [])) e)) (sym (ap (λ z. record (notes_of z) { found_module_item = false }) e))
+        (λ r. in_braces Stmt inner sound true xs e r) (sound_enclosed j t p),
   ))
 
   pub arrow_block_sound : (w : Bool) (s : State)
-      → Meets (λ x t. Sound same (λ k l. walk (walks.in_body (env_of k l)) x) (record (notes_of x) { found_module_item = false }) (λ k. ReadsBlock Stmt (with_in (in_arrow k w)) x) s t) (arrow_block inner params w s)
+      → Meets (λ x t. Sound same (λ k l. body_walk (walks.in_body (env_of k l)) x) (record (notes_of x) { found_module_item = false }) (λ k. ReadsBraced Stmt true (with_in (in_arrow k w)) x) s t)
+      (arrow_block inner params w s)
   unfolding arrow_block SoundBlock
   arrow_block_sound w s = let j = coded (with_in (in_arrow s.code w)) s in
-      meets_then _ (enclosed (braced inner false) j) _ (enclosed_block_sound j) (λ x t (xs, p).
-      sound_under {f = λ k. code_after k false xs} {w = λ k l. walk (env_of k []) x} {P = λ k. ReadsBlock Stmt k x}
-      (λ k. with_in (in_arrow k w)) (λ k. code_setting (with_in (in_arrow k w)) false xs) s t p)
+      meets_then _ (enclosed (braced inner true) j) _ (enclosed_block_sound j) (λ x t (xs, p).
+      sound_under {f = λ k. code_after k true xs} {w = λ k l. body_walk (env_of k []) x} {P = λ k. ReadsBraced Stmt true k x}
+      (λ k. with_in (in_arrow k w)) (λ k. code_setting (with_in (in_arrow k w)) true xs) s t p)
 
   -- from behind the name
   Parts : (is_async is_generator : Bool) → Span → Tree → Code → Place → Place → Type 0

@@ -13,11 +13,11 @@ use Rattle.swc_ecma_parser_input.specs.Place.{Place, after}
 use Rattle.swc_ecma_parser_model.specs.declared.leaves.VarDeclKind.{VarDeclKind}
 use Rattle.swc_ecma_parser_model.specs.declared.leaves.VarDeclKind.TheVariants as decl
 use Rattle.swc_ecma_parser_model.specs.Tree as tree
-use Rattle.swc_ecma_parser_model.specs.Tree.{Tree, Trees, Text, none, also, trees, listed}
+use Rattle.swc_ecma_parser_model.specs.Tree.{Tree, Trees, Text, none, also, trees}
 use Rattle.swc_ecma_parser_model.specs.Directive.{is_use_strict, is_string_statement}
 use Rattle.swc_ecma_parser_model.specs.Forms.{is_ident, is_ident_named, is_binding_name, span_of, has_plain_params}
 use Rattle.swc_ecma_parser_grammar.specs.declared.position.Position.{Position}
-use Rattle.swc_ecma_parser_grammar.specs.Looks.{kind_at, sees, span_at, spanned}
+use Rattle.swc_ecma_parser_grammar.specs.Looks.{kind_at, breaks_at, sees, span_at, spanned}
 use Rattle.swc_ecma_parser_grammar.specs.Names.{Code}
 use Rattle.swc_ecma_parser_grammar.specs.Follows.{is_let_declaration, AwaitWord, no_await, await_word}
 use Rattle.swc_ecma_parser_grammar.specs.Variables.{begins_variables, is_var, is_const, needs_no_initializer}
@@ -196,29 +196,29 @@ module _ (Expr : Class → Code → Tree → Place → Place → Type 0) (Pat : 
   module _ (Stmt : Code → Position → Tree → Place → Place → Type 0) (Target : Code → Tree → Place → Place → Type 0) (Params : Code → List Tree → Place → Place → Type 0)
       (Named : Code → (name x : Tree) → Place → Place → Type 0) (at : Position) where
     -- from the word on, behind `await` or not
-    using_from_sound : (v : Bool) (c : Place) (s : State) → at.include_decl || (v && at.top_level) ≡ true → AwaitWord v c s.at → is_using_declaration s.code s.at ≡ true
+    using_from_sound : (v : Bool) (c : Place) (s : State) → at.include_decl || (v && at.top_level) ≡ true → AwaitWord v c s.at → v && breaks_at s.at ≡ false → is_using_declaration s.code s.at ≡ true
         → Meets (λ x t. Sound same (λ k l. walk (env_of k l) x) (notes_of x) (λ k _ d. StmtRule Stmt Expr Pat Target Params Named k at x c d) s t) (using_from (declarators expr pat false decl.Var) v (span_at c) s)
     unfolding using_from misusing spanned
-    using_from_sound v c s b a e = meets_then _ (within with_in (declarators expr pat false decl.Var) (moved s)) _
+    using_from_sound v c s b a l e = meets_then _ (within with_in (declarators expr pat false decl.Var) (moved s)) _
         (within_sound (λ xs k l. walks.walks (env_of k l) false (trees xs)) (λ xs. all_notes_of (trees xs)) (λ xs k. ReadsSeparated (Declared false decl.Var k) xs) with_in (λ k. refl)
         (declarators expr pat false decl.Var) (moved s) (declarators_sound false decl.Var (coded (with_in s.code) (moved s)))) (λ xs m p.
         let fs = using_faults m.code.setting.explicit_resource_management (spanned c m.at) xs in
-        meets_then _ (told fs m) _ (untold_sound fs (using_untabled m.code.setting.explicit_resource_management (spanned c m.at) xs) m) (λ _ t q.
+        meets_then _ (told fs m) _ (untold_sound fs (using_untabled m.code.setting.explicit_resource_management (spanned c m.at) xs) m) (λ _ u q.
+        meets_then _ (end faults.Expected u) _ (end_sound faults.Expected u) (λ _ t h.
         let r : Sound same (λ k l. walks.walks (env_of k l) false (trees xs)) (all_notes_of (trees xs)) (λ k i d. ReadsSeparated (Declared false decl.Var (with_in k)) xs i d × (d ≡ m.at)) (moved s) m = sound_as (moved s) m refl refl refl (λ w. (w, refl)) p in
         sound_after s t refl (ap is_error (using_stands s.code s.at e)) refl refl
-        (λ (i, (w, g), (z, y)). using_rule v xs s.at b a e (subst (λ d. ReadsSeparated (Declared false decl.Var (with_in s.code)) xs (after s.at) d) (sym y) w)
-        (ap (λ d. using_faults s.code.setting.explicit_resource_management (spanned c d) xs) (y ∙ g) ∙ ap (λ (k : Code). using_faults k.setting.explicit_resource_management (spanned c m.at) xs) (sym p.code) ∙ z)
-        (ap (λ d. tree.using (spanned c d) v (listed xs)) (sym (y ∙ g)))) (sound_more r q)))
+        (λ (j, (i, (w, g), (z, y)), o). using_rule v xs s.at m.at b a l e (subst (λ d. ReadsSeparated (Declared false decl.Var (with_in s.code)) xs (after s.at) d) g w)
+        (ap (λ (k : Code). using_faults k.setting.explicit_resource_management (spanned c m.at) xs) (sym p.code) ∙ z) (subst (λ d. Ends d t.at) (y ∙ g) o) refl) (sound_more (sound_more r q) h))))
 
     pub using_sound : (s : State) → at.include_decl ≡ true → is_using_declaration s.code s.at ≡ true
         → Meets (λ x t. SoundTree (λ k. StmtRule Stmt Expr Pat Target Params Named k at) s x t) (using_stmt (declarators expr pat false decl.Var) s)
     unfolding using_stmt
-    using_sound s b e = meets_as (using_from (declarators expr pat false decl.Var) false (span_at s.at) s) (using_from_sound false s.at s (rw b refl) (no_await refl refl) e) (λ x t p. sound_as s t refl refl refl (λ r. r) p)
+    using_sound s b e = meets_as (using_from (declarators expr pat false decl.Var) false (span_at s.at) s) (using_from_sound false s.at s (rw b refl) (no_await refl refl) refl e) (λ x t p. sound_as s t refl refl refl (λ r. r) p)
 
-    pub await_using_sound : (s : State) → at.include_decl || at.top_level ≡ true → kind_at s.at ≡ kind.Await → is_using_declaration s.code (after s.at) ≡ true
+    pub await_using_sound : (s : State) → at.include_decl || at.top_level ≡ true → kind_at s.at ≡ kind.Await → is_using_declaration s.code (after s.at) ≡ true → breaks_at (after s.at) ≡ false
         → Meets (λ x t. SoundTree (λ k. StmtRule Stmt Expr Pat Target Params Named k at) s x t) (await_using_stmt (declarators expr pat false decl.Var) s)
     unfolding await_using_stmt
-    await_using_sound s b a e = meets_as (using_from (declarators expr pat false decl.Var) true (span_at s.at) (moved s)) (using_from_sound true s.at (moved s) b (await_word refl a refl) e)
+    await_using_sound s b a e l = meets_as (using_from (declarators expr pat false decl.Var) true (span_at s.at) (moved s)) (using_from_sound true s.at (moved s) b (await_word refl a refl) l e)
         (λ x t p. sound_after s t a refl refl refl (λ r. r) p)
 
     -- before anything else
@@ -226,28 +226,14 @@ module _ (Expr : Class → Code → Tree → Place → Place → Type 0) (Pat : 
         → Meets (λ x t. SoundTree (λ k. StmtRule Stmt Expr Pat Target Params Named k at) s x t) (await_using_or (declarators expr pat false decl.Var) v rest at s)
     unfolding await_using_or
     first_sound v rest s r = meets_if _ (is_await_using_declaration at s.code s.at && v) _ _
-        (λ h. let (b, e, i) = declares_behind_await at s.code s.at (and_yes (is_await_using_declaration at s.code s.at) v h).0 in await_using_sound s b e i) (λ _. r)
+        (λ h. let (b, e, i, l) = declares_behind_await at s.code s.at (and_yes (is_await_using_declaration at s.code s.at) v h).0 in await_using_sound s b e i l) (λ _. r)
 
 -- ---- statements one behind another
 
--- the code behind these statements, and whether the next can be a directive
+-- the code behind these statements
 abbrev pub code_after : Code → Bool → List Tree → Code
 code_after k directives [] = k
 code_after k directives (x ∷ xs) = code_after (directed k directives x) (directs_on directives x) xs
-
-abbrev pub directs_after : Bool → List Tree → Bool
-directs_after directives [] = directives
-directs_after directives (x ∷ xs) = directs_after (directs_on directives x) xs
-
--- behind the first statement no directive stands
-never_directs : (xs : List Tree) → directs_after false xs ≡ false
-never_directs [] = refl
-never_directs (x ∷ xs) = never_directs xs
-
--- the reader's test for directives is that of the grammar
-pub directs_agrees : (directives : Bool) (xs : List Tree) → directs directives xs ≡ directs_after directives xs
-directs_agrees directives [] = refl
-directs_agrees directives (x ∷ xs) = sym (never_directs xs)
 
 -- a block's statements change no code
 pub code_stays : (k : Code) (xs : List Tree) → code_after k false xs ≡ k
@@ -273,7 +259,7 @@ code_module k directives [] = refl
 code_module k directives (x ∷ xs) = code_module (directed k directives x) (directs_on directives x) xs ∙ in_strict_module (directives && is_use_strict x) k
 
 -- the code behind one statement more
-pub code_push : (k : Code) (directives : Bool) (xs : List Tree) (x : Tree) → directed (code_after k directives xs) (directs_after directives xs) x ≡ code_after k directives (xs ++ x ∷ [])
+pub code_push : (k : Code) (directives : Bool) (xs : List Tree) (x : Tree) → directed (code_after k directives xs) (directs directives xs) x ≡ code_after k directives (xs ++ x ∷ [])
 code_push k directives [] x = refl
 code_push k directives (y ∷ ys) x = code_push (directed k directives y) (directs_on directives y) ys x
 
@@ -291,10 +277,11 @@ pub items_walk_push : (k : Code) (labels : List Text) (directives : Bool) (xs : 
 items_walk_push k labels directives [] x = sym (append-nil (walk (env_of k labels) x))
 items_walk_push k labels directives (y ∷ ys) x =
     let j : Code = directed k directives y in
+    let b : Bool = directs_on directives y in
     let e : env_of j labels ≡ walks.directed (env_of k labels) directives y = directed_env k labels directives y in
-    append_assoc (walk (env_of k labels) y) (walks.walks (walks.directed (env_of k labels) directives y) false (trees ys)) (walk (env_of (code_after j false ys) labels) x)
-    ∙ ap (λ z. walk (env_of k labels) y ++ z) (subst (λ v. walks.walks v false (trees ys) ++ walk (env_of (code_after j false ys) labels) x ≡ walks.walks v false (trees (ys ++ x ∷ []))) e
-    (items_walk_push j labels false ys x))
+    append_assoc (walk (env_of k labels) y) (walks.walks (walks.directed (env_of k labels) directives y) b (trees ys)) (walk (env_of (code_after j b ys) labels) x)
+    ∙ ap (λ z. walk (env_of k labels) y ++ z) (subst (λ v. walks.walks v b (trees ys) ++ walk (env_of (code_after j b ys) labels) x ≡ walks.walks v b (trees (ys ++ x ∷ []))) e
+    (items_walk_push j labels b ys x))
 
 module _ (Reads : Code → Tree → Place → Place → Type 0) where
   -- one more behind those read
@@ -319,7 +306,7 @@ module _ (Reads : Code → Tree → Place → Place → Type 0) where
     items_turn_sound s xs t p = meets_if _ (stops t.at) _ _ (λ e. (p, e)) (λ _. meets_then _ (stmt t) _ (sound t) (λ x u q.
         let r = sound_then p q in
         let e : directed u.code (directs directives xs) x ≡ code_after s.code directives (xs ++ x ∷ []) =
-        ap (λ j. directed j (directs directives xs) x) r.code ∙ ap (λ b. directed (code_after s.code directives xs) b x) (directs_agrees directives xs) ∙ code_push s.code directives xs x in
+        ap (λ j. directed j (directs directives xs) x) r.code ∙ code_push s.code directives xs x in
         sound_coded s u (directed u.code (directs directives xs) x) e
         (sound_as {g = λ k. code_after k directives xs} s u refl (items_walk_push s.code s.scope.labels directives xs x) (notes_push xs x)
         (λ (i, a, b). items_push s.code directives xs x s.at i u.at a b) r)))

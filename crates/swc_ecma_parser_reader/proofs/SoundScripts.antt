@@ -43,7 +43,7 @@ use Rattle.swc_ecma_parser_reader.proofs.Notes.{or_nil, or_true, or_assoc}
 use Rattle.swc_ecma_parser_reader.proofs.Meets.{Meets, Refuses, meets_then, meets_if, Turned, loop_answers, saw, meant}
 use Rattle.swc_ecma_parser_reader.proofs.Errors.{is_error, kind_here, none_counted, nothing_at_end, fault_here}
 use Rattle.swc_ecma_parser_reader.proofs.Between.{Sound, SoundStep, no_faults, same, some_fault, same-fewer, sound_then, sound_moved, sound_here, sound_as, sound_coded, flags_back}
-use Rattle.swc_ecma_parser_reader.proofs.SoundParts.{meets_both, code_after, code_setting, code_push, directs_agrees, items_walk_push}
+use Rattle.swc_ecma_parser_reader.proofs.SoundParts.{meets_both, code_after, code_setting, code_push, items_walk_push}
 use Rattle.swc_ecma_parser_reader.proofs.expressions.SoundSteps.{meets_as, notes_push}
 use Rattle.swc_ecma_parser_reader.proofs.Sound.{stmt_sound}
 use Rattle.swc_ecma_parser_reader.proofs.Spans.{whole_stands}
@@ -236,7 +236,7 @@ tops_turn_sound stops n s xs t (b, p, h, on) = meets_if _ (stops t.at) _ _ (λ e
     (meets_both _ _ (whole_stmt n top_item t) (whole_sound top_item n t) (whole_stands n top_item t)) (λ x u ((q, g), stands).
     let r = sound_then p q in
     let e : directed u.code (directs true xs) x ≡ code_after s.code true (xs ++ x ∷ []) =
-    ap (λ j. directed j (directs true xs) x) r.code ∙ ap (λ d. directed (code_after s.code true xs) d x) (directs_agrees true xs) ∙ code_push s.code true xs x in (
+    ap (λ j. directed j (directs true xs) x) r.code ∙ code_push s.code true xs x in (
       b || sees kind.Await t.at,
       sound_coded s u (directed u.code (directs true xs) x) e
           (sound_as {g = λ k. code_after k true xs} s u refl (items_walk_push s.code s.scope.labels true xs x) (notes_with_push xs x b (sees kind.Await t.at))

@@ -36,16 +36,16 @@ use Rattle.swc_ecma_parser_reader.specs.State.{State, Outcome, Reader, attempted
 use Rattle.swc_ecma_parser_reader.specs.Methods.{star}
 use Rattle.swc_ecma_parser_reader.specs.Expressions.{Cover}
 use Rattle.swc_ecma_parser_reader.specs.Reader as reader
-use Rattle.swc_ecma_parser_reader.specs.Reader.{decorated_in, told, named, items, closes, close, declarators, declaration_end, stray, link, link_from, condition, alternative, head, clauses, target, unbroken, uncontinued, operand, braced, handler, finalizer, handled, optional_end, note_with, await_here, unless_awaited, Opening, as_init, as_left, opening, head_part, misdeclared, misdirected, labelled_body, relabels, no_label, note_statement, empty, debugger, variables, block, block_from, stmt_end, expr_stmt, expr_stmt_at, import_stmt, import_stmt_at, thrown, throw, while_stmt, with_stmt, do_while, for_parts, for_in, for_of, for_behind, for_stmt, goes_on, links, if_stmt, break_stmt, continue_stmt, returned, return_stmt, misplaced, begins_label, labeled_stmt, other_stmt, switch_stmt, try_stmt, function_word, function_body, function_parts, function_decl, function_stmt, const_stmt, let_stmt, async_or_other, stmt_by, stmt_level, stmt, top_await_fault, top_await, whole_stmt, expr, head_cover, pattern, member, misusing, using_from, using_stmt, using_or_other, await_using_stmt, plain_stmt}
+use Rattle.swc_ecma_parser_reader.specs.Reader.{decorated_in, told, named, items, closes, close, declarators, declaration_end, stray, link, link_from, condition, alternative, head, clauses, target, unbroken, uncontinued, operand, braced, handler, finalizer, handled, optional_end, note_with, await_here, unless_awaited, Opening, as_init, as_left, opening, head_part, misdeclared, misdirected, labelled_body, relabels, no_label, note_statement, empty, debugger, variables, block, block_from, stmt_end, expr_stmt, expr_stmt_at, import_stmt_at, thrown, throw, while_stmt, with_stmt, do_while, for_parts, for_in, for_of, for_behind, for_stmt, goes_on, links, if_stmt, break_stmt, continue_stmt, returned, return_stmt, misplaced, begins_label, labeled_stmt, other_stmt, switch_stmt, try_stmt, function_word, function_body, function_parts, function_decl, function_stmt, const_stmt, let_stmt, async_or_other, stmt_by, stmt_level, stmt, top_await_fault, top_await, whole_stmt, expr, head_cover, pattern, member, misusing, using_from, using_stmt, using_or_other, await_using_stmt, plain_stmt}
 use Rattle.swc_ecma_parser_reader.specs.Entry.{last_span, are_errors, TakesSome, TakesErrors, Taken, is_stray, errors_behind, dropped_behind, StandsAt, IsBehind}
 use Rattle.swc_ecma_parser_reader.proofs.Takes.{Falls}
 use Rattle.swc_ecma_parser_reader.proofs.Falls.{stmt_falls, stmt_level_falls, expr_falls, pattern_falls, head_cover_falls, parameters_fall, member_falls, decorated_in_falls, declarators_fall}
 use Rattle.swc_ecma_parser_reader.proofs.Meets.{Answers, Meets, Refuses, answers_then, answers_if, always, meets_then, meets_if, wanted_meets, too_deep_meets, refuse_meets, meant, saw}
 use Rattle.swc_ecma_parser_reader.proofs.Errors.{is_error, fault_here}
-use Rattle.swc_ecma_parser_reader.proofs.Behind.{NothingLost, Kept, Lost, Passes, flagged_kept, behind_self, behind_next, behind_then, behind_after, end_keeps, expect_keeps, name_keeps, fault_keeps}
+use Rattle.swc_ecma_parser_reader.proofs.Behind.{NothingLost, Kept, Lost, Passes, flagged_kept, behind_self, behind_after, end_keeps, expect_keeps, name_keeps, fault_keeps}
 use Rattle.swc_ecma_parser_reader.proofs.Words.{async_parts}
 use Rattle.swc_ecma_parser_reader.proofs.KeepsParts.{target_keeps}
-use Rattle.swc_ecma_parser_reader.proofs.Keeps.{loses_nothing, function_params_keep, function_body_keep, parameters_keep, stmt_keeps, level_keeps, head_cover_keeps, expr_keeps, member_keeps, operators_keep, declarators_keeps, pattern_keeps, decorated_in_keeps, declarators_keeps_all}
+use Rattle.swc_ecma_parser_reader.proofs.Keeps.{loses_nothing, function_params_keep, function_body_keep, parameters_keep, stmt_keeps, level_keeps, head_cover_keeps, expr_keeps, member_keeps, operators_keep, pattern_keeps, decorated_in_keeps, declarators_keeps_all}
 use Rattle.swc_ecma_parser_reader.proofs.decorators.Declared.{declared_is_bare, first_declares}
 use Rattle.swc_ecma_parser_reader.proofs.decorators.Spans.{StandsPlainly, either_stands}
 use Rattle.swc_ecma_parser_reader.proofs.SoundParts.{after_return_meets}
@@ -275,16 +275,18 @@ module _ (inner : Position → Reader Tree) (inner_expr : Class → Reader Tree)
   for_ends s = always _ (await_here (moved s)) _ (λ word v. always _ (expect kind.LParen v) _ (λ _ t.
       always _ (opening inner_expr inner_pat inner_head (is_some word) t) _ (λ o u. for_behind_ends s.at word o u)))
 
-  import_ends : (s : State) → Meets (Ends s.at) (import_stmt_at (inner_expr expression) s)
-  unfolding import_stmt_at import_stmt
-  import_ends s = meets_if _ (begins_import_expression s.at) _ _
-      (λ _. always _ (within with_in (inner_expr expression) s) _ (λ x t. always _ (optional_end t) _ (λ _ u. inl refl))) (λ _. refuse_meets _ faults.ImportExportInScript s)
+  expression_ends : (s : State) → Meets (Ends s.at) (expr_stmt (inner_expr expression) inner_operators s)
+  unfolding expr_stmt
+  expression_ends s = always _ (within with_in (inner_expr expression) s) _ (λ x t. always _ (no_label x t) _ (λ _ u. always _ (note_statement x u) _ (λ _ v.
+      always _ (stmt_end inner_operators (span_at s.at) x v) _ (λ _ o. inl refl))))
+
+  import_ends : (s : State) → Meets (Ends s.at) (import_stmt_at (inner_expr expression) inner_operators s)
+  unfolding import_stmt_at
+  import_ends s = meets_if _ (begins_import_expression s.at) _ _ (λ _. expression_ends s) (λ _. refuse_meets _ faults.ImportExportInScript s)
 
   expr_ends : (at : Position) (s : State) → Meets (Ends s.at) (expr_stmt_at (inner_expr expression) inner_operators at s)
-  unfolding expr_stmt_at expr_stmt
-  expr_ends at s = meets_if _ (may_begin_expression_statement at s.at) _ _
-      (λ _. always _ (within with_in (inner_expr expression) s) _ (λ x t. always _ (no_label x t) _ (λ _ u. always _ (note_statement x u) _ (λ _ v.
-      always _ (stmt_end inner_operators (span_at s.at) x v) _ (λ _ o. inl refl))))) (λ _. wanted_meets _ faults.Unexpected s)
+  unfolding expr_stmt_at
+  expr_ends at s = meets_if _ (may_begin_expression_statement at s.at) _ _ (λ _. expression_ends s) (λ _. wanted_meets _ faults.Unexpected s)
 
   -- a class ends with its `}`, from its name on and from its word on
   class_parts_end : (c : Place) (s : State) → Meets (Spans c) (class_parts (inner_expr left_side) inner_member (span_at c) s)
@@ -383,11 +385,8 @@ module _ (inner : Position → Reader Tree) (inner_expr : Class → Reader Tree)
 
     using_ends : (s : State) → Meets (Ends s.at) (using_stmt (declarators inner_expr inner_pat false decl.Var) s)
     unfolding using_stmt using_from misusing spanned
-    using_ends s = let b = moved s in
-        meets_then _ (within with_in (declarators inner_expr inner_pat false decl.Var) b) _
-        (kept b (within with_in (declarators inner_expr inner_pat false decl.Var) b) (answers_then (Kept b) _ (declarators inner_expr inner_pat false decl.Var (coded (with_in s.code) b)) _
-        (declarators_keeps inner_expr inner_pat below_expr below_pat b false decl.Var (coded (with_in s.code) b) (behind_self b)) (λ x t k. flagged_kept b b t (behind_self b) k))) (λ xs t k.
-        meets_then _ (misusing (record { lo = (span_at s.at).lo; hi = t.at.last.hi }) xs t) _ (told_errs _ t) (λ _ u z. inr (inl (t.at, refl, (k.0.read, k.0.tokens, k.0.last), z))))
+    using_ends s = always _ (within with_in (declarators inner_expr inner_pat false decl.Var) (moved s)) _ (λ xs t.
+        always _ (misusing (record { lo = (span_at s.at).lo; hi = t.at.last.hi }) xs t) _ (λ _ u. always _ (end faults.Expected u) _ (λ _ v. inl refl)))
 
     using_or_other_ends : (at : Position) (s : State) → Meets (Ends s.at) (using_or_other inner inner_expr inner_pat inner_head inner_params inner_member inner_operators at s)
     unfolding using_or_other
@@ -432,12 +431,8 @@ module _ (inner : Position → Reader Tree) (inner_expr : Class → Reader Tree)
 
     await_using_ends : (s : State) → Meets (Ends s.at) (await_using_stmt (declarators inner_expr inner_pat false decl.Var) s)
     unfolding await_using_stmt using_from misusing spanned
-    await_using_ends s = let b = moved s in let i = moved b in
-        meets_then _ (within with_in (declarators inner_expr inner_pat false decl.Var) i) _
-        (kept i (within with_in (declarators inner_expr inner_pat false decl.Var) i) (answers_then (Kept i) _ (declarators inner_expr inner_pat false decl.Var (coded (with_in s.code) i)) _
-        (declarators_keeps inner_expr inner_pat below_expr below_pat i false decl.Var (coded (with_in s.code) i) (behind_self i)) (λ x t k. flagged_kept i i t (behind_self i) k))) (λ xs t k.
-        let j = behind_then b i t (behind_next b b (behind_self b).0) k.0 in
-        meets_then _ (misusing (record { lo = (span_at s.at).lo; hi = t.at.last.hi }) xs t) _ (told_errs _ t) (λ _ u z. inr (inl (t.at, refl, (j.read, j.tokens, j.last), z))))
+    await_using_ends s = always _ (within with_in (declarators inner_expr inner_pat false decl.Var) (moved (moved s))) _ (λ xs t.
+        always _ (misusing (record { lo = (span_at s.at).lo; hi = t.at.last.hi }) xs t) _ (λ _ u. always _ (end faults.Expected u) _ (λ _ v. inl refl)))
 
 -- ---- a statement on its tokens
 

@@ -18,7 +18,7 @@ use Rattle.swc_ecma_parser_grammar.specs.ReadsSupported.{ReadsTop}
 use Rattle.swc_ecma_parser_grammar.specs.Walk.{walk, env_of}
 use Rattle.swc_ecma_parser_grammar.specs.language.Programs.{at_top, entry_code, ReadsEntry}
 use Rattle.swc_ecma_parser_grammar.proofs.StatementEntries.{ReadsStatement, statement_widens, statement_narrows}
-use Rattle.swc_ecma_parser_reader.specs.State.{State, Outcome, wanted, too_deep}
+use Rattle.swc_ecma_parser_reader.specs.State.{State, Outcome, wanted, too_deep, fault_at, end_of}
 use Rattle.swc_ecma_parser_grammar.specs.language.Begins.{awaits}
 use Rattle.swc_ecma_parser_reader.specs.Expressions.{literal, marked_primary, primary, left_head, left, postfix, unary_expr, binary_expr, operators_expr, done_expr, cover_expr, assignment_expr, expression_expr, expr_level, plain_expr}
 use Rattle.swc_ecma_parser_reader.specs.Yields.{begins_yield}
@@ -126,24 +126,28 @@ whole_of_error_token n include_decl top_level s t ts e h g =
 
 -- at the end of the list a statement is wanted
 abbrev Ended : ℕ → Position → State → Type 0
-Ended n at s = (f : Fault) × (u : State) × (f.kind ≡ faults.Eof) × (stmt n at s ≡ Err (f, u))
+Ended n at s = (u : State) × (stmt n at s ≡ Err (fault_at (end_of s.at.last) faults.Eof, u)) × (u.at ≡ s.at) × (u.faults ≡ s.faults)
 
 ended_in : (n : ℕ) (include_decl top_level : Bool) (s : State) → Ended n (at_top include_decl top_level) (before s [])
 unfolding stmt either_stmt await_using_or is_await_using_declaration stmt_level other_stmt begins_label expr_stmt_at expr_stmt expr expr_level expression_expr assignment_expr cover_expr done_expr plain_expr begins_yield begins_named_arrow begins_async_arrow begins_async_call operators_expr binary_expr unary_expr awaits postfix left left_head primary literal marked_primary wanted too_deep kind_at same_kind identifier_at may_begin_expression_statement is_async_function is_let_declaration word_at
-ended_in zero include_decl top_level s = (_, _, refl, refl)
-ended_in (suc zero) true top_level s = (_, _, refl, refl)
-ended_in (suc zero) false top_level s = (_, _, refl, refl)
-ended_in (suc (suc n)) true top_level s = (_, _, refl, refl)
-ended_in (suc (suc n)) false top_level s = (_, _, refl, refl)
+ended_in zero include_decl top_level s = (_, refl, refl, refl)
+ended_in (suc zero) true top_level s = (_, refl, refl, refl)
+ended_in (suc zero) false top_level s = (_, refl, refl, refl)
+ended_in (suc (suc n)) true top_level s = (_, refl, refl, refl)
+ended_in (suc (suc n)) false top_level s = (_, refl, refl, refl)
+
+at_no_token : (s : State) → s.at.left ≡ [] → before s [] ≡ s
+at_no_token s h = ap (before s) (sym h)
 
 stmt_at_end : (n : ℕ) (include_decl top_level : Bool) (s : State) → s.at.left ≡ [] → Ended n (at_top include_decl top_level) s
-stmt_at_end n include_decl top_level s h = subst (λ l. Ended n (at_top include_decl top_level) (before s l)) (sym h) (ended_in n include_decl top_level s)
+stmt_at_end n include_decl top_level s h = subst (Ended n (at_top include_decl top_level)) (at_no_token s h) (ended_in n include_decl top_level s)
 
 -- so is one that stands in no other
-whole_at_end : (n : ℕ) (include_decl top_level : Bool) (s : State) → s.at.left ≡ [] → (f : Fault) × (u : State) × (f.kind ≡ faults.Eof) × (whole_stmt n (at_top include_decl top_level) s ≡ Err (f, u))
+pub whole_at_end : (n : ℕ) (include_decl top_level : Bool) (s : State) → s.at.left ≡ []
+    → (u : State) × (whole_stmt n (at_top include_decl top_level) s ≡ Err (fault_at (end_of s.at.last) faults.Eof, u)) × (u.at ≡ s.at) × (u.faults ≡ s.faults)
 unfolding same_kind
 whole_at_end n include_decl top_level s h =
-    let p = stmt_at_end n include_decl top_level s h in (p.0, p.1, p.2, read_as_any n (at_top include_decl top_level) s kind.End (ended s.at h) refl ∙ p.3)
+    let p = stmt_at_end n include_decl top_level s h in (p.0, read_as_any n (at_top include_decl top_level) s kind.End (ended s.at h) refl ∙ p.1, p.2, p.3)
 
 -- ---- what is answered
 
@@ -201,8 +205,7 @@ module _ (X : Type 0) (view : X → Tree) (limit : ℕ) (include_decl top_level 
   -- at the end of the list no statement is read
   pub statement_at_end : (r : Result X Error) (t : State) → AnswersStatement view limit include_decl top_level s r t → s.at.left ≡ []
       → IsErrAnd r (λ e. kind_of e.kind ≢ faults.OutOfMemory → kind_of e.kind ≡ faults.Eof)
-  statement_at_end (Ok x) t h l = let p = whole_at_end limit include_decl top_level s l in never_both p.0 p.1 (view x) t p.3 h
+  statement_at_end (Ok x) t h l = let p = whole_at_end limit include_decl top_level s l in never_both (fault_at (end_of s.at.last) faults.Eof) p.0 (view x) t p.1 h
   statement_at_end (Err x) t h l = λ n.
       let p = whole_at_end limit include_decl top_level s l in
-      let q = h n in
-      let e : fault_of x ≡ p.0 = same_refusal x p.0 q.0 p.1 q.1 p.3 in ap (λ f. f.kind) e ∙ p.2
+      let q = h n in ap (λ f. f.kind) (same_refusal x (fault_at (end_of s.at.last) faults.Eof) q.0 p.0 q.1 p.1)

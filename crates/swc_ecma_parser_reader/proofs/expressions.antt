@@ -24,6 +24,7 @@ pub mod CompleteAsync
 pub mod Complete
 pub mod HeadEnds
 pub mod SoundSteps
+pub mod NoBlocks
 pub mod SoundLists
 pub mod SoundCovers
 pub mod SoundLefts

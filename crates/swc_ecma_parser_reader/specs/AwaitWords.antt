@@ -1,6 +1,6 @@
 -- What begins with `await` before `using` at the beginning of a statement, from behind `await` on: a declaration of the proposal on
 -- explicit resource management, or an expression statement, ECMA-262, section 14.5.
-use Rattle.std.specs.Prelude.{ℕ, zero, suc, Bool, true, false, ◌&&◌, ◌||◌, if◌then◌else◌, Ok, codes}
+use Rattle.std.specs.Prelude.{ℕ, zero, suc, Bool, true, false, not, ◌&&◌, ◌||◌, if◌then◌else◌, Ok, codes}
 use Rattle.swc_ecma_parser_common.specs.declared.span.Span.{Span}
 use Rattle.swc_ecma_parser_token.specs.declared.kind.TokenKind.TheVariants as kind
 use Rattle.swc_ecma_parser_input.specs.Place.{Place, after}
@@ -8,7 +8,7 @@ use Rattle.swc_ecma_parser_model.specs.declared.leaves.VarDeclKind.TheVariants a
 use Rattle.swc_ecma_parser_model.specs.Tree as tree
 use Rattle.swc_ecma_parser_model.specs.Tree.{Tree}
 use Rattle.swc_ecma_parser_grammar.specs.declared.position.Position.{Position}
-use Rattle.swc_ecma_parser_grammar.specs.Looks.{sees}
+use Rattle.swc_ecma_parser_grammar.specs.Looks.{sees, breaks_at}
 use Rattle.swc_ecma_parser_grammar.specs.Follows.{word_at}
 use Rattle.swc_ecma_parser_grammar.specs.Reads.{with_in}
 use Rattle.swc_ecma_parser_grammar.specs.Using.{is_using_declaration}
@@ -18,9 +18,9 @@ use Rattle.swc_ecma_parser_reader.specs.Expressions.{Cover, done, await_allowed,
 use Rattle.swc_ecma_parser_reader.specs.Reader.{declarators, no_label, note_statement, stmt_end, using_from, expr, cover, pattern, operators, function}
 use Rattle.swc_ecma_parser_reader.specs.State.{Reader, pure, since, within, too_deep, ◌>>=◌, ◌>>◌}
 
--- where such a statement begins
+-- where such a statement begins: the two words stand on one line
 unfoldable pub begins_await_using : Position → Place → Bool
-begins_await_using at c = (at.include_decl || at.top_level) && (sees kind.Await c && word_at (codes "using") (after c))
+begins_await_using at c = (at.include_decl || at.top_level) && (sees kind.Await c && (word_at (codes "using") (after c) && not (breaks_at (after c))))
 
 module _ (inner : Class → Reader Tree) (covers : Reader Cover) (function : FunctionForm → Reader Tree) (start : Span) where
   -- its operand

@@ -11,7 +11,7 @@ use Rattle.swc_ecma_parser_grammar.specs.Looks.{sees, span_at}
 use Rattle.swc_ecma_parser_grammar.specs.Names.{name_at}
 use Rattle.swc_ecma_parser_grammar.specs.Follows.{is_async_function}
 use Rattle.swc_ecma_parser_grammar.specs.Parameters as formal
-use Rattle.swc_ecma_parser_grammar.specs.Reads.{with_in, directed}
+use Rattle.swc_ecma_parser_grammar.specs.Reads.{with_in, directed, directs_on}
 use Rattle.swc_ecma_parser_grammar.specs.Own.{misplaced_directive}
 use Rattle.swc_ecma_parser_grammar.specs.language.Contexts.{named_by, in_parameters, in_body, in_arrow}
 use Rattle.swc_ecma_parser_reader.specs.Jumps.{told}
@@ -34,7 +34,7 @@ close = λ s. if sees kind.RBrace s.at then skip s else fault (fault_at (span_at
 -- whether a statement behind these can be a directive
 abbrev pub directs : Bool → List Tree → Bool
 directs directives [] = directives
-directs directives (x ∷ xs) = false
+directs directives (x ∷ xs) = directs (directs_on directives x) xs
 
 abbrev pub after_item : Bool → List Tree → Tree → Reader (Step (List Tree) (List Tree))
 after_item directives found x = λ s. Ok (More (found ++ x ∷ []), coded (directed s.code (directs directives found) x) s)
@@ -153,6 +153,6 @@ module _ (stmt : Reader Tree) (params : Reader (List Tree)) where
     fn ← function_parts is_async is_generator start
     pure (tree.method_prop (span_of fn) key fn)
 
-  -- the block of an arrow function, which has no directives, but labels and an entry of its own
+  -- the block of an arrow function, which has labels and an entry of its own
   unfoldable pub arrow_block : (is_async : Bool) → Reader Tree
-  arrow_block is_async = within (λ k. with_in (in_arrow k is_async)) (enclosed (braced stmt false))
+  arrow_block is_async = within (λ k. with_in (in_arrow k is_async)) (enclosed (braced stmt true))

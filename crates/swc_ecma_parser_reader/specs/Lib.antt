@@ -24,3 +24,4 @@ pub mod AwaitWords
 pub mod DecoratorLevels
 pub mod Entry
 pub mod Limits
+pub mod Calls

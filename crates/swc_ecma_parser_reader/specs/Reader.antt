@@ -1,5 +1,5 @@
 -- The reader, rule by rule.
-use Rattle.std.specs.Prelude.{ℕ, zero, suc, Bool, true, false, ◌&&◌, ◌||◌, if◌then◌else◌, List, [], ◌∷◌, ◌++◌, length, codes, Option, Some, None, is_some, Ok}
+use Rattle.std.specs.Prelude.{ℕ, zero, suc, Bool, true, false, not, ◌&&◌, ◌||◌, if◌then◌else◌, List, [], ◌∷◌, ◌++◌, length, codes, Option, Some, None, is_some, Ok}
 use Rattle.swc_ecma_parser_common.specs.declared.span.Span.{Span}
 use Rattle.swc_ecma_parser_error.specs.Kind as faults
 use Rattle.swc_ecma_parser_token.specs.declared.kind.TokenKind.{TokenKind}
@@ -145,24 +145,15 @@ module _ (expr : Reader Tree) (operators : Span → Tree → Reader Tree) where
   unfoldable pub expr_stmt_at : Position → Reader Tree
   expr_stmt_at at = λ s. if may_begin_expression_statement at s.at then expr_stmt s else wanted faults.Unexpected s
 
+  -- `import` begins no other statement
+  unfoldable pub import_stmt_at : Reader Tree
+  import_stmt_at = λ s. if begins_import_expression s.at then expr_stmt s else refuse faults.ImportExportInScript s
+
+-- ---- `throw`, `while` and `do`
+
 -- an end that nothing demands
 unfoldable pub optional_end : Reader (Unit {0})
 optional_end = λ s. if sees kind.Semi s.at then Ok (tt, moved s) else Ok (tt, s)
-
-module _ (expr : Reader Tree) where
-  unfoldable pub import_stmt : Reader Tree
-  import_stmt = do
-    start ← here
-    x ← within with_in expr
-    optional_end
-    span ← spanned_from start
-    pure (tree.expr_stmt span x)
-
-  -- `import` begins no other statement
-  unfoldable pub import_stmt_at : Reader Tree
-  import_stmt_at = λ s. if begins_import_expression s.at then import_stmt s else refuse faults.ImportExportInScript s
-
--- ---- `throw`, `while` and `do`
 
 module _ (expr : Reader Tree) where
   unfoldable pub thrown : Place → Reader Tree
@@ -251,6 +242,10 @@ as_left (Resource x) = pure x
 as_left (Named p) = pure p
 as_left (Expression v) = exprs.target v
 
+-- `await` before what may be `using`, which stands on its line
+unfoldable pub begins_await_head : Place → Bool
+begins_await_head c = sees kind.Await c && not (breaks_at (after c))
+
 -- nothing is declared with `using` before `in`
 unfoldable pub undeclared : Span → Reader (Unit {0})
 undeclared span = λ s. told (only (sees kind.In s.at) faults.UsingDeclNotAllowedForForInLoop span) s
@@ -318,7 +313,7 @@ module _ (expr : Class → Reader Tree) (pat : Reader Tree) where
         else if sees kind.Const s.at then head_variables decl.Const s
         else if is_let_declaration s.at then head_variables decl.Let s
         else if may_declare_using s.code s.at then named_head s
-        else if sees kind.Await s.at then await_head s
+        else if begins_await_head s.at then await_head s
         else head_target is_await s
 
 -- a part of a head, unless what stands behind it does
@@ -657,8 +652,8 @@ module _ (stmt : Position → Reader Tree) (expr : Class → Reader Tree) (pat :
   stmt_by at kind.Function = function_stmt (stmt nested_item) params at
   stmt_by at kind.Class = class_stmt (expr left_side) member at
   stmt_by at kind.Ident = async_or_other at
-  stmt_by at kind.Import = import_stmt_at (expr expression)
-  stmt_by at kind.Export = import_stmt_at (expr expression)
+  stmt_by at kind.Import = import_stmt_at (expr expression) operators
+  stmt_by at kind.Export = import_stmt_at (expr expression) operators
   stmt_by at _ = other_stmt stmt (expr expression) operators at
 
   -- without decorators

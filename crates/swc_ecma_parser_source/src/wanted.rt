@@ -5,7 +5,7 @@ ghost use Rattle.swc_ecma_parser_error.specs.Kind.{kind_of};
 ghost use Rattle.swc_ecma_parser_source.specs.Wanted.{wanted_kind};
 
 use std::alloc::{AllocError, Global};
-use swc_ecma_parser_common::{Atom, Span};
+use swc_ecma_parser_common::Span;
 use swc_ecma_parser_error::SyntaxError;
 use swc_ecma_parser_token::Token;
 
@@ -78,22 +78,18 @@ pub fn missing(
 {
     let kind = match wanted {
         Wanted::Name => SyntaxError::ExpectedIdent,
-        Wanted::Expression => SyntaxError::Unexpected {
-            got: Atom::new(alloc, text_of(found))?,
-            expected: Atom::new(alloc, "an expression")?,
-        },
-        Wanted::StringLiteral => SyntaxError::Unexpected {
-            got: Atom::new(alloc, text_of(found))?,
-            expected: Atom::new(alloc, "a string literal")?,
-        },
-        Wanted::Member => SyntaxError::Unexpected {
-            got: Atom::new(alloc, text_of(found))?,
-            expected: Atom::new(alloc, "* for generator, private key, identifier or async")?,
-        },
-        Wanted::Token(spelling) => SyntaxError::Expected(
-            Atom::new(alloc, spelling)?,
-            Atom::new(alloc, text_of(found))?,
-        ),
+        Wanted::Expression => SyntaxError::unexpected(alloc, "an expression", text_of(found))?,
+        Wanted::StringLiteral => SyntaxError::unexpected(
+            alloc,
+            "a string literal",
+            text_of(found),
+        )?,
+        Wanted::Member => SyntaxError::unexpected(
+            alloc,
+            "* for generator, private key, identifier or async",
+            text_of(found),
+        )?,
+        Wanted::Token(spelling) => SyntaxError::expected(alloc, spelling, text_of(found))?,
         Wanted::EndOfExpression(expr) => SyntaxError::ExpectedSemiForExprStmt { expr },
     };
     Ok(kind)

@@ -3,3 +3,4 @@ pub mod Taken
 pub mod Contexts
 pub mod Words
 pub mod Rejects
+mod Underway

@@ -2,3 +2,4 @@ pub mod View
 pub mod FirstError
 pub mod Taken
 pub mod Opened
+pub mod CallView

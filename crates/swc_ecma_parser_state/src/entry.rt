@@ -1,19 +1,17 @@
-//! How a state is made, given back and set right again.
+//! How a state is made and given back, and how a call begins.
 
-ghost use Rattle.std.specs.Prelude.{◌≡◌, ◌||◌, ◌++◌, false, List, [], None, length, drop, map, IfOk, IfErr};
-ghost use Rattle.swc_ecma_parser_error.specs.Kind.{Fault, faults_of, IsOutOfMemory};
-ghost use Rattle.swc_ecma_parser_grammar.specs.Entries.{script_code};
-ghost use Rattle.swc_ecma_parser_grammar.specs.Notes.{as_note};
-ghost use Rattle.swc_ecma_parser_grammar.specs.language.Contexts.{in_module};
-ghost use Rattle.swc_ecma_parser_grammar.specs.language.Programs.{entry_code, «module», program};
+ghost use Rattle.std.specs.Prelude.{◌≡◌, ◌||◌, false, [], length, drop, IfOk, IfErr};
+ghost use Rattle.swc_ecma_parser_error.specs.Kind.{faults_of, IsOutOfMemory};
 ghost use Rattle.swc_ecma_parser_input.specs.Place as place;
+ghost use Rattle.swc_ecma_parser_input.specs.Setting.{setting_of};
 ghost use Rattle.swc_ecma_parser_reader.specs.Notes.{held_of};
-ghost use Rattle.swc_ecma_parser_reader.specs.Entry.{unmarked, IsLater};
-ghost use Rattle.swc_ecma_parser_reader.specs.State as reader;
-ghost use Rattle.swc_ecma_parser_state.specs.Opened.{opened};
+ghost use Rattle.swc_ecma_parser_reader.specs.State.{end_of};
+ghost use Rattle.swc_ecma_parser_state.specs.Opened.{opened, begun, mark_ahead};
 
-use crate::state::State;
+use crate::call::no_memory;
+use crate::state::{Call, Origin, State};
 use std::alloc::{AllocError, Global};
+use std::marker::PhantomData;
 use swc_ecma_parser_common::{Atom, Comment};
 use swc_ecma_parser_error::{Error, PResult};
 use swc_ecma_parser_input::{Buffer, CommentSource, Context, Tokens};
@@ -38,6 +36,13 @@ impl<I: Tokens> State<I> {
         }
     }
 
+    /// What stands around.
+    pub fn flags(&self) -> Context
+        ensures { result ≡ self.now.code.flags }
+    {
+        self.buffer.ctx()
+    }
+
     /// The labels around.
     pub fn labels(&self) -> &[Atom]
         ensures { result.now ≡ self.now.scope.labels }
@@ -52,7 +57,7 @@ impl<I: Tokens> State<I> {
         self.found_module_item
     }
 
-    /// What the call has met that no recovery may hide.
+    /// What the last call met that no recovery may hide.
     pub fn mark(&self) -> Option<Mark>
         ensures { result ≡ self.now.scope.mark }
     {
@@ -74,13 +79,18 @@ impl<I: Tokens> State<I> {
         self.buffer.take_errors()
     }
 
-    /// An equal state over an equal source, or a fault of kind `OutOfMemory`.
+    /// An equal state over an equal source, or a fault of kind `OutOfMemory` at the end of what was read last.
     pub fn try_clone(&self) -> PResult<State<I>>
         ensures ok { IfOk result (λ it. it ≡ self.now) }
         ensures err { IfErr result IsOutOfMemory }
+        ensures place { IfErr result (λ e. e.span ≡ end_of self.now.at.last) }
     {
-        let buffer = self.buffer.try_clone()?;
-        let labels = copied(&self.labels)?;
+        let Ok(buffer) = self.buffer.try_clone() else {
+            return Err(no_memory(self.buffer.last_span()));
+        };
+        let Ok(labels) = copied(&self.labels) else {
+            return Err(no_memory(self.buffer.last_span()));
+        };
         Ok(State {
             buffer,
             labels,
@@ -91,6 +101,7 @@ impl<I: Tokens> State<I> {
 
     /// The source, without the tokens that were read ahead: at most two.
     pub fn into_input(self) -> I
+        ensures syntax { setting_of (I.seen result).syntax ≡ self.code.setting }
         ensures left { (I.seen result).left ≡ drop 2 self.at.left }
         ensures context { (I.seen result).context ≡ self.code.flags }
         ensures faults { faults_of (I.seen result).recorded ≡ self.faults }
@@ -105,94 +116,35 @@ impl<I: Tokens> State<I> {
         buffer.into_input()
     }
 
-    /// Begins a call: nothing is marked.
-    pub fn begin(&mut self)
-        ensures { self.new ≡ unmarked self.old }
+    /// What is marked as a call begins.
+    fn mark_ahead(&self) -> Option<Mark>
+        ensures { result ≡ mark_ahead self.now.at }
     {
-        self.mark = None;
+        if self.lacks_memory() {
+            return Some(Mark::OutOfMemory);
+        }
+        None
     }
 
-    /// Begins code that is no module's.
-    pub fn enter_script(&mut self)
-        ensures { self.new ≡ reader.coded (script_code self.old.code) self.old }
+    /// Begins a call: nothing is marked, but that memory ran out for one of the two tokens that were read ahead.
+    pub fn begin<O: Origin>(self) -> Call<O, I>
+        requires { O.start ≡ self }
+        ensures { result ≡ begun self }
     {
-        let flags = self.buffer.ctx();
-        self.buffer.set_ctx(Context {
-            module: false,
-            ..flags
-        });
-    }
-
-    /// Begins module code: what was held back is recorded.
-    pub fn enter_module(&mut self)
-        ensures code { self.new.code ≡ entry_code «module» self.old.code }
-        ensures at { self.new.at ≡ self.old.at }
-        ensures scope { self.new.scope ≡ self.old.scope }
-        ensures found { self.new.notes ≡ record self.old.notes { held_back = [] } }
-        ensures faults { (recorded : List Fault) × (self.new.faults ≡ self.old.faults ++ recorded) × (map as_note recorded ≡ self.old.notes.held_back) }
-    {
-        let flags = self.buffer.ctx();
-        self.buffer.set_ctx(Context {
-            module: true,
-            can_be_module: true,
-            strict: true,
-            ..flags
-        });
-    }
-
-    /// Turns the code into a module's, where an import or an export begins: what was held back is recorded.
-    pub fn turn_module(&mut self)
-        ensures code { self.new.code ≡ in_module self.old.code }
-        ensures at { self.new.at ≡ self.old.at }
-        ensures scope { self.new.scope ≡ self.old.scope }
-        ensures found { self.new.notes ≡ record self.old.notes { held_back = [] } }
-        ensures faults { (recorded : List Fault) × (self.new.faults ≡ self.old.faults ++ recorded) × (map as_note recorded ≡ self.old.notes.held_back) }
-    {
-        let before = self.buffer.ctx();
-        self.buffer.set_ctx(Context {
-            module: true,
-            strict: true,
-            ..before
-        });
-    }
-
-    /// Begins code that can become a module's.
-    pub fn enter_program(&mut self)
-        ensures { self.new ≡ reader.coded (entry_code program self.old.code) self.old }
-    {
-        let outer = self.buffer.ctx();
-        self.buffer.set_ctx(Context {
-            can_be_module: true,
-            ..outer
-        });
-    }
-
-    /// Sets a context of the same goal, script or module.
-    pub fn leave_program(&mut self, outer: Context)
-        ensures { outer.module ≡ self.old.code.flags.module → self.new ≡ reader.coded (record self.old.code { flags = outer }) self.old }
-    {
-        self.buffer.set_ctx(outer);
-    }
-
-    /// Sets a context of code that is no module's.
-    pub fn leave_script(&mut self, flags: Context)
-        requires { flags.module ≡ false }
-        ensures { self.new ≡ reader.coded (record self.old.code { flags = flags }) self.old }
-    {
-        self.buffer.set_ctx(flags);
-    }
-
-    /// After a refusal: this context and note, and no labels.
-    pub fn restore(&mut self, flags: Context, found_module_item: bool)
-        ensures flags { self.new.code.flags ≡ flags }
-        ensures scope { self.new.scope ≡ record self.old.scope { labels = [] } }
-        ensures noted { self.new.notes.found_module_item ≡ found_module_item }
-        ensures at { self.new.at ≡ self.old.at }
-        ensures faults { IsLater self.old.faults self.new.faults }
-    {
-        self.labels.clear();
-        self.found_module_item = found_module_item;
-        self.buffer.set_ctx(flags);
+        let mark = self.mark_ahead();
+        let State {
+            buffer,
+            labels,
+            found_module_item,
+            mark: _,
+        } = self;
+        Call {
+            buffer,
+            labels,
+            found_module_item,
+            mark,
+            origin: PhantomData,
+        }
     }
 }
 

@@ -8,12 +8,12 @@ ghost use Rattle.swc_ecma_parser_grammar.specs.Names as names;
 ghost use Rattle.swc_ecma_parser_input.specs.Place as place;
 ghost use Rattle.swc_ecma_parser_state.specs.Taken as taken;
 
-use crate::state::State;
+use crate::state::{Call, Origin};
 use swc_ecma_parser_input::Tokens;
 use swc_ecma_parser_source::{Source, follows_let, is_bin_op, is_identifier, is_name};
 use swc_ecma_parser_token::{Token, TokenAndSpan, TokenKind};
 
-impl<I: Tokens> State<I> {
+impl<O: Origin, I: Tokens> Call<O, I> {
     /// Whether a statement may end here without `;`: ECMA-262, section 12.10.
     #[tactic(auto, unfolding(swc_ecma_parser_grammar::specs::Ends::can_end))]
     pub(crate) fn can_end(&self) -> bool

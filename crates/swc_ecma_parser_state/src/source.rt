@@ -1,7 +1,7 @@
 //! The state as what the rules read from: what they ask of the tokens that stand next, and the steps that every rule is made of.
 
 use crate::entry::copied;
-use crate::state::State;
+use crate::state::{Call, Origin};
 use crate::steps::literal_of;
 use std::alloc::Global;
 use std::mem;
@@ -17,7 +17,7 @@ use swc_ecma_parser_source::{
 };
 use swc_ecma_parser_token::{Token, TokenAndSpan, TokenKind, Word};
 
-impl<I: Tokens> Source for State<I> {
+impl<O: Origin, I: Tokens> Source for Call<O, I> {
     ghost seen = { λ s. s };
 
     #[tactic(auto, unfolding(swc_ecma_parser_grammar::specs::Looks::kind_at))]
@@ -308,7 +308,7 @@ impl<I: Tokens> Source for State<I> {
     }
 
     fn wanted(&mut self, wanted: Wanted) -> Error {
-        State::wanted(self, wanted)
+        Call::wanted(self, wanted)
     }
 
     #[tactic(auto, using(crate::proofs::Rejects::reject_plain, crate::proofs::Rejects::reject_recorded, crate::proofs::Rejects::reject_failed))]
@@ -324,7 +324,7 @@ impl<I: Tokens> Source for State<I> {
     }
 
     fn refuse_as(&mut self, kind: SyntaxError) -> Error {
-        State::refuse_as(self, kind)
+        Call::refuse_as(self, kind)
     }
 
     #[tactic(auto, using(crate::proofs::Primitives::deep_error, crate::proofs::Primitives::deep_end, crate::proofs::Primitives::deep_plain))]
@@ -336,7 +336,10 @@ impl<I: Tokens> Source for State<I> {
             Err(error) => error,
             Ok(Some(error)) => error,
             Ok(None) => {
-                self.mark = Some(Mark::TooDeep);
+                if matches!(self.mark, Some(Mark::OutOfMemory)) {
+                    return Call::out_of_memory(self);
+                }
+                self.mark_depth();
                 Error {
                     span: self.span(),
                     kind: SyntaxError::TooDeep,
@@ -346,7 +349,7 @@ impl<I: Tokens> Source for State<I> {
     }
 
     fn out_of_memory(&mut self) -> Error {
-        State::out_of_memory(self)
+        Call::out_of_memory(self)
     }
 
     fn is_marked(&self) -> bool {

@@ -16,7 +16,8 @@ ghost use Rattle.swc_ecma_parser_state.specs.Taken as taken;
 ghost use Rattle.swc_ecma_parser_source.specs.Wanted.{wanted_kind};
 ghost use Rattle.swc_ecma_parser_token.specs.Text.{word_text};
 
-use crate::state::State;
+use crate::call::no_memory;
+use crate::state::{Call, Origin};
 use swc_ecma_parser_common::{Atom, Span};
 use swc_ecma_parser_error::{Error, PResult, SyntaxError};
 use swc_ecma_parser_input::Tokens;
@@ -25,21 +26,15 @@ use swc_ecma_parser_reader::Mark;
 use swc_ecma_parser_source::{Literal, Source, Wanted, missing};
 use swc_ecma_parser_token::{Token, TokenAndSpan, Word};
 
-impl<I: Tokens> State<I> {
+impl<O: Origin, I: Tokens> Call<O, I> {
     /// Marks that memory ran out, and says so at the end of what was read last.
     pub(crate) fn out_of_memory(&mut self) -> Error
         ensures err { IsOutOfMemory result }
         ensures state { self.new ≡ reader.marked mark.OutOfMemory self.old }
     {
         let last = self.last_span();
-        self.mark = Some(Mark::OutOfMemory);
-        Error {
-            span: Span {
-                lo: last.hi,
-                hi: last.hi,
-            },
-            kind: SyntaxError::OutOfMemory,
-        }
+        self.mark_memory();
+        no_memory(last)
     }
 
     /// Takes the current token. Where the token behind the next one finds no memory, that is answered.
@@ -50,7 +45,8 @@ impl<I: Tokens> State<I> {
     {
         let taken = self.buffer.bump();
         if self.buffer.is_out_of_memory() {
-            return Err(self.out_of_memory());
+            self.mark = Some(Mark::OutOfMemory);
+            return Err(no_memory(self.buffer.last_span()));
         }
         Ok(taken)
     }
@@ -80,7 +76,7 @@ impl<I: Tokens> State<I> {
             return Ok(None);
         };
         if matches!(error.kind, SyntaxError::OutOfMemory) {
-            self.mark = Some(Mark::OutOfMemory);
+            self.mark_memory();
             return Err(error);
         }
         Ok(Some(error))
@@ -98,7 +94,7 @@ impl<I: Tokens> State<I> {
     }
 }
 
-impl<I: Tokens> State<I> {
+impl<O: Origin, I: Tokens> Call<O, I> {
     /// The fault of what is wanted and does not stand here, or want of memory for its text.
     pub(crate) fn missing(&mut self, wanted: Wanted) -> PResult<SyntaxError>
         ensures ok { IfOk result (λ kind. kind_of kind ≡ wanted_kind wanted) }
@@ -114,7 +110,7 @@ impl<I: Tokens> State<I> {
     }
 
     /// The fault of a part that must stand where the list has ended.
-    pub(crate) fn eof(&self) -> Error
+    pub fn eof(&self) -> Error
         ensures { fault_of result ≡ reader.fault_at (reader.end_of self.now.at.last) kinds.Eof }
     {
         let last = self.last_span();
@@ -193,7 +189,7 @@ impl<I: Tokens> State<I> {
     }
 }
 
-impl<I: Tokens> State<I> {
+impl<O: Origin, I: Tokens> Call<O, I> {
     /// The text of a word.
     pub(crate) fn word_atom(&mut self, word: Word) -> PResult<Atom>
         ensures ok { IfOk result (λ a. a ≡ word_text word) }

@@ -52,6 +52,7 @@ fn unbroken<P: Source>(p: &mut P, label: &Option<Ident>, span: Span) -> PResult<
 
 /// A `break` statement.
 #[tactic(auto, unfolding(swc_ecma_parser_reader::specs::Reader::break_stmt))]
+#[inline(never)]
 pub fn break_stmt<P: Source, T: BuildsControl>(alloc: Global, p: &mut P) -> PResult<T::Stmt>
     ensures { GivesAs T.stmt_of (rules.break_stmt (P.seen p.old)) result (P.seen p.new) }
 {
@@ -79,6 +80,7 @@ fn uncontinued<P: Source>(p: &mut P, label: &Option<Ident>, span: Span) -> PResu
 
 /// A `continue` statement.
 #[tactic(auto, unfolding(swc_ecma_parser_reader::specs::Reader::continue_stmt))]
+#[inline(never)]
 pub fn continue_stmt<P: Source, T: BuildsControl>(alloc: Global, p: &mut P) -> PResult<T::Stmt>
     ensures { GivesAs T.stmt_of (rules.continue_stmt (P.seen p.old)) result (P.seen p.new) }
 {

@@ -86,6 +86,7 @@ fn returned<
 
 /// A `return` statement.
 #[tactic(auto, unfolding(swc_ecma_parser_reader::specs::Reader::return_stmt))]
+#[inline(never)]
 pub fn return_stmt<
     P: Source,
     T: BuildsControl,
@@ -109,6 +110,7 @@ pub fn return_stmt<
 
 /// `throw` and what is thrown, which begins on the same line.
 #[tactic(auto, unfolding(swc_ecma_parser_reader::specs::Reader::throw, swc_ecma_parser_reader::specs::Reader::thrown, swc_ecma_parser_reader::specs::Expressions::inside, swc_ecma_parser_grammar::specs::Looks::spanned))]
+#[inline(never)]
 pub fn throw<
     P: Source,
     T: BuildsControl,

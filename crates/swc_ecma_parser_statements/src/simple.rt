@@ -9,7 +9,7 @@ ghost use Rattle.swc_ecma_parser_reader.specs.State.{Gives, GivesAs};
 
 use crate::statement_end::stmt_end;
 use std::alloc::Global;
-use swc_ecma_parser_common::Atom;
+use swc_ecma_parser_common::{Atom, Boxed};
 use swc_ecma_parser_error::{PResult, SyntaxError};
 use swc_ecma_parser_grammar::{Class, Position};
 use swc_ecma_parser_inner::cover::{Cover, Reading, nested};
@@ -61,6 +61,7 @@ pub(crate) fn note_statement<P: Source, T: Trees>(
         return Ok(());
     }
     let word = grown(p, Atom::new(alloc, "interface"))?;
+    let word = grown(p, Boxed::new(alloc, word))?;
     p.module_fault(SyntaxError::InvalidIdentInStrict(word), T::expr_span(x))
 }
 
@@ -101,6 +102,7 @@ fn expr_stmt<
 
 /// An expression statement, where one may begin.
 #[tactic(auto, unfolding(swc_ecma_parser_reader::specs::Reader::expr_stmt_at))]
+#[inline(never)]
 pub fn expr_stmt_at<
     P: Source,
     T: BuildsStmt + BuildsOperator,
@@ -128,28 +130,6 @@ pub fn optional_end<P: Source>(p: &mut P) -> PResult<()>
     Ok(())
 }
 
-/// An expression statement that begins with `import`.
-#[tactic(auto, unfolding(swc_ecma_parser_reader::specs::Reader::import_stmt, swc_ecma_parser_grammar::specs::Looks::spanned))]
-fn import_stmt<
-    P: Source,
-    T: BuildsStmt,
-    S: Fn(&MakerOf<T>, &mut P, usize, Position) -> PResult<T::Stmt>,
-    E: Fn(&MakerOf<T>, &mut P, usize, Reading) -> PResult<Cover<T::Expr>>,
-    N: Fn(&MakerOf<T>, &mut P, usize, Part) -> PResult<T::Pat>,
->(g: &Grammar<S, E, N>, t: &MakerOf<T>, p: &mut P) -> PResult<T::Stmt>
-    requires { Nests P.seen T.expr_of T.pat_of T.stmt_of g.now.depth (S.pre g.now.stmt) (S.post g.now.stmt) (E.pre g.now.expr) (E.post g.now.expr) (N.pre g.now.pat) (N.post g.now.pat) }
-    ensures { GivesAs T.stmt_of (rules.import_stmt (rules.expr g.now.depth expression) (P.seen p.old)) result (P.seen p.new) }
-{
-    let start = p.span();
-    let outer = p.flags();
-    p.set_flags(with_in(outer));
-    let x = nested(g, t, p, Class::Expression)?;
-    p.set_flags(outer);
-    optional_end(p)?;
-    let span = since(p, start);
-    grown(p, T::expr_stmt(t.alloc, span, x))
-}
-
 /// Whether `import(` or `import.` stands here.
 #[tactic(auto, unfolding(swc_ecma_parser_grammar::specs::Follows::begins_import_expression))]
 fn begins_import_expression<P: Source>(p: &P) -> bool
@@ -160,18 +140,19 @@ fn begins_import_expression<P: Source>(p: &P) -> bool
 
 /// An expression statement, where `import` begins one. Neither `import` nor `export` begins any other statement.
 #[tactic(auto, unfolding(swc_ecma_parser_reader::specs::Reader::import_stmt_at))]
+#[inline(never)]
 pub fn import_stmt_at<
     P: Source,
-    T: BuildsStmt,
+    T: BuildsStmt + BuildsOperator,
     S: Fn(&MakerOf<T>, &mut P, usize, Position) -> PResult<T::Stmt>,
     E: Fn(&MakerOf<T>, &mut P, usize, Reading) -> PResult<Cover<T::Expr>>,
     N: Fn(&MakerOf<T>, &mut P, usize, Part) -> PResult<T::Pat>,
 >(g: &Grammar<S, E, N>, t: &MakerOf<T>, p: &mut P) -> PResult<T::Stmt>
     requires { Nests P.seen T.expr_of T.pat_of T.stmt_of g.now.depth (S.pre g.now.stmt) (S.post g.now.stmt) (E.pre g.now.expr) (E.post g.now.expr) (N.pre g.now.pat) (N.post g.now.pat) }
-    ensures { GivesAs T.stmt_of (rules.import_stmt_at (rules.expr g.now.depth expression) (P.seen p.old)) result (P.seen p.new) }
+    ensures { GivesAs T.stmt_of (rules.import_stmt_at (rules.expr g.now.depth expression) (rules.operators g.now.depth) (P.seen p.old)) result (P.seen p.new) }
 {
     if begins_import_expression(p) {
-        return import_stmt(g, t, p);
+        return expr_stmt(g, t, p);
     }
     Err(p.refuse_as(SyntaxError::ImportExportInScript))
 }

@@ -20,7 +20,7 @@ use swc_ecma_parser_inner::cover::{Cover, Reading};
 use swc_ecma_parser_inner::grammar::{Grammar, Part};
 use swc_ecma_parser_inner::steps::{grown, since, with_in};
 use swc_ecma_parser_model::VarDeclKind;
-use swc_ecma_parser_source::Source;
+use swc_ecma_parser_source::{Source, Wanted};
 use swc_ecma_parser_token::TokenKind;
 use swc_ecma_parser_trees::{
     BuildsOperator, BuildsPattern, BuildsStmt, BuildsVarDecl, BuildsVariables, MakerOf,
@@ -72,7 +72,7 @@ fn misusing<P: Source, T: BuildsVariables>(
     each_misused::<P, T>(p, span, found)
 }
 
-/// A declaration from the word on, where it declares. It reads no end.
+/// A declaration from the word on, where it declares. What is said of it is recorded before its end.
 #[tactic(auto, unfolding(swc_ecma_parser_reader::specs::Reader::using_from))]
 fn using_from<
     P: Source,
@@ -89,14 +89,17 @@ fn using_from<
     p.set_flags(with_in(outer));
     let found = declarators(g, t, p, false, VarDeclKind::Var)?;
     p.set_flags(outer);
+    let so_far = since(p, start);
+    misusing::<P, T>(p, so_far, found.as_slice())?;
+    p.end(Wanted::Token(";"))?;
     let span = since(p, start);
-    misusing::<P, T>(p, span, found.as_slice())?;
     let declaration = grown(p, T::using_decl(t.alloc, span, is_await, found))?;
     grown(p, T::decl_stmt(t.alloc, declaration))
 }
 
 /// A statement that begins with `using`, where it declares.
 #[tactic(auto, unfolding(swc_ecma_parser_reader::specs::Reader::using_stmt))]
+#[inline(never)]
 pub fn using_stmt<
     P: Source,
     T: BuildsPattern + BuildsVarDecl,
@@ -111,12 +114,15 @@ pub fn using_stmt<
     using_from(g, t, p, false, start)
 }
 
-/// Whether `await` stands here before `using`, where a declaration may stand.
+/// Whether `await` stands here before `using` on its line, where a declaration may stand.
 #[tactic(auto, unfolding(swc_ecma_parser_reader::specs::AwaitWords::begins_await_using))]
 fn may_declare<P: Source>(p: &P, at: Position) -> bool
     ensures { result ≡ words.begins_await_using at (P.seen p.now).at }
 {
-    (at.include_decl || at.top_level) && p.sees(TokenKind::Await) && p.next_word_at("using")
+    (at.include_decl || at.top_level)
+        && p.sees(TokenKind::Await)
+        && p.next_word_at("using")
+        && !p.next_had_line_break()
 }
 
 /// The same, where what stands further in can be read in so many levels.
@@ -130,7 +136,7 @@ pub fn begins_await_using<P: Source>(p: &P, depth: usize, at: Position) -> bool
     may_declare(p, at)
 }
 
-/// A statement that begins with `await` before `using`: a declaration before a name on the line of `using`, or an expression statement.
+/// A statement that begins with `await` before `using` on its line: a declaration before a name on the line of `using`, or an expression statement.
 #[tactic(auto, unfolding(swc_ecma_parser_reader::specs::AwaitWords::stmt_behind_await, swc_ecma_parser_reader::specs::AwaitWords::expr_stmt_behind))]
 #[inline(never)]
 pub fn await_stmt<

@@ -99,6 +99,7 @@ fn missing_at<P: Source, T: BuildsVariables>(p: &P, found: &[T::Declarator]) -> 
 
 /// Declarators with commas between. One that is missing is a fault, behind which the declaration goes on without it.
 #[tactic(auto, unfolding(swc_ecma_parser_reader::specs::Reader::declarators), using(swc_ecma_parser_reader::proofs::Loops::declarators_done, swc_ecma_parser_reader::proofs::Loops::declarators_err, swc_ecma_parser_reader::proofs::Loops::declarators_miss, swc_ecma_parser_reader::proofs::Loops::declarators_miss_err, swc_ecma_parser_reader::proofs::Loops::declarators_more, swc_ecma_parser_reader::proofs::Loops::declarators_shorter, std::proofs::lemmas::List::map_push))]
+#[inline(never)]
 pub fn declarators<
     P: Source,
     T: BuildsPattern + BuildsVariables,
@@ -133,6 +134,7 @@ pub fn declarators<
 
 /// A statement that declares variables.
 #[tactic(auto, unfolding(swc_ecma_parser_reader::specs::Reader::variables, swc_ecma_parser_grammar::specs::Looks::spanned))]
+#[inline(never)]
 pub fn variables<
     P: Source,
     T: BuildsPattern + BuildsVariables,
@@ -156,6 +158,7 @@ pub fn variables<
 
 /// A statement that begins with `const`, where declarations are read.
 #[tactic(auto, unfolding(swc_ecma_parser_reader::specs::Reader::const_stmt))]
+#[inline(never)]
 pub fn const_stmt<
     P: Source,
     T: BuildsPattern + BuildsVariables,

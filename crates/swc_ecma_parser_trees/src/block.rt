@@ -9,7 +9,6 @@ use swc_ecma_parser_common::Span;
 /// Makes the blocks that functions, classes and `try` hold: ECMA-262, section 14.2. A function that answers a `Result`
 /// fails only where memory runs out, and spans are in byte offsets.
 pub trait BuildsBlock: Trees {
-    ghost use Rattle.swc_ecma_parser_model.specs.Directive as directive;
     ghost use Rattle.swc_ecma_parser_model.specs.Forms as forms;
     ghost use Rattle.swc_ecma_parser_model.specs.Tree as tree;
     ghost use Rattle.swc_ecma_parser_model.specs.Tree.{Tree};
@@ -26,8 +25,4 @@ pub trait BuildsBlock: Trees {
     /// Where a statement stands.
     fn stmt_span(stmt: &Self::Stmt) -> Span
         ensures { result ≡ forms.span_of (Self.stmt_of stmt.now) };
-
-    /// Whether it is a string literal alone, with no parentheses: section 11.2.1.
-    fn is_string_statement(stmt: &Self::Stmt) -> bool
-        ensures { result ≡ directive.is_string_statement (Self.stmt_of stmt.now) };
 }

@@ -95,6 +95,10 @@ pub trait Trees {
     fn is_use_strict(stmt: &Self::Stmt) -> bool
         ensures { result ≡ directive.is_use_strict (stmt_of stmt.now) };
 
+    /// Whether it is a string literal alone, with no parentheses: section 11.2.1.
+    fn is_string_statement(stmt: &Self::Stmt) -> bool
+        ensures { result ≡ directive.is_string_statement (stmt_of stmt.now) };
+
     /// Where an expression stands, in byte offsets.
     fn expr_span(expr: &Self::Expr) -> Span
         ensures { result ≡ forms.span_of (expr_of expr.now) };

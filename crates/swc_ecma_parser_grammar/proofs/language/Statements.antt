@@ -56,8 +56,8 @@ module _ (In Out : Goal → Type 0) (fitting : (g : Goal) → In g → Fitting g
       (ap depth r.is)
 
   using_level : {k : Code} {at : Position} {x : Tree} {c d : Place} → UsingRule In k at x c d → Level In Out (UsingRule Out k at x c d) (depth x)
-  using_level {k = k} {d = d} r =
-      over (separated_inside (UsingDeclaratorRule In k) (UsingDeclaratorRule Out k) (using_declarator_inside k) r.declarators (after r.word) d r.reads)
+  using_level {k = k} r =
+      over (separated_inside (UsingDeclaratorRule In k) (UsingDeclaratorRule Out k) (using_declarator_inside k) r.declarators (after r.word) r.behind r.reads)
       (λ o. record {
         is_await = r.is_await;
         word = r.word;
@@ -65,8 +65,11 @@ module _ (In Out : Goal → Type 0) (fitting : (g : Goal) → In g → Fitting g
         is_read = r.is_read;
         has_place = r.has_place;
         reads_await = r.reads_await;
+        on_line = r.on_line;
         begins = r.begins;
+        behind = r.behind;
         reads = o;
+        ends = r.ends;
         is = r.is;
       }) (ap depth r.is)
 
@@ -99,8 +102,8 @@ module _ (In Out : Goal → Type 0) (fitting : (g : Goal) → In g → Fitting g
   using_head_inside : {k : Code} {x : Tree} {c d : Place} → UsingHeadRule In k x c d → Inside In Out (UsingHeadRule Out k x c d) (head_depth x)
   using_head_inside {x = x} (heads.using_head_rule y r e) =
       let g : head_depth x ≡ max (depth y) 0 = ap head_depth e in sized (turned (using_name_inside r) (λ o. heads.using_head_rule y o e)) (omega arith)
-  using_head_inside {k = k} {x = x} {c = c} {d = d} (heads.await_using_head_rule y h i r e) =
-      let g : head_depth x ≡ suc (max (depth y) 0) = ap head_depth e in sized (part (using_goal k y (after c) d) r (λ o. heads.await_using_head_rule y h i o e)) (omega arith)
+  using_head_inside {k = k} {x = x} {c = c} {d = d} (heads.await_using_head_rule y h i l r e) =
+      let g : head_depth x ≡ suc (max (depth y) 0) = ap head_depth e in sized (part (using_goal k y (after c) d) r (λ o. heads.await_using_head_rule y h i l o e)) (omega arith)
 
   of_left_inside : {k : Code} {is_await : Bool} {x : Tree} {c d : Place} → OfLeftRule In k is_await x c d → Inside In Out (OfLeftRule Out k is_await x c d) (head_depth x)
   of_left_inside (heads.of_left_rule r h) = turned (left_inside r) (λ o. heads.of_left_rule o h)

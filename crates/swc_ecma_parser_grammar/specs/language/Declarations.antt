@@ -7,8 +7,9 @@ use Rattle.swc_ecma_parser_model.specs.Tree as tree
 use Rattle.swc_ecma_parser_model.specs.Tree.{Tree, listed}
 use Rattle.swc_ecma_parser_model.specs.Forms.{is_binding_name}
 use Rattle.swc_ecma_parser_grammar.specs.declared.position.Position.{Position}
-use Rattle.swc_ecma_parser_grammar.specs.Looks.{kind_at, sees, spanned}
+use Rattle.swc_ecma_parser_grammar.specs.Looks.{kind_at, breaks_at, sees, spanned}
 use Rattle.swc_ecma_parser_grammar.specs.Names.{Code}
+use Rattle.swc_ecma_parser_grammar.specs.Ends.{Ends}
 use Rattle.swc_ecma_parser_grammar.specs.Follows.{AwaitWord}
 use Rattle.swc_ecma_parser_grammar.specs.Variables.{begins_variables, needs_no_initializer}
 use Rattle.swc_ecma_parser_grammar.specs.Reads.{with_in, ReadsSeparated}
@@ -41,8 +42,7 @@ pub record UsingDeclaratorRule (In : Goal → Type 0) (k : Code) (x : Tree) (c d
   pub reads_init : In (expr_goal assignment (with_in k) init (after equals) d)
   pub is : x ≡ tree.declarator (spanned c d) name init
 
--- Where declarations are read; behind `await` at the top level of any entry too. As in the crate it has no end: a `;` behind it
--- is a statement of its own, and `await` and `using` may stand on two lines.
+-- Where declarations are read; behind `await`, which stands on its line, at the top level of any entry too.
 pub record UsingRule (In : Goal → Type 0) (k : Code) (at : Position) (x : Tree) (c d : Place) : Type 0 where
   pub is_await : Bool
   pub word : Place
@@ -50,6 +50,9 @@ pub record UsingRule (In : Goal → Type 0) (k : Code) (at : Position) (x : Tree
   pub is_read : k.setting.explicit_resource_management ≡ true
   pub has_place : at.include_decl || (is_await && at.top_level) ≡ true
   pub reads_await : AwaitWord is_await c word
+  pub on_line : is_await && breaks_at word ≡ false
   pub begins : is_using_declaration k word ≡ true
-  pub reads : ReadsSeparated (UsingDeclaratorRule In k) declarators (after word) d
+  pub behind : Place
+  pub reads : ReadsSeparated (UsingDeclaratorRule In k) declarators (after word) behind
+  pub ends : Ends behind d
   pub is : x ≡ tree.using (spanned c d) is_await (listed declarators)

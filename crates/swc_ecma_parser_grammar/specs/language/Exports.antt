@@ -9,7 +9,7 @@ use Rattle.swc_ecma_parser_model.specs.Tree.{Tree, Trees, none, also, Text, list
 use Rattle.swc_ecma_parser_model.specs.Forms.{is_absent, span_of}
 use Rattle.swc_ecma_parser_grammar.specs.Looks.{kind_at, sees, span_at, spanned}
 use Rattle.swc_ecma_parser_grammar.specs.Names.{Code}
-use Rattle.swc_ecma_parser_grammar.specs.Ends.{Ends, OptionalEnds}
+use Rattle.swc_ecma_parser_grammar.specs.Ends.{Ends}
 use Rattle.swc_ecma_parser_grammar.specs.Follows.{word_at, is_async_function}
 use Rattle.swc_ecma_parser_grammar.specs.Reads.{with_in}
 use Rattle.swc_ecma_parser_grammar.specs.language.Goals.{Goal, expr_goal, assignment}
@@ -105,9 +105,9 @@ pub data ExportRule (In : Goal → Type 0) (k : Code) (x : Tree) (c d : Place) :
   export_from_rule : (in_braces : Bool) (xs : List Tree) (src attributes : Tree) (l m n : Place) → kind_at c ≡ kind.Export
       → ExportClauseRule (in_module k) in_braces xs (after c) l → FromRule src l m → AttributesRule In (in_module k) attributes m n → Ends n d
       → x ≡ tree.export_named (spanned c d) (listed xs) src attributes → ExportRule In k x c d
-  -- as in the crate, one without a source has an end that nothing demands
+  -- without a source
   export_names_rule : (xs : List Tree) (m : Place) → kind_at c ≡ kind.Export → ExportClauseRule (in_module k) true xs (after c) m → word_at (codes "from") m ≡ false
-      → OptionalEnds m d → x ≡ tree.export_named (spanned c d) (listed xs) tree.absent tree.absent → ExportRule In k x c d
+      → Ends m d → x ≡ tree.export_named (spanned c d) (listed xs) tree.absent tree.absent → ExportRule In k x c d
   export_default_declaration_rule : (decorators y : Tree) (m n : Place) → ExportFrontRule In k true decorators c m n → DefaultRule In (in_module k) decorators y n d
       → x ≡ tree.export_default_decl (spanned m d) y → ExportRule In k x c d
   export_default_expression_rule : (e : Tree) (m : Place) → kind_at c ≡ kind.Export → kind_at (after c) ≡ kind.Default → may_begin_default k (after (after c)) ≡ true

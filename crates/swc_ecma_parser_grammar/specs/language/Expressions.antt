@@ -53,9 +53,9 @@ pub data ArrowHeadRule (In : Goal → Type 0) (k : Code) (patterns : List Tree) 
   name_head : (p : Tree) → In (pattern_goal binding k p c d) → is_binding_name p ≡ true → patterns ≡ p ∷ [] → ArrowHeadRule In k patterns c d
   parameters_head : ParametersRule In (with_in k) patterns c d → ArrowHeadRule In k patterns c d
 
--- a block, in which no directive turns the code strict, or an expression that does not begin as one
+-- a block, whose directives are its own, or an expression that does not begin as one
 pub data ArrowBodyRule (In : Goal → Type 0) (k : Code) (is_async : Bool) (x : Tree) (c d : Place) : Type 0 where
-  block_body : BlockRule In (with_in (in_arrow k is_async)) false x c d → ArrowBodyRule In k is_async x c d
+  block_body : BlockRule In (with_in (in_arrow k is_async)) true x c d → ArrowBodyRule In k is_async x c d
   expression_body : sees kind.LBrace c ≡ false → In (expr_goal assignment (in_arrow k is_async) x c d) → ArrowBodyRule In k is_async x c d
 
 -- ---- AssignmentExpression: section 13.15

@@ -6,7 +6,7 @@ use Rattle.swc_ecma_parser_model.specs.declared.leaves.VarDeclKind.{VarDeclKind}
 use Rattle.swc_ecma_parser_model.specs.Tree as tree
 use Rattle.swc_ecma_parser_model.specs.Tree.{Tree, listed}
 use Rattle.swc_ecma_parser_model.specs.Forms.{is_binding_name}
-use Rattle.swc_ecma_parser_grammar.specs.Looks.{kind_at, sees, spanned}
+use Rattle.swc_ecma_parser_grammar.specs.Looks.{kind_at, breaks_at, sees, spanned}
 use Rattle.swc_ecma_parser_grammar.specs.Names.{Code}
 use Rattle.swc_ecma_parser_grammar.specs.Follows.{word_at, may_begin_head, is_async_of}
 use Rattle.swc_ecma_parser_grammar.specs.Reads.{with_in, head_code}
@@ -50,10 +50,10 @@ pub record UsingNameRule (In : Goal → Type 0) (k : Code) (x : Tree) (c d : Pla
   pub is_name : is_binding_name name ≡ true
   pub is : x ≡ tree.declarator (spanned (after c) d) name tree.absent
 
--- `using`, or `await using` where an `await` expression may stand. Behind `await` the name is one level further in.
+-- `using`, or `await using` on one line where an `await` expression may stand. Behind `await` the name is one level further in.
 pub data UsingHeadRule (In : Goal → Type 0) (k : Code) (x : Tree) (c d : Place) : Type 0 where
   using_head_rule : (y : Tree) → UsingNameRule In k y c d → x ≡ tree.using (spanned c d) false (listed (y ∷ [])) → UsingHeadRule In k x c d
-  await_using_head_rule : (y : Tree) → kind_at c ≡ kind.Await → may_await k ≡ true → In (using_goal k y (after c) d)
+  await_using_head_rule : (y : Tree) → kind_at c ≡ kind.Await → may_await k ≡ true → breaks_at (after c) ≡ false → In (using_goal k y (after c) d)
       → x ≡ tree.using (spanned c d) true (listed (y ∷ [])) → UsingHeadRule In k x c d
 
 -- the left side before `of`

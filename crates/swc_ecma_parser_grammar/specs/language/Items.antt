@@ -4,7 +4,7 @@ use Rattle.swc_ecma_parser_token.specs.declared.kind.TokenKind.TheVariants as ki
 use Rattle.swc_ecma_parser_input.specs.Place.{Place, after}
 use Rattle.swc_ecma_parser_model.specs.Tree as tree
 use Rattle.swc_ecma_parser_model.specs.Tree.{Tree, listed}
-use Rattle.swc_ecma_parser_model.specs.Directive.{is_use_strict}
+use Rattle.swc_ecma_parser_model.specs.Directive.{is_string_statement, is_use_strict}
 use Rattle.swc_ecma_parser_grammar.specs.declared.position.Position.{Position}
 use Rattle.swc_ecma_parser_grammar.specs.Looks.{kind_at, sees, spanned}
 use Rattle.swc_ecma_parser_grammar.specs.Names.{Code}
@@ -31,14 +31,13 @@ labelled_item c = record { include_decl = sees kind.Function c; top_level = fals
 
 -- ---- directives
 
--- In a body with directives, what stands behind the directive that says so is strict.
+-- In a body with directives, what stands behind each directive that says so is strict.
 abbrev pub directed : Code → Bool → Tree → Code
 directed k directives x = if directives && is_use_strict x then in_strict k else k
 
--- Whether what stands behind an item can be a directive still: only the first item of a body can, as in the crate. ECMA-262 takes all
--- strings that stand first.
+-- Whether what stands behind an item can be a directive still: the strings that stand first in a body are its directives.
 abbrev pub directs_on : Bool → Tree → Bool
-directs_on directives x = false
+directs_on directives x = directives && is_string_statement x
 
 -- ---- StatementList, section 14.2
 

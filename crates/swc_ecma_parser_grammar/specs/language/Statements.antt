@@ -153,8 +153,8 @@ pub data FormRule (In : Goal → Type 0) (k : Code) (at : Position) (x : Tree) (
   -- section 14.5; a bare name before `:` is a label
   expr_rule : (e : Tree) (m : Place) → may_begin_expression_statement at c ≡ true → In (expr_goal expression (with_in k) e c m) → is_ident e && sees kind.Colon m ≡ false
       → Ends m d → x ≡ tree.expr_stmt (spanned c d) e → FormRule In k at x c d
-  -- as in the crate, one that begins with `import` has an end that nothing demands
-  import_expr_rule : (e : Tree) (m : Place) → begins_import_expression c ≡ true → In (expr_goal expression (with_in k) e c m) → OptionalEnds m d
+  -- `import(` and `import.` begin one too
+  import_expr_rule : (e : Tree) (m : Place) → begins_import_expression c ≡ true → In (expr_goal expression (with_in k) e c m) → Ends m d
       → x ≡ tree.expr_stmt (spanned c d) e → FormRule In k at x c d
 
 -- a statement in its place

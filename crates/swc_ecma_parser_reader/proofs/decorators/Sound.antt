@@ -54,7 +54,7 @@ not_computed n k x c d h (bracket_access y m e r g i j) = let u = sym h ∙ e in
 
 module _ (n : ℕ) (inner : Class → Reader Tree) (cover : Reader Cover) (sound : (class : Class) (s : State) → Meets (λ x t. SoundTree (ReadsClass n class) s x t) (inner class s))
     (covers : (s : State) → Meets (λ v t. SoundCover n s v t) (cover s))
-    (function : FunctionForm → Reader Tree) (functions : FunctionsSound n function) where
+    (function : FunctionForm → Reader Tree) (functions : FunctionsSound n inner function) where
   -- what is accessed or called began at a state
   accessed_sound : (s : State) (x : Tree) (t : State) → SoundTree (Chain n) s x t → sees kind.Dot t.at ≡ true → Meets (λ y u. SoundTree (Chain n) s y u) (accessed inner cover (span_at s.at) x t)
   unfolding accessed spanned

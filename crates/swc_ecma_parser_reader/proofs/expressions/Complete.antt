@@ -43,6 +43,7 @@ use Rattle.swc_ecma_parser_grammar.specs.language.Patterns.{OperandRule, Pattern
 use Rattle.swc_ecma_parser_grammar.specs.language.Expressions as rules
 use Rattle.swc_ecma_parser_grammar.specs.language.Expressions.{UnaryRule, BinaryRule, AssignmentRule, ExpressionRule}
 use Rattle.swc_ecma_parser_grammar.specs.language.Reads as language
+use Rattle.swc_ecma_parser_grammar.proofs.Arrows.{no_block}
 use Rattle.swc_ecma_parser_grammar.proofs.Tests.{or_no, or_none, and_yes, and_both}
 use Rattle.swc_ecma_parser_grammar.proofs.language.spans.Expressions.{left_side_rule}
 use Rattle.swc_ecma_parser_reader.specs.Notes.{Notes, ◌⊕◌, notes_of, all_notes_of}
@@ -696,6 +697,7 @@ module _ (n : ℕ) (inner : Class → Reader Tree) (cover : Reader Cover) (given
     calls = level_calls;
     bare = λ k x c d r. (bare_ends (suc n) k x c d r).1;
     begins = begins (suc n);
+    no_blocks = no_block (suc n);
     falls = level_falls inner cover given.falls given.cover_falls function functions.falls;
     exprs = level_exprs;
     elements = λ k p c d r s t w f h. element_reads (language.Reads n) inner cover given function functions k p c d r s t w f h;
@@ -717,6 +719,7 @@ read_nowhere inner cover falls cover_falls tied parts = record {
   calls = λ k x c d r e s. absurd r;
   bare = λ k x c d r. absurd r;
   begins = λ k x c d r s. absurd r;
+  no_blocks = no_block zero;
   falls = falls;
   exprs = λ k x c d r s. absurd r;
   elements = λ k p c d r s t. absurd r;

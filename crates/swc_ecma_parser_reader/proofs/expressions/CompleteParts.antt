@@ -15,6 +15,7 @@ use Rattle.swc_ecma_parser_input.specs.Place.{Place, after}
 use Rattle.swc_ecma_parser_model.specs.Tree as tree
 use Rattle.swc_ecma_parser_model.specs.Tree.{Tree, Text, listed, trees}
 use Rattle.swc_ecma_parser_model.specs.Forms.{span_of, is_rest}
+use Rattle.swc_ecma_parser_model.specs.Kinds.{is_block}
 use Rattle.swc_ecma_parser_model.specs.Targets.{as_target, as_element, binds}
 use Rattle.swc_ecma_parser_grammar.specs.Looks.{kind_at, sees, same_kind, span_at, spanned}
 use Rattle.swc_ecma_parser_grammar.specs.Names.{Code, is_name, is_clean_name, is_identifier, may_refer_to_await}
@@ -33,6 +34,7 @@ use Rattle.swc_ecma_parser_grammar.specs.language.Lists.{ReadsListed, LastComma,
 use Rattle.swc_ecma_parser_grammar.specs.language.Parts as parts
 use Rattle.swc_ecma_parser_grammar.specs.language.Parts.{ReadsWord, PrivateRule, AccessRule, is_private, ElementRule, ArgumentsRule, ComputedRule, KeyRule}
 use Rattle.swc_ecma_parser_grammar.proofs.Binding.{ArrowPartRule}
+use Rattle.swc_ecma_parser_grammar.proofs.Arrows.{body_walk}
 use Rattle.swc_ecma_parser_grammar.proofs.Tests.{and_yes, and_no}
 use Rattle.swc_ecma_parser_reader.specs.Notes.{Notes, no_notes, ◌⊕◌, notes_of, all_notes_of}
 use Rattle.swc_ecma_parser_reader.specs.State.{and_then, Scope, State, Reader, expect, name, loop, reference, as_name}
@@ -152,6 +154,8 @@ pub record IsRead (In : Goal → Type 0) (inner : Class → Reader Tree) (cover 
   -- behind what `new` calls without arguments none stand
   pub bare : (k : Code) (x : Tree) (c d : Place) → In (expr_goal callee k x c d) → sees kind.LParen d ≡ false
   pub begins : (k : Code) (x : Tree) (c d : Place) → In (expr_goal assignment k x c d) → supported_in k.flags.module x ≡ true → begin_kind (kind_at c) ≡ true
+  -- the other body of an arrow function is no block
+  pub no_blocks : (k : Code) (x : Tree) (c d : Place) → In (expr_goal assignment k x c d) → is_block x ≡ false
   pub falls : (class : Class) (s : State) → Falls 1 (length s.at.left) (inner class s)
   -- an expression is read as what may still become a pattern too
   pub exprs : (k : Code) (x : Tree) (c d : Place) → In (expr_goal assignment k x c d) → supported_in k.flags.module x ≡ true → ReadsAsCalm (AsExpr x) cover k x c d
@@ -175,7 +179,7 @@ pub record IsRead (In : Goal → Type 0) (inner : Class → Reader Tree) (cover 
 -- what the body of an arrow function is read as: no label stands around it, and nothing in it makes a program a module
 abbrev pub ReadsEnclosed : Reader Tree → Code → Tree → Place → Place → Type 0
 ReadsEnclosed reader k x c d = (w : Scope) (f : List Fault) (h : Notes) → reader (st c k w f h)
-    ≡ Ok (x, st d k w (f ++ walk (in_body (env_of k w.labels)) x) (record { held_back = h.held_back ++ notes x; found_module_item = h.found_module_item }))
+    ≡ Ok (x, st d k w (f ++ body_walk (in_body (env_of k w.labels)) x) (record { held_back = h.held_back ++ notes x; found_module_item = h.found_module_item }))
 
 -- a method is read from behind its key, whose walk and notes are before its own
 abbrev pub MethodIsRead : (FunctionForm → Reader Tree) → MethodForm → Code → (key x : Tree) (c m d : Place) → Type 0
@@ -197,7 +201,7 @@ pub record IsFunctionRead (In : Goal → Type 0) (function : FunctionForm → Re
       → is_error (kind_at d) ≡ false → MethodIsRead function (method_form w g) k key x c m d
   -- a binding pattern, and the block of an arrow function
   pub patterns : (k : Code) (p : Tree) (c d : Place) → In (pattern_goal binding k p c d) → supported_in k.flags.module p ≡ true → Reads (function parameter_form) k p c d
-  pub blocks : (w : Bool) (k : Code) (x : Tree) (c d : Place) → BlockRule In (with_in (in_arrow k w)) false x c d → supported_in k.flags.module x ≡ true → (k.flags.module ≡ true → notes x ≡ [])
+  pub blocks : (w : Bool) (k : Code) (x : Tree) (c d : Place) → BlockRule In (with_in (in_arrow k w)) true x c d → supported_in k.flags.module x ≡ true → (k.flags.module ≡ true → notes x ≡ [])
       → ReadsEnclosed (function (block_form w)) k x c d
   pub falls : FunctionsFall function
 

@@ -127,7 +127,7 @@ parts_rule In k x (y ∷ z ∷ zs) c d h e = sequence_rule y z zs h e
 
 module _ (n : ℕ) (inner : Class → Reader Tree) (cover : Reader Cover) (sound : (class : Class) (s : State) → Meets (λ x t. SoundTree (ReadsClass n class) s x t) (inner class s))
     (covers : (s : State) → Meets (λ v t. SoundCover n s v t) (cover s))
-    (function : FunctionForm → Reader Tree) (functions : FunctionsSound n function) (tied : IsTied inner cover) (parts : ReadsParts cover) where
+    (function : FunctionForm → Reader Tree) (functions : FunctionsSound n inner function) (tied : IsTied inner cover) (parts : ReadsParts cover) where
   -- ---- AssignmentExpression
 
   abbrev Assignment : Code → Tree → Place → Place → Type 0

@@ -19,7 +19,7 @@ use Rattle.swc_ecma_parser_grammar.specs.language.Noted.{any_has_meta}
 use Rattle.swc_ecma_parser_grammar.specs.Walk as walks
 use Rattle.swc_ecma_parser_grammar.specs.Walk.{walk, env_of}
 use Rattle.swc_ecma_parser_grammar.proofs.Tests.{and_yes, and_both}
-use Rattle.swc_ecma_parser_grammar.proofs.Arrows.{arrow_supported, body_unnoted}
+use Rattle.swc_ecma_parser_grammar.proofs.Arrows.{arrow_supported, body_unnoted, plain_walk}
 use Rattle.swc_ecma_parser_reader.specs.Notes.{no_notes, ◌⊕◌, notes_of, all_notes_of}
 use Rattle.swc_ecma_parser_reader.specs.State.{State, Reader, moved, coded, unlabelled, enclosed}
 use Rattle.swc_ecma_parser_reader.specs.Reader.{misdirected}
@@ -33,6 +33,7 @@ use Rattle.swc_ecma_parser_reader.proofs.SoundParts.{meets_both, misdirected_sou
 use Rattle.swc_ecma_parser_grammar.proofs.StatementBegins.{word_place}
 use Rattle.swc_ecma_parser_reader.proofs.expressions.AsyncHeads.{async_arrow_parts}
 use Rattle.swc_ecma_parser_reader.proofs.expressions.SoundSteps.{paired, moved_back}
+use Rattle.swc_ecma_parser_reader.proofs.expressions.NoBlocks.{NoBlock}
 use Rattle.swc_ecma_parser_reader.proofs.expressions.SoundLefts.{FunctionsSound, BodyRead, SoundBody}
 use Rattle.swc_ecma_parser_reader.proofs.Errors.{is_error}
 
@@ -54,17 +55,18 @@ arrow_notes span ps body w = notes_nil (all_notes_of (trees ps) ⊕ record (note
     ∙ ap {A = Bool} (λ b. record { held_back = (notes_of (tree.arrow span (listed ps) body w)).held_back; found_module_item = b }) (or_nil (any_has_meta (trees ps)))
 
 module _ (n : ℕ) (inner : Class → Reader Tree) (sound : (class : Class) (s : State) → Meets (λ x t. SoundTree (ReadsClass n class) s x t) (inner class s))
-    (function : FunctionForm → Reader Tree) (functions : FunctionsSound n function) where
+    (function : FunctionForm → Reader Tree) (functions : FunctionsSound n inner function) where
   -- an expression is read as a body: no label stands around it, and what is found in it is not told
   pub arrow_body_sound : (w : Bool) (s : State) → Meets (SoundBody n w s) (arrow_body inner function w s)
   unfolding arrow_body
   arrow_body_sound w s = meets_if _ (sees kind.LBrace s.at) _ _ (λ _. functions.blocks w s) (λ h.
       let j = coded (in_arrow s.code w) s in
-      meets_then {P = λ x t. Sound same (λ k l. walk (env_of k []) x) (record (notes_of x) { found_module_item = false }) (λ k. ReadsClass n assignment k x) j t} _ (enclosed (inner assignment) j) _
-      (meets_then _ (inner assignment (unlabelled j)) _ (sound assignment (unlabelled j)) (λ x t p. sound_enclosed j t p)) (λ x t p.
+      meets_then {P = λ x t. Sound same (λ k l. walk (env_of k []) x) (record (notes_of x) { found_module_item = false }) (λ k. ReadsClass n assignment k x) j t × NoBlock x t} _ (enclosed (inner assignment) j) _
+      (meets_then _ (inner assignment (unlabelled j)) _ (meets_both _ _ (inner assignment (unlabelled j)) (sound assignment (unlabelled j)) (functions.no_blocks (unlabelled j))) (λ x t (p, o). (sound_enclosed j t p, o)))
+      (λ x t (p, o).
       let q : Sound same (λ k l. walk (walks.in_body (env_of k l)) x) (record (notes_of x) { found_module_item = false }) (λ k. ReadsClass n assignment (in_arrow k w) x) s _ =
       sound_under {w = λ k l. walk (env_of k []) x} {P = λ k. ReadsClass n assignment k x} (λ k. in_arrow k w) (λ k. refl) s t p in
-      sound_as s _ refl refl refl (λ r. (expression_body h r.0, r.1, λ o. body_unnoted n s.code w x s.at t.at o r)) q))
+      sound_as s _ refl (sym (plain_walk (walks.in_body (env_of s.code s.scope.labels)) x o)) refl (λ r. (expression_body h r.0, r.1, λ o. body_unnoted n s.code w x s.at t.at o r)) q))
 
   -- ---- from `=>` on, which stands behind parameters
 

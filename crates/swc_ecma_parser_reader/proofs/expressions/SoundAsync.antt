@@ -142,7 +142,7 @@ module _ (n : ℕ) where
 
 module _ (n : ℕ) (inner : Class → Reader Tree) (cover : Reader Cover) (sound : (class : Class) (s : State) → Meets (λ x t. SoundTree (ReadsClass n class) s x t) (inner class s))
     (covers : (s : State) → Meets (λ v t. SoundCover n s v t) (cover s))
-    (function : FunctionForm → Reader Tree) (functions : FunctionsSound n function) where
+    (function : FunctionForm → Reader Tree) (functions : FunctionsSound n inner function) where
   abbrev SoundArgument : State → Argument → State → Type 0
   SoundArgument s a t = Sound same (λ k l. walk (env_of k l) (tree.element a.dots a.cover.x)) (notes_of (tree.element a.dots a.cover.x)) (λ k. ArgumentRead n a k) s t
 

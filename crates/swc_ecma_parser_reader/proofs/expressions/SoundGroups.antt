@@ -161,7 +161,7 @@ all_parts vs rest = trees_of vs ++ rest_list rest
 
 module _ (n : ℕ) (inner : Class → Reader Tree) (cover : Reader Cover) (sound : (class : Class) (s : State) → Meets (λ x t. SoundTree (ReadsClass n class) s x t) (inner class s))
     (covers : (s : State) → Meets (λ v t. SoundCover n s v t) (cover s))
-    (function : FunctionForm → Reader Tree) (functions : FunctionsSound n function) where
+    (function : FunctionForm → Reader Tree) (functions : FunctionsSound n inner function) where
   -- the parts so far, and all
   abbrev SoundSoFar : State → List Cover → State → Type 0
   SoundSoFar s vs t = Sound same (λ k l. walks.walks (env_of k l) false (trees (trees_of vs))) (all_notes_of (trees (trees_of vs))) (SoFar n vs) s t

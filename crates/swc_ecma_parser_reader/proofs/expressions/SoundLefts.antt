@@ -46,6 +46,8 @@ use Rattle.swc_ecma_parser_reader.specs.Entry.{error_tokens}
 use Rattle.swc_ecma_parser_reader.proofs.Errors.{kind_here, is_error}
 use Rattle.swc_ecma_parser_reader.proofs.Between.{SoundTree, SoundStep, Sound, same, same-fewer, no_faults, sound_moved, sound_here, sound_as, sound_after}
 use Rattle.swc_ecma_parser_reader.proofs.expressions.CompleteKinds.{seen}
+use Rattle.swc_ecma_parser_reader.proofs.expressions.NoBlocks.{NoBlock}
+use Rattle.swc_ecma_parser_grammar.proofs.Arrows.{body_walk}
 use Rattle.swc_ecma_parser_reader.proofs.expressions.SoundSteps.{paired, stepped, moved_back, meets_as, reject_meets, other, clash, Takes, expect_sound, fault_sound, stands, FreeWord, reference_sound, Dotted, word_dotted, private_dotted, dotted_sound, walks_push, notes_push, supported_push, any_word_sound}
 use Rattle.swc_ecma_parser_grammar.proofs.Naming.{name_is_clean}
 use Rattle.swc_ecma_parser_reader.proofs.expressions.SoundCovers.{SoundCover, SoundLiteral, Headed, MethodRead, inside_sound, array_sound, object_sound}
@@ -119,11 +121,11 @@ abbrev pub BodyRead : ℕ → (is_async : Bool) → Tree → Code → Place → 
 BodyRead n w x k c d = ArrowBodyRule (Reads n) k w x c d × (supported_in k.flags.module x ≡ true) × (k.flags.module ≡ true → notes x ≡ [])
 
 abbrev pub SoundBody : ℕ → (is_async : Bool) → State → Tree → State → Type 0
-SoundBody n w s x t = Sound same (λ k l. walk (walks.in_body (env_of k l)) x) (record (notes_of x) { found_module_item = false }) (BodyRead n w x) s t
+SoundBody n w s x t = Sound same (λ k l. body_walk (walks.in_body (env_of k l)) x) (record (notes_of x) { found_module_item = false }) (BodyRead n w x) s t
 
 -- the reader of functions as parts of expressions is sound: a method is read from behind its key, and where a name stands a
 -- parameter is that name
-pub record FunctionsSound (n : ℕ) (function : FunctionForm → Reader Tree) : Type 0 where
+pub record FunctionsSound (n : ℕ) (inner : Class → Reader Tree) (function : FunctionForm → Reader Tree) : Type 0 where
   pub expressions : (s : State) → begins_function s.at ≡ true → Meets (λ x t. SoundTree (FunctionRead n) s x t) (function expression_form s)
   pub classes : (s : State) → kind_at s.at ≡ kind.Class → Meets (λ x t. SoundTree (FunctionRead n) s x t) (function class_form s)
   pub methods : (form : MethodForm) (key : Tree) (s m : State) → Headed n form key s m → Meets (λ x t. SoundTree (MethodRead n) s x t) (function (property_form form (span_at s.at) key) m)
@@ -131,6 +133,8 @@ pub record FunctionsSound (n : ℕ) (function : FunctionForm → Reader Tree) : 
   pub names : (s : State) → name_at s.code.flags s.at ≡ true
       → Meets (λ x t. (is_error (kind_at (after s.at)) ≡ false → t.at ≡ after s.at) × (is_binding_name x ≡ true)) (function parameter_form s)
   pub blocks : (w : Bool) (s : State) → Meets (SoundBody n w s) (function (block_form w) s)
+  -- the other body of an arrow function, an expression, is no block
+  pub no_blocks : (s : State) → Meets NoBlock (inner assignment s)
 
 -- nothing is taken, in code that can be a module's
 abbrev AsModule : Code → Place → Place → Type 0
@@ -169,7 +173,7 @@ free_left In calls i k c d e r = let free : is_name k.flags i.sym ≡ true = ap 
 
 module _ (n : ℕ) (inner : Class → Reader Tree) (cover : Reader Cover) (sound : (class : Class) (s : State) → Meets (λ x t. SoundTree (ReadsClass n class) s x t) (inner class s))
     (covers : (s : State) → Meets (λ v t. SoundCover n s v t) (cover s))
-    (function : FunctionForm → Reader Tree) (functions : FunctionsSound n function) where
+    (function : FunctionForm → Reader Tree) (functions : FunctionsSound n inner function) where
   -- ---- accesses
 
   abbrev SoundAccess : State → Tree → State → Type 0

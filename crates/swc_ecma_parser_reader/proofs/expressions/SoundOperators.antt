@@ -199,7 +199,7 @@ module _ (n : ℕ) (k : Code) (op : BinaryOp) (x y : Tree) (c i d : Place) (h : 
 
 module _ (n : ℕ) (inner : Class → Reader Tree) (cover : Reader Cover) (sound : (class : Class) (s : State) → Meets (λ x t. SoundTree (ReadsClass n class) s x t) (inner class s))
     (covers : (s : State) → Meets (λ v t. SoundCover n s v t) (cover s))
-    (function : FunctionForm → Reader Tree) (functions : FunctionsSound n function) where
+    (function : FunctionForm → Reader Tree) (functions : FunctionsSound n inner function) where
   -- ---- unary and update operators
 
   abbrev pub SoundUnary : State → Tree → State → Type 0

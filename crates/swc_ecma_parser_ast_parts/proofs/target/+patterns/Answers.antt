@@ -1,10 +1,10 @@
 use Rattle.std.proofs.Common.{arith, length, ◌≡◌, ◌∙◌, Option, IfOk, option_map, ap, refl, subst, sym}
 use Rattle.std.specs.Vec.Iter.{into_iter_items, into_iter_len}
 use Rattle.swc_ecma_parser_model.specs.Held.{Held}
-use Rattle.swc_ecma_parser_model.specs.Targets.{as_elements, as_pattern, as_properties}
+use Rattle.swc_ecma_parser_model.specs.Targets.{as_elements, as_pattern, as_properties, as_property}
 use Rattle.swc_ecma_parser_model.specs.Tree.{Tree}
 use Rattle.swc_ecma_parser_ast.specs.Parts.{view_option}
-use Rattle.swc_ecma_parser_ast.specs.View.{view_expr, view_expr_or_spread, view_object_pat_prop, view_pat, view_prop_or_spread}
+use Rattle.swc_ecma_parser_ast.specs.View.{view_expr, view_expr_or_spread, view_object_pat_prop, view_pat, view_prop, view_prop_or_spread}
 use Rattle.swc_ecma_parser_ast.specs.declared.call.ExprOrSpread.{ExprOrSpread}
 use Rattle.swc_ecma_parser_ast.specs.declared.node.PatBox.{PatBox}
 use Rattle.swc_ecma_parser_ast_parts.specs.Targets.{as_element_at, as_property_at}
@@ -96,4 +96,4 @@ properties-returns t c =
 pub property-returns-in-Prop : goal.property-returns-in-Prop
 property-returns-in-Prop t c =
     subst (λ (o : Option Tree). IfOk c.plain_property.result (λ x. o ≡ option_map view_object_pat_prop x))
-    (sym (ap (λ p. as_property_at c.args.last (view_prop_or_spread p)) c.in-Prop.is ∙ property_anywhere c.args.last c.in-Prop.x)) c.plain_property.ensures
+    (sym (ap (λ p. as_property_at c.args.last (view_prop_or_spread p)) c.in-Prop.is ∙ (property_anywhere c.args.last c.in-Prop.x.value ∙ ap (λ p. as_property (view_prop p)) (sym c.into_inner.ensures)))) c.plain_property.ensures

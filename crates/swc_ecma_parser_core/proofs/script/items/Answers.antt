@@ -1,12 +1,11 @@
-use Rattle.std.proofs.Common.{◌≡◌, map, length, true, sym, ap, ◌∙◌}
-use Rattle.std.specs.Prelude.{◌==◌}
-use Rattle.std.proofs.lemmas.List.{map_push, length-map}
+use Rattle.std.proofs.Common.{map, true, sym, ◌∙◌}
+use Rattle.std.proofs.lemmas.List.{map_push}
 use Rattle.std.proofs.lemmas.Result.{err_from_is_err_and}
 use Rattle.swc_ecma_parser_grammar.specs.Reads.{top_item}
 use Rattle.swc_ecma_parser_reader.specs.Reader.{whole_stmt, at_end}
 use Rattle.swc_ecma_parser_reader.proofs.Loops.{items_err, whole_shorter}
 use Rattle.swc_ecma_parser_reader.proofs.Empty.{never_more}
-use Rattle.swc_ecma_parser_core.proofs.Items.{script_more}
+use Rattle.swc_ecma_parser_bodies.proofs.Items.{body_more, body_next}
 use Rattle.swc_ecma_parser_core.proofs.script.items.Goals as goal
 
 pub returns-in_err-stmt-clause-gives : goal.returns-in_err-stmt-clause-gives
@@ -25,12 +24,12 @@ pub items-preserved : goal.items-preserved
 items-preserved g c =
     let d = c.args.limit in
     let s = g.P.Source.seen c.items.p in
-    let found = map g.T.Trees.stmt_of c.items.found.items in
-    let first : c.is_empty.result ≡ (length found == 0) = c.is_empty.ensures ∙ ap (λ n. n == 0) (c.items.found.ok.0 ∙ sym (length-map c.items.found.items g.T.Trees.stmt_of)) in (
-      rw (c.in_ok-pushed.ensures.items, map_push, c.in_ok-pushed.ensures.state, c.direct.ensures) (c.items.invariant.0
-          ∙ script_more (whole_stmt d top_item) at_end found c.is_empty.result s _ _ first (sym c.at_end.ensures ∙ c.items-test.true) c.in_ok-stmt.ensures (whole_shorter d top_item s _ _ c.in_ok-stmt.ensures)),
+    let found = map g.T.Trees.stmt_of c.items.found.items in (
+      rw (c.in_ok-pushed.ensures.items, map_push, c.in_ok-pushed.ensures.state, c.direct-directives.ensures.state) (c.items.invariant.0
+          ∙ body_more (whole_stmt d top_item) at_end true found c.items.directives s _ _ c.items.invariant.2 (sym c.at_end.ensures ∙ c.items-test.true) c.in_ok-stmt.ensures (whole_shorter d top_item s _ _ c.in_ok-stmt.ensures)),
       λ h. never_more s.at (c.items.invariant.1 h) (sym c.at_end.ensures ∙ c.items-test.true),
+      rw (c.in_ok-pushed.ensures.items, map_push, c.direct-directives.ensures.next) (body_next true found c.items.directives _ c.items.invariant.2),
     )
 
 pub items-smaller : goal.items-smaller
-items-smaller g c = rw (c.in_ok-pushed.ensures.state, c.direct.ensures) (whole_shorter c.args.limit top_item (g.P.Source.seen c.items.p) _ _ c.in_ok-stmt.ensures)
+items-smaller g c = rw (c.in_ok-pushed.ensures.state, c.direct-directives.ensures.state) (whole_shorter c.args.limit top_item (g.P.Source.seen c.items.p) _ _ c.in_ok-stmt.ensures)

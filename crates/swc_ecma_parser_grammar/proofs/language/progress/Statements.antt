@@ -122,7 +122,7 @@ module _ (In : Goal → Type 0) (go : (g : Goal) → In g → Advances (begin g)
   using_declarator r = inner r.reads_name ▸▹ any_token ▹▹ goes (inner r.reads_init)
 
   pub using : {k : Code} {at : Position} {x : Tree} {c d : Place} → UsingRule In k at x c d → Advances c d
-  using {k} {d = d} r = await_word r.reads_await ▹▸ any_token ▹▸ separated (UsingDeclaratorRule In k) (λ x i j q. using_declarator q) r.declarators (after r.word) d r.reads
+  using {k} r = await_word r.reads_await ▹▸ any_token ▹▸ separated (UsingDeclaratorRule In k) (λ x i j q. using_declarator q) r.declarators (after r.word) r.behind r.reads ▸▹ ends r.ends
 
   -- ---- for heads
 
@@ -147,7 +147,7 @@ module _ (In : Goal → Type 0) (go : (g : Goal) → In g → Advances (begin g)
 
   pub using_head : {k : Code} {x : Tree} {c d : Place} → UsingHeadRule In k x c d → Advances c d
   using_head (heads.using_head_rule y r a) = using_name r
-  using_head (heads.await_using_head_rule y h a r b) = any_token ▹▸ inner r
+  using_head (heads.await_using_head_rule y h a l r b) = any_token ▹▸ inner r
 
   pub of_left : {k : Code} {is_await : Bool} {x : Tree} {c d : Place} → OfLeftRule In k is_await x c d → Advances c d
   of_left (heads.of_left_rule r a) = left r
@@ -210,7 +210,7 @@ module _ (In : Goal → Type 0) (go : (g : Goal) → In g → Advances (begin g)
   form (statements.for_of_rule is_await y z w l m n h v g r i q j s a) =
       any_token ▹▸ await_word v ▹▸ any_token ▹▸ of_left r ▸▹ any_token ▹▹ goes (inner q) ▹▹ any_token ▹▹ goes (inner s)
   form (statements.expr_rule e m a r b q f) = inner r ▸▹ ends q
-  form (statements.import_expr_rule e m a r q f) = inner r ▸▹ optional_ends q
+  form (statements.import_expr_rule e m a r q f) = inner r ▸▹ ends q
 
   -- ---- imports and exports
 
@@ -238,7 +238,7 @@ module _ (In : Goal → Type 0) (go : (g : Goal) → In g → Advances (begin g)
   pub export : {k : Code} {x : Tree} {c d : Place} → ExportRule In k x c d → Advances c d
   export (exports.export_declaration_rule ds y m n r q a) = export_front r ▸▸ exported q
   export (exports.export_from_rule b xs s y l m n h r q o f a) = any_token ▹▸ export_clause r ▸▸ from s l m q ▸▹ attributes o ▹▹ ends f
-  export (exports.export_names_rule xs m h r a q b) = any_token ▹▸ export_clause r ▸▹ optional_ends q
+  export (exports.export_names_rule xs m h r a q b) = any_token ▹▸ export_clause r ▸▹ ends q
   export (exports.export_default_declaration_rule ds y m n r q a) = export_front r ▸▸ default q
   export (exports.export_default_expression_rule e m h g a r q b) = any_token ▹▸ any_token ▹▸ inner r ▸▹ ends q
   export {c = c} (exports.export_all_rule s y m n h g r q o a) = any_token ▹▸ any_token ▹▸ from s (after (after c)) m r ▸▹ attributes q ▹▹ ends o

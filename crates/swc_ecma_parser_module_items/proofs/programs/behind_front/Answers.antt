@@ -4,6 +4,7 @@ use Rattle.std.proofs.lemmas.List.{length-map}
 use Rattle.std.proofs.lemmas.Result.{err_from_is_err_and}
 use Rattle.swc_ecma_parser_members.specs.Leading.{leading_of}
 use Rattle.swc_ecma_parser_reader.specs.Decorators.{has_any}
+use Rattle.swc_ecma_parser_reader.specs.Reader.{directs}
 use Rattle.swc_ecma_parser_reader.specs.State.{GivesAs}
 use Rattle.swc_ecma_parser_module_items.proofs.BehindFront.{any_of, led_refused, led_read}
 use Rattle.swc_ecma_parser_module_items.proofs.programs.behind_front.Goals as goal
@@ -24,4 +25,4 @@ returns-clause-gives g c =
     let items : map g.T.BuildsItem.item_of c.pushed.new.items.items ≡ g.T.BuildsItem.item_of c.in_ok-first.first ∷ [] =
     ap (map g.T.BuildsItem.item_of) (c.in_ok-pushed.ensures.items ∙ ap (λ xs. xs ++ c.in_ok-first.first ∷ []) c.new-found.ensures.items) in
     subst (λ o. GivesAs (λ found. map g.T.BuildsItem.item_of found.items) o c.items_behind.result (g.P.Source.seen c.items_behind.new.p))
-    (sym (led_read c.args.limit v (g.P.Source.seen c.args.p.now) any _ _ c.in_ok-first.ensures _ items _ c.in_ok-pushed.ensures.state)) c.items_behind.ensures.gives
+    (sym (led_read c.args.limit v (g.P.Source.seen c.args.p.now) any _ _ c.in_ok-first.ensures _ items _ c.in_ok-pushed.ensures.state)) (c.items_behind.ensures.gives (c.is_string_item-directives.ensures ∙ ap (directs true) (sym items)))

@@ -1,7 +1,7 @@
-use Rattle.std.proofs.Common.{◌≡◌, refl, map, length, Ok, sym, ap, ◌∙◌}
-use Rattle.std.specs.Prelude.{◌==◌}
-use Rattle.std.proofs.lemmas.List.{map_push, length-map}
+use Rattle.std.proofs.Common.{◌≡◌, true, refl, map, Ok, sym, ap, ◌∙◌}
+use Rattle.std.proofs.lemmas.List.{map_push}
 use Rattle.std.proofs.lemmas.Result.{err_from_is_err_and}
+use Rattle.swc_ecma_parser_bodies.proofs.Items.{body_next}
 use Rattle.swc_ecma_parser_members.specs.Leading.{leading_of}
 use Rattle.swc_ecma_parser_reader.specs.State.{Outcome}
 use Rattle.swc_ecma_parser_module_reader.specs.Decorated.{no_leading}
@@ -45,11 +45,11 @@ statements-preserved g c =
     let u = g.P.Source.seen c.front_item.new.p in
     let found = map g.T.Trees.stmt_of c.statements.found.items in
     let read : ◌≡◌ {A = Outcome Turn} (turn d s) (Ok (Statement (g.T.Trees.stmt_of c.in-Statement.stmt), u)) =
-    c.in_ok-led.ensures ∙ ap (λ l. Ok (turn_of g.T.Trees.stmt_of g.T.BuildsFunction.decorator_of l, u)) c.in-Statement.is in
-    let first : c.is_empty.result ≡ (length found == 0) = c.is_empty.ensures ∙ ap (λ n. n == 0) (c.statements.found.ok.0 ∙ sym (length-map c.statements.found.items g.T.Trees.stmt_of)) in (
-      rw (c.in_ok-pushed-in-Statement.ensures.items, map_push, c.in_ok-pushed-in-Statement.ensures.state, c.direct.ensures) (c.statements.invariant.0
-          ∙ front_read d found s (sym c.before_module.ensures ∙ c.statements-test.true) c.is_empty.result first _ u read),
+    c.in_ok-led.ensures ∙ ap (λ l. Ok (turn_of g.T.Trees.stmt_of g.T.BuildsFunction.decorator_of l, u)) c.in-Statement.is in (
+      rw (c.in_ok-pushed-in-Statement.ensures.items, map_push, c.in_ok-pushed-in-Statement.ensures.state, c.direct-directives.ensures.state) (c.statements.invariant.0
+          ∙ front_read d found s (sym c.before_module.ensures ∙ c.statements-test.true) c.statements.directives (sym c.statements.invariant.2) _ u read),
       λ h. none_begins s.at (c.statements.invariant.1 h) (sym c.before_module.ensures ∙ c.statements-test.true),
+      rw (c.in_ok-pushed-in-Statement.ensures.items, map_push, c.direct-directives.ensures.next) (body_next true found c.statements.directives _ c.statements.invariant.2),
     )
 
 pub statements-smaller : goal.statements-smaller
@@ -57,7 +57,7 @@ statements-smaller g c =
     let u = g.P.Source.seen c.front_item.new.p in
     let read : ◌≡◌ {A = Outcome Turn} (turn c.args.limit (g.P.Source.seen c.statements.p)) (Ok (Statement (g.T.Trees.stmt_of c.in-Statement.stmt), u)) =
     c.in_ok-led.ensures ∙ ap (λ l. Ok (turn_of g.T.Trees.stmt_of g.T.BuildsFunction.decorator_of l, u)) c.in-Statement.is in
-    rw (c.in_ok-pushed-in-Statement.ensures.state, c.direct.ensures) (turn_shorter c.args.limit (g.P.Source.seen c.statements.p) _ u read)
+    rw (c.in_ok-pushed-in-Statement.ensures.state, c.direct-directives.ensures.state) (turn_shorter c.args.limit (g.P.Source.seen c.statements.p) _ u read)
 
 -- they end
 pub returns-clause-gives : goal.returns-clause-gives

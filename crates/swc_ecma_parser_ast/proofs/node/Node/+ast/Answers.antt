@@ -1,6 +1,7 @@
 -- What a node holds is smaller than it, and so is what is left of a chain.
 use Rattle.std.proofs.Common.{rules, ◌≡◌, ◌+◌, ◌*◌, ◌≤◌, ◌∙◌, sym, ap, arith}
 use Rattle.std.specs.declared.alloc.Global.{Global}
+use Rattle.std.specs.declared.vec.Vec.{Vec}
 use denote.Struct.Field.{RawPtr-field}
 use Rattle.swc_ecma_parser_model.specs.Size.{tree_size}
 use Rattle.swc_ecma_parser_model.specs.Held.{Held}
@@ -36,6 +37,9 @@ pat_at p g v = a.Pat (record { ptr = p; alloc = g; value = v })
 abbrev stmt_at : RawPtr-field.Value → Global → Stmt Node → Any
 stmt_at p g v = a.Stmt (record { ptr = p; alloc = g; value = v })
 
+abbrev stmts_at : RawPtr-field.Value → Global → Vec (Stmt Node) Global → Any
+stmts_at p g v = a.Stmts (record { ptr = p; alloc = g; value = v })
+
 -- the nodes within are smaller
 within_expr : (p : _) (g : Global) (v : Expr Node)
     → weighed-Any-Expr-0.weight Node (λ y. 2 * (node.size y + 1) + 0) (record { ptr = p; alloc = g; value = v }) ≤ 2 * tree_size (view_any (expr_at p g v)).tree
@@ -48,6 +52,10 @@ within_pat p g v = omega (arith, doubled weighed-Any-Pat-0 (λ y. node.size y + 
 within_stmt : (p : _) (g : Global) (v : Stmt Node)
     → weighed-Any-Stmt-0.weight Node (λ y. 2 * (node.size y + 1) + 0) (record { ptr = p; alloc = g; value = v }) ≤ 2 * tree_size (view_any (stmt_at p g v)).tree
 within_stmt p g v = omega (arith, doubled weighed-Any-Stmt-0 (λ y. node.size y + 1) (record { ptr = p; alloc = g; value = v }), le_any (stmt_at p g v))
+
+within_stmts : (p : _) (g : Global) (v : Vec (Stmt Node) Global)
+    → weighed-Any-Stmts-0.weight Node (λ y. 2 * (node.size y + 1) + 0) (record { ptr = p; alloc = g; value = v }) ≤ 2 * tree_size (view_any (stmts_at p g v)).tree
+within_stmts p g v = omega (arith, doubled weighed-Any-Stmts-0 (λ y. node.size y + 1) (record { ptr = p; alloc = g; value = v }), le_any (stmts_at p g v))
 
 pub discard_args-requires : goal.discard_args-requires
 discard_args-requires t c κs =
@@ -79,5 +87,7 @@ discard-requires-in_default-into_inner t c κs =
 
 pub discard_stmts-requires : goal.discard_stmts-requires
 discard_stmts-requires t c κs =
-    let h = sized _ _ _ c.in-Stmts.is c.self.view_is in
-    (((omega (arith, h, le_any (a.Stmts c.in-Stmts.stmts), doubled weighed-Any-Stmts-0 (λ y. node.size y + 1) c.in-Stmts.stmts, c.loop-expr.invariant, c.decreases), tt), tt), search rules)
+    let at = stmts_at c.in-Stmts.stmts.ptr c.in-Stmts.stmts.alloc in
+    let h = taken at _ _ _ _ c.in-Stmts.is c.self.view_is c.into_inner-in-Stmts.ensures in
+    let i = within_stmts c.in-Stmts.stmts.ptr c.in-Stmts.stmts.alloc c.into_inner-in-Stmts.result in
+    (((omega (arith, h, i, c.loop-expr.invariant, c.decreases), tt), tt), search rules)

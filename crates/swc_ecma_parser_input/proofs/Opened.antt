@@ -1,0 +1,36 @@
+-- What a buffer holds once its first two tokens were drawn.
+use Rattle.std.proofs.Common.{◌≡◌, ◌∙◌, sym, ap, refl, Bool, true, false, List, [], ◌∷◌, ◌++◌, Option, Some, None, is_none}
+use Rattle.swc_ecma_parser_common.specs.declared.span.BytePos.{BytePos}
+use Rattle.swc_ecma_parser_token.specs.declared.token.TokenAndSpan.{TokenAndSpan}
+use Rattle.swc_ecma_parser_input.specs.TokenSource.{TokenSource, Draws, DrawsFrom}
+use Rattle.swc_ecma_parser_input.specs.Place.{Place, first, second, lacks_memory, outset}
+use Rattle.swc_ecma_parser_input.specs.Buffered.{Buffered, placed, opened}
+use Rattle.swc_ecma_parser_input.specs.Ringed.{before}
+use Rattle.swc_ecma_parser_input.proofs.Bumped.{placed_kept}
+
+-- the tokens drawn, before those that are left
+abbrev pub held : Option TokenAndSpan → Option TokenAndSpan → List TokenAndSpan
+held cur next = before cur (before next [])
+
+drawn_left : (l0 l1 : List TokenAndSpan) (t : TokenAndSpan) → DrawsFrom l0 (Some t) l1 → lacks_memory (Some t) ≡ false → t ∷ l1 ≡ l0
+drawn_left l0 l1 t d h = ap (λ x. x ∷ l1) (d.same h) ∙ sym d.list
+
+opened_left : (l0 l1 l2 : List TokenAndSpan) (cur next : Option TokenAndSpan) → DrawsFrom l0 cur l1 → DrawsFrom l1 next l2 → (cur ≡ None → next ≡ None)
+    → lacks_memory (first (held cur next ++ l2)) ≡ false → lacks_memory (second (held cur next ++ l2)) ≡ false → held cur next ++ l2 ≡ l0
+opened_left l0 l1 l2 (Some c) (Some n) d e o h k = ap (λ l. c ∷ l) (drawn_left l1 l2 n e k) ∙ drawn_left l0 l1 c d h
+opened_left l0 l1 l2 (Some c) None d e o h k = ap (λ l. c ∷ l) (e.1 ∙ sym e.0) ∙ drawn_left l0 l1 c d h
+opened_left l0 l1 l2 None None d e o h k = (e.1 ∙ sym e.0) ∙ (d.1 ∙ sym d.0)
+opened_left l0 l1 l2 None (Some n) d e o h k = let f = o refl in absurd (cc)
+
+pub opened_place : (s0 s1 s2 : TokenSource) (start : BytePos) (cur next : Option TokenAndSpan) (ring : List TokenAndSpan) → start ≡ s0.start
+    → Draws s0 cur s1 → Draws s1 next s2 → (cur ≡ None → next ≡ None) → ring ≡ held cur next
+    → lacks_memory (first (ring ++ s2.left)) ≡ false → lacks_memory (second (ring ++ s2.left)) ≡ false
+    → placed (record { last = record { lo = start; hi = start }; left = ring ++ s2.left }) s2 ≡ opened s0
+opened_place s0 s1 s2 start cur next ring i d e o r h k =
+    let at : List TokenAndSpan → Place = λ l. record { last = record { lo = start; hi = start }; left = l } in
+    let put : List TokenAndSpan → Buffered = λ l. placed (at l) s0 in
+    let at_start : BytePos → Buffered = λ b. placed (outset b s0.left) s0 in
+    let whole : held cur next ++ s2.left ≡ s0.left = opened_left s0.left s1.left s2.left cur next d.draws e.draws o (ap (λ l. lacks_memory (first (l ++ s2.left))) (sym r) ∙ h) (ap (λ l. lacks_memory (second (l ++ s2.left))) (sym r) ∙ k) in
+    let kept : placed (at (ring ++ s2.left)) s2 ≡ placed (at (ring ++ s2.left)) s0 =
+    placed_kept (at (ring ++ s2.left)) (placed (at (ring ++ s2.left)) s0) (at (ring ++ s2.left)) s1 s2 next (placed_kept (at (ring ++ s2.left)) (placed (at (ring ++ s2.left)) s0) (at (ring ++ s2.left)) s0 s1 cur refl d) e in
+    kept ∙ (ap put (ap (λ l. l ++ s2.left) r ∙ whole) ∙ ap at_start i)

@@ -1,0 +1,32 @@
+-- Two tokens in two places.
+use Rattle.std.specs.Prelude.{◌≡◌, ℕ, ◌<◌, ◌-◌, List, [], ◌∷◌, Option, Some, None, get_or, length}
+use Rattle.swc_ecma_parser_token.specs.declared.token.TokenAndSpan.{TokenAndSpan}
+
+abbrev pub before : Option TokenAndSpan → List TokenAndSpan → List TokenAndSpan
+before None ts = ts
+before (Some t) ts = t ∷ ts
+
+-- the list behind its first token
+abbrev pub rest : List TokenAndSpan → List TokenAndSpan
+rest [] = []
+rest (t ∷ ts) = ts
+
+-- what stands in a place
+abbrev pub at : List (Option TokenAndSpan) → ℕ → Option TokenAndSpan
+at places k = get_or places k None
+
+-- the token in the front place, and then the one in the other
+abbrev pub ringed : List (Option TokenAndSpan) → ℕ → List TokenAndSpan
+ringed places front = before (at places front) (before (at places (1 - front)) [])
+
+-- the front place is empty only if the other is, and both hold so many tokens
+abbrev pub Holds : Option TokenAndSpan → Option TokenAndSpan → ℕ → Type 0
+Holds (Some t) (Some u) count = count ≡ 2
+Holds (Some t) None count = count ≡ 1
+Holds None None count = count ≡ 0
+Holds None (Some u) count = ⊥
+
+pub record IsRing (places : List (Option TokenAndSpan)) (front count : ℕ) : Type 0 where
+  pub is_place : front < 2
+  pub are_two : length places ≡ 2
+  pub holds : Holds (at places front) (at places (1 - front)) count

@@ -1,0 +1,113 @@
+//! Room for two tokens.
+
+ghost use Rattle.std.specs.Prelude.{◌≡◌, ◌<◌, [], ◌++◌, length, option_to_list, IfOk};
+ghost use Rattle.swc_ecma_parser_input.specs.Place.{first, second};
+ghost use Rattle.swc_ecma_parser_input.specs.Ringed.{before, rest};
+
+use std::alloc::AllocError;
+use std::marker::Model;
+use std::mem;
+use swc_ecma_parser_token::TokenAndSpan;
+
+/// Room for two tokens, which are taken in the order in which they came. The first stands in the front place, the one
+/// behind it in the other. To take one moves no other. Contracts see the tokens, in this order.
+#[derive(Drop)]
+pub(crate) struct Ring {
+    places: [Option<TokenAndSpan>; 2],
+    /// The number of the front place.
+    front: usize,
+    /// How many tokens there are.
+    count: usize,
+}
+
+impl Model for Ring {
+    ghost use Rattle.std.specs.Coded.{coded_list};
+    ghost use Rattle.std.specs.Prelude.{List};
+    ghost use Rattle.swc_ecma_parser_input.specs.Ringed.{ringed, IsRing};
+    ghost use Rattle.swc_ecma_parser_token.specs.contracts.token.TokenAndSpan as token;
+    ghost use Rattle.swc_ecma_parser_token.specs.declared.token.TokenAndSpan.{TokenAndSpan};
+
+    ghost Value = { List TokenAndSpan };
+
+    ghost coded = { coded_list token.the_row.coded };
+
+    ghost view = { λ r. ringed r.places r.front };
+
+    ghost invariant = { λ r. IsRing r.places r.front r.count };
+}
+
+impl Ring {
+    /// Room with these tokens in it.
+    pub fn of(first: Option<TokenAndSpan>, second: Option<TokenAndSpan>) -> Ring
+        requires { first ≡ None → second ≡ None }
+        ensures { result ≡ before first (before second []) }
+    {
+        let count = if second.is_some() {
+            2
+        } else if first.is_some() {
+            1
+        } else {
+            0
+        };
+        Ring {
+            places: [first, second],
+            front: 0,
+            count,
+        }
+    }
+
+    /// The token that is taken next.
+    pub fn first(&self) -> &Option<TokenAndSpan>
+        ensures { result.now ≡ first self.now }
+    {
+        &self.places[self.front]
+    }
+
+    /// The token behind it.
+    pub fn second(&self) -> &Option<TokenAndSpan>
+        ensures { result.now ≡ second self.now }
+    {
+        &self.places[1 - self.front]
+    }
+
+    /// Takes the first token, puts the new one, if it is one, in its place, and turns the front: there it stands behind
+    /// the other.
+    pub fn turn(&mut self, token: Option<TokenAndSpan>) -> Option<TokenAndSpan>
+        requires { length self.old < 2 → token ≡ None }
+        ensures taken { result ≡ first self.old }
+        ensures left { self.new ≡ rest self.old ++ option_to_list token }
+    {
+        if token.is_none() && self.count > 0 {
+            self.count -= 1;
+        }
+        let taken = mem::replace(&mut self.places[self.front], token);
+        self.front = 1 - self.front;
+        taken
+    }
+
+    /// Equal tokens in the same order, or no memory.
+    pub fn try_clone(&self) -> Result<Ring, AllocError>
+        ensures { IfOk result (λ r. r ≡ self.now) }
+    {
+        let first = copied(&self.places[0])?;
+        let second = copied(&self.places[1])?;
+        Ok(Ring {
+            places: [first, second],
+            front: self.front,
+            count: self.count,
+        })
+    }
+}
+
+/// An equal token, or no memory.
+fn copied(token: &Option<TokenAndSpan>) -> Result<Option<TokenAndSpan>, AllocError>
+    ensures { IfOk result (λ t. t ≡ token.now) }
+{
+    match token {
+        None => Ok(None),
+        Some(token) => match token.try_clone() {
+            Ok(copy) => Ok(Some(copy)),
+            Err(_) => Err(AllocError),
+        },
+    }
+}
