@@ -1,5 +1,5 @@
 -- A function or class in its place.
-use Rattle.std.specs.Prelude.{◌≡◌, Bool, true, false, ◌&&◌, Option, is_none, if◌then◌else◌}
+use Rattle.std.specs.Prelude.{Bool, true, false, ◌&&◌, Option, is_none, if◌then◌else◌}
 use Rattle.swc_ecma_parser_common.specs.declared.span.Span.{Span}
 use Rattle.swc_ecma_parser_error.specs.Kind.{Kind, ExpectedIdent, OutOfMemory}
 use Rattle.swc_ecma_parser_model.specs.declared.leaves.Ident.{Ident}
@@ -8,24 +8,34 @@ use Rattle.swc_ecma_parser_model.specs.Tree as tree
 use Rattle.swc_ecma_parser_model.specs.Tree.{Tree}
 use Rattle.swc_ecma_parser_trees.specs.Parts.{part_of}
 
+pub data Place : Type 0 where
+  expression : Place
+  declaration : Place
+  -- what a module exports by default, without the words of the export and with them
+  by_default : Place
+  exported : Place
+
 -- the name that is given, if one is
 abbrev pub named : Option Ident → Tree
 named name = part_of (λ n. tree.ident n.span n.sym) name
 
--- A tree that holds this name and this function, and nothing else; where it has a span of its own it is this one. An export holds
--- what it exports, which has the function's span.
-abbrev pub HoldsFunction : Span → (name fn : Tree) → Tree → Type 0
-HoldsFunction s name fn (tree.fn_expr t n f) = (t ≡ s) × (n ≡ name) × (f ≡ fn)
-HoldsFunction s name fn (tree.fn_decl n f) = (n ≡ name) × (f ≡ fn)
-HoldsFunction s name fn (tree.export_default_decl t d) = (t ≡ s) × HoldsFunction (span_of fn) name fn d
-HoldsFunction s name fn _ = ⊥
+-- A function with its name. A declaration has no span but the function's, and an export beside its own the function's.
+abbrev pub function_in : Place → Span → (name fn : Tree) → Tree
+function_in expression s name fn = tree.fn_expr s name fn
+function_in declaration s name fn = tree.fn_decl name fn
+function_in by_default s name fn = tree.fn_expr s name fn
+function_in exported s name fn = tree.export_default_decl s (tree.fn_expr (span_of fn) name fn)
 
--- A tree that holds this name and this class, as `HoldsFunction`.
-abbrev pub HoldsClass : Span → (name body : Tree) → Tree → Type 0
-HoldsClass s name body (tree.class_expr t n c) = (t ≡ s) × (n ≡ name) × (c ≡ body)
-HoldsClass s name body (tree.class_decl n c) = (n ≡ name) × (c ≡ body)
-HoldsClass s name body (tree.export_default_decl t d) = (t ≡ s) × HoldsClass (span_of body) name body d
-HoldsClass s name body _ = ⊥
+-- a class with its name, as `function_in`
+abbrev pub class_in : Place → Span → (name body : Tree) → Tree
+class_in expression s name body = tree.class_expr s name body
+class_in declaration s name body = tree.class_decl name body
+class_in by_default s name body = tree.class_expr s name body
+class_in exported s name body = tree.export_default_decl s (tree.class_expr (span_of body) name body)
+
+abbrev pub is_expression : Place → Bool
+is_expression expression = true
+is_expression _ = false
 
 -- whether a name is missing
 abbrev pub lacks_name : (is_required : Bool) → Option Ident → Bool
