@@ -116,11 +116,11 @@ fn a_look_ahead_draws_no_more(rt: HostRuntime) -> Result<(), Fail> {
     Ok(())
 }
 
-/// What a call answers once a text is read up to its end.
-fn behind_all(alloc: Global, entry: Entry, end: u32) -> Result<String, AllocError> {
+/// What an answer begins with once a text is read up to its end: of an item the refusal, of a whole the kind.
+fn head_behind_all(alloc: Global, entry: Entry, end: u32) -> Result<String, AllocError> {
     match entry {
-        Entry::Script | Entry::Program => format!(in alloc; "Script 0..{end}\n"),
-        Entry::Module => format!(in alloc; "Module 0..{end}\n"),
+        Entry::Script | Entry::Program => format!(in alloc; "Script "),
+        Entry::Module => format!(in alloc; "Module "),
         Entry::Stmt | Entry::StmtListItem | Entry::ModuleItem => {
             format!(in alloc; "refused {end}..{end} Eof\n")
         }
@@ -146,8 +146,8 @@ fn none_is_asked_for_once(rt: HostRuntime) -> Result<(), Fail> {
             Entry::ModuleItem,
         ] {
             let (last, found) = counted(rt.alloc(), input(text)?, entry, 6)?;
-            let wanted = behind_all(rt.alloc(), entry, end)?;
-            assert_eq!(rt; last.as_str(), wanted.as_str());
+            let head = head_behind_all(rt.alloc(), entry, end)?;
+            assert!(rt; last.starts_with(head.as_str()), "{last}");
             assert_eq!(rt; found, (tokens, 1), "of {text}");
         }
     }
