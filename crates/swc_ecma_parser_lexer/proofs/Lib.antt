@@ -2,3 +2,4 @@ pub mod Literals
 pub mod Texts
 pub mod Marks
 pub mod Collections
+pub mod Candidates

@@ -1,5 +1,6 @@
 pub mod Strings
 pub mod Make
+pub mod Candidates
 pub mod Comments
 pub mod Tokens
 pub mod Source

@@ -7,6 +7,7 @@ mod input;
 mod lexer;
 mod make;
 mod place;
+mod words;
 
 pub use input::StringInput;
 pub use lexer::Lexer;

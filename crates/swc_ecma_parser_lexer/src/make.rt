@@ -4,67 +4,18 @@ ghost use Rattle.std.specs.Prelude.{◌≡◌, IfOk};
 ghost use Rattle.swc_ecma_parser_lexer.specs.Make as read;
 
 use crate::escape::{is_well_escaped, value_of};
+use crate::words::keyword_of;
 use std::alloc::{AllocError, Global};
 use swc_ecma_parser_common::{Atom, Span};
 use swc_ecma_parser_error::{Error, SyntaxError};
 use swc_ecma_parser_scan::{Mark, Number, State, first_char};
-use swc_ecma_parser_token::{Keyword, Token, Word};
-
-static KEYWORDS: [Keyword; 35] = [
-    Keyword::Await,
-    Keyword::Break,
-    Keyword::Case,
-    Keyword::Catch,
-    Keyword::Continue,
-    Keyword::Debugger,
-    Keyword::Default,
-    Keyword::Do,
-    Keyword::Else,
-    Keyword::Finally,
-    Keyword::For,
-    Keyword::Function,
-    Keyword::If,
-    Keyword::Return,
-    Keyword::Switch,
-    Keyword::Throw,
-    Keyword::Try,
-    Keyword::Var,
-    Keyword::Let,
-    Keyword::Const,
-    Keyword::While,
-    Keyword::With,
-    Keyword::New,
-    Keyword::This,
-    Keyword::Super,
-    Keyword::Class,
-    Keyword::Extends,
-    Keyword::Export,
-    Keyword::Import,
-    Keyword::Yield,
-    Keyword::In,
-    Keyword::InstanceOf,
-    Keyword::TypeOf,
-    Keyword::Void,
-    Keyword::Delete,
-];
-
-/// The one of the words that is spelled so.
-fn keyword_in(words: &[Keyword], name: &str) -> Option<Keyword>
-    ensures { result ≡ read.keyword_in words.now name.now }
-{
-    for word in words {
-        if word.as_str() == name {
-            return Some(*word);
-        }
-    }
-    None
-}
+use swc_ecma_parser_token::{Token, Word};
 
 #[tactic(auto, unfolding(crate::specs::Make::word_of))]
 fn word_of(alloc: Global, name: &str) -> Result<Word, AllocError>
     ensures { IfOk result (λ word. word ≡ read.word_of name.now) }
 {
-    let word = if let Some(keyword) = keyword_in(&KEYWORDS, name) {
+    let word = if let Some(keyword) = keyword_of(name) {
         Word::Keyword(keyword)
     } else if name == "null" {
         Word::Null
