@@ -10,7 +10,7 @@ use Rattle.swc_ecma_parser_grammar.specs.declared.position.Position.{Position}
 use Rattle.swc_ecma_parser_grammar.specs.Looks.{spanned}
 use Rattle.swc_ecma_parser_grammar.specs.Names.{Code}
 use Rattle.swc_ecma_parser_grammar.specs.Parameters.{parameters}
-use Rattle.swc_ecma_parser_grammar.specs.Reads.{with_in}
+use Rattle.swc_ecma_parser_grammar.specs.language.Contexts.{with_in}
 use Rattle.swc_ecma_parser_grammar.specs.language.Goals.{Goal, Purpose, binding, expression, assignment, left_side, expr_goal, pattern_goal, element_goal, stmt_goal, member_goal, decorator_goal}
 use Rattle.swc_ecma_parser_grammar.specs.language.Contexts as contexts
 use Rattle.swc_ecma_parser_grammar.specs.language.Parts as parts

@@ -9,8 +9,8 @@ use Rattle.swc_ecma_parser_model.specs.Forms.{is_rest}
 use Rattle.swc_ecma_parser_model.specs.Targets.{binds, all_bind, if_binds}
 use Rattle.swc_ecma_parser_grammar.specs.Looks.{kind_at, spanned}
 use Rattle.swc_ecma_parser_grammar.specs.Names.{Code}
-use Rattle.swc_ecma_parser_grammar.specs.Reads.{with_in}
 use Rattle.swc_ecma_parser_grammar.specs.Supported.{supported_in, all_supported_in, is_supported_key_in}
+use Rattle.swc_ecma_parser_grammar.specs.language.Contexts.{with_in}
 use Rattle.swc_ecma_parser_grammar.specs.language.Goals.{Goal, Purpose, binding, assigning, pattern_goal, element_goal}
 use Rattle.swc_ecma_parser_grammar.specs.language.Lists.{ReadsListed, LastComma, no_comma, last_comma, Elements, no_elements, hole, last_element, more_elements}
 use Rattle.swc_ecma_parser_grammar.specs.language.Functions as functions

@@ -19,7 +19,7 @@ use Rattle.swc_ecma_parser_model.specs.Directive.{is_use_strict}
 use Rattle.swc_ecma_parser_grammar.specs.declared.position.Position.{Position}
 use Rattle.swc_ecma_parser_grammar.specs.Looks.{kind_at, sees, same_kind, spanned, breaks_at}
 use Rattle.swc_ecma_parser_grammar.specs.Names.{Code}
-use Rattle.swc_ecma_parser_grammar.specs.Reads.{with_in, directed, directs_on, nested_item, top_item, DeclaratorRule, plain_rule, initialized_rule, ReadsSeparated, ReadsItems, StmtRule, block_rule, empty_rule, debugger_rule, variables_rule, using_rule, if_statement_rule, TargetRule, no_target_rule, target_rule, OperandRule, no_operand_rule, operand_rule, break_rule, continue_rule, return_rule, case_clause_rule, default_clause_rule, ReadsCases, switch_rule, throw_rule, try_rule, with_rule, while_rule, do_while_rule, expr_rule, import_rule, ReadsBlock, CatchRule, no_catch_rule, catch_rule, catch_parameter_rule, FinallyRule, no_finally_rule, finally_rule, ReadsHead, IfRule, if_rule, ElseRule, no_else_rule, else_rule, else_if_rule, ReadsBraced, ReadsFunction, class_rule, function_rule, labeled_rule, head_code, HeadVariables, InitRule, no_init_rule, init_variables_rule, init_expression_rule, LeftRule, declared_rule, left_target_rule, for_in_rule, for_of_rule, PartRule, no_part_rule, part_rule, for_rule, OfLeftRule, of_left_rule, of_using_rule, of_await_rule}
+use Rattle.swc_ecma_parser_grammar.specs.Reads.{DeclaratorRule, plain_rule, initialized_rule, ReadsItems, StmtRule, block_rule, empty_rule, debugger_rule, variables_rule, using_rule, if_statement_rule, TargetRule, no_target_rule, target_rule, OperandRule, no_operand_rule, operand_rule, break_rule, continue_rule, return_rule, case_clause_rule, default_clause_rule, ReadsCases, switch_rule, throw_rule, try_rule, with_rule, while_rule, do_while_rule, expr_rule, import_rule, ReadsBlock, CatchRule, no_catch_rule, catch_rule, catch_parameter_rule, FinallyRule, no_finally_rule, finally_rule, ReadsHead, IfRule, if_rule, ElseRule, no_else_rule, else_rule, else_if_rule, ReadsBraced, ReadsFunction, class_rule, function_rule, labeled_rule, HeadVariables, InitRule, no_init_rule, init_variables_rule, init_expression_rule, LeftRule, declared_rule, left_target_rule, for_in_rule, for_of_rule, PartRule, no_part_rule, part_rule, for_rule, OfLeftRule, of_left_rule, of_using_rule, of_await_rule}
 use Rattle.swc_ecma_parser_grammar.specs.Entries.{ReadsScript, ReadsShebang, some_shebang, no_shebang, script_code, items_await, script_awaits}
 use Rattle.swc_ecma_parser_grammar.specs.Using.{misused, each_misused}
 use Rattle.swc_ecma_parser_grammar.specs.Notes.{notes, all_notes, statement_note, with_note}
@@ -27,14 +27,14 @@ use Rattle.swc_ecma_parser_grammar.specs.Decorated.{declared_class, declared_fun
 use Rattle.swc_ecma_parser_grammar.specs.Supported.{supported, supported_in, all_supported_in}
 use Rattle.swc_ecma_parser_grammar.specs.ReadsSupported.{ReadsClass, ReadsPat, ReadsTarget, ReadsStmt, ReadsTop, ReadsParams, ReadsNamedClass, ReadsDecorators, ReadsDeclared}
 use Rattle.swc_ecma_parser_grammar.specs.language.Goals.{assignment, stmt_goal}
-use Rattle.swc_ecma_parser_grammar.specs.language.Contexts.{in_loop, in_breakable, in_with}
+use Rattle.swc_ecma_parser_grammar.specs.language.Contexts.{in_loop, in_breakable, in_with, with_in, head_code}
 use Rattle.swc_ecma_parser_grammar.specs.language.ForHeads as heads
 use Rattle.swc_ecma_parser_grammar.specs.language.Classes as classes
 use Rattle.swc_ecma_parser_grammar.specs.language.Functions as functions
 use Rattle.swc_ecma_parser_grammar.specs.language.Parts as parts
 use Rattle.swc_ecma_parser_grammar.specs.language.Declarations as declarations
-use Rattle.swc_ecma_parser_grammar.specs.language.Items.{sub_statement, labelled_item, ItemsRule, BlockRule}
-use Rattle.swc_ecma_parser_grammar.specs.language.Lists.{ReadsEach}
+use Rattle.swc_ecma_parser_grammar.specs.language.Items.{sub_statement, labelled_item, ItemsRule, BlockRule, directed, directs_on, nested_item, top_item}
+use Rattle.swc_ecma_parser_grammar.specs.language.Lists.{ReadsEach, ReadsSeparated}
 use Rattle.swc_ecma_parser_grammar.specs.language.Statements as statements
 use Rattle.swc_ecma_parser_grammar.specs.language.Statements.{is_default, at_most_one_default}
 use Rattle.swc_ecma_parser_grammar.specs.language.Reads.{Reads}

@@ -12,7 +12,7 @@ use Rattle.swc_ecma_parser_model.specs.Tree.{Tree, listed}
 use Rattle.swc_ecma_parser_model.specs.Forms.{is_simple_target, is_pattern_target, is_binding_name}
 use Rattle.swc_ecma_parser_grammar.specs.Looks.{kind_at, breaks_at, spanned}
 use Rattle.swc_ecma_parser_grammar.specs.Names.{Code}
-use Rattle.swc_ecma_parser_grammar.specs.Reads.{with_in}
+use Rattle.swc_ecma_parser_grammar.specs.language.Contexts.{with_in}
 use Rattle.swc_ecma_parser_grammar.specs.language.Goals.{binding, assigning, expr_goal, expression, assignment, unary}
 use Rattle.swc_ecma_parser_grammar.specs.language.Continues.{continues_assignment}
 use Rattle.swc_ecma_parser_grammar.specs.language.Lists.{Elements, no_elements, hole, last_element, more_elements}

@@ -10,7 +10,7 @@ use Rattle.swc_ecma_parser_model.specs.declared.leaves.MethodKind.TheVariants as
 use Rattle.swc_ecma_parser_model.specs.Tree.{Tree}
 use Rattle.swc_ecma_parser_grammar.specs.Looks.{kind_at, breaks_at, sees}
 use Rattle.swc_ecma_parser_grammar.specs.Names.{Code}
-use Rattle.swc_ecma_parser_grammar.specs.Reads.{with_in}
+use Rattle.swc_ecma_parser_grammar.specs.language.Contexts.{with_in}
 use Rattle.swc_ecma_parser_grammar.specs.language.Goals.{Goal, Purpose, binding, assigning, expr_goal, expression, assignment}
 use Rattle.swc_ecma_parser_grammar.specs.language.Parts.{KeyRule, word_key, string_key, number_key, big_int_key, computed_key}
 use Rattle.swc_ecma_parser_grammar.specs.language.Functions.{PatternItemRule, element_rule, rest_rule, ParametersRule, MethodRule}

@@ -1,10 +1,8 @@
 -- What the rules of the first statements are made of. Their expressions and patterns are those of the whole language.
-use Rattle.std.specs.Prelude.{◌≡◌, Bool, true, false, ◌&&◌, ◌||◌, if◌then◌else◌, List, [], ◌∷◌, codes}
+use Rattle.std.specs.Prelude.{◌≡◌, Bool, true, false, ◌&&◌, ◌||◌, List, [], ◌∷◌, codes}
 use Rattle.swc_ecma_parser_common.specs.declared.span.Span.{Span}
 use Rattle.swc_ecma_parser_token.specs.declared.kind.TokenKind.TheVariants as kind
-use Rattle.swc_ecma_parser_token.specs.declared.token.Token.{Token}
 use Rattle.swc_ecma_parser_token.specs.declared.token.Token.TheVariants as token
-use Rattle.swc_ecma_parser_token.specs.declared.token.TokenAndSpan.{TokenAndSpan}
 use Rattle.swc_ecma_parser_token.specs.declared.token.Word.{Word}
 use Rattle.swc_ecma_parser_token.specs.Text.{word_text}
 use Rattle.swc_ecma_parser_input.specs.Place.{Place, after}
@@ -12,7 +10,6 @@ use Rattle.swc_ecma_parser_model.specs.declared.leaves.VarDeclKind.{VarDeclKind}
 use Rattle.swc_ecma_parser_model.specs.declared.leaves.VarDeclKind.TheVariants as decl
 use Rattle.swc_ecma_parser_model.specs.Tree as tree
 use Rattle.swc_ecma_parser_model.specs.Tree.{Tree, listed}
-use Rattle.swc_ecma_parser_model.specs.Directive.{is_string_statement, is_use_strict}
 use Rattle.swc_ecma_parser_model.specs.Forms.{is_absent, is_binding_name, is_ident, is_ident_named}
 use Rattle.swc_ecma_parser_grammar.specs.declared.position.Position.{Position}
 use Rattle.swc_ecma_parser_grammar.specs.Looks.{kind_at, breaks_at, sees, spanned}
@@ -20,41 +17,14 @@ use Rattle.swc_ecma_parser_grammar.specs.Names.{Code, is_name}
 use Rattle.swc_ecma_parser_grammar.specs.Ends.{Ends, OptionalEnds, ends_at}
 use Rattle.swc_ecma_parser_grammar.specs.Follows.{word_at, may_begin_expression_statement, begins_import_expression, may_begin_head, is_async_of, AwaitWord, AsyncWord, Star, is_async_function}
 use Rattle.swc_ecma_parser_grammar.specs.Variables.{begins_variables, is_var, needs_no_initializer}
-use Rattle.swc_ecma_parser_grammar.specs.language.Goals.{Class, expression, assignment}
-use Rattle.swc_ecma_parser_grammar.specs.language.Contexts.{named_by, in_parameters, in_body, in_loop, in_breakable, in_with, without_in}
-use Rattle.swc_ecma_parser_grammar.specs.Using.{is_using_declaration, may_declare_using, awaits_using, using_faults}
+use Rattle.swc_ecma_parser_grammar.specs.Using.{may_declare_using, awaits_using, using_faults}
 use Rattle.swc_ecma_parser_grammar.specs.Parameters.{parameters}
-use Rattle.swc_ecma_parser_grammar.specs.language.Items.{sub_statement, labelled_item}
-
--- ---- contexts
-
--- `in` is an operator here
-abbrev pub with_in : Code → Code
-with_in k = record k { flags = record k.flags { include_in_expr = true } }
-
-abbrev pub in_strict : Code → Code
-in_strict k = record k { flags = record k.flags { strict = true } }
-
--- In the first part of a head `in` is no operator; the crate reads it in the initializers of `let` and `const`.
-abbrev pub head_code : VarDeclKind → Code → Code
-head_code word k = if is_var word then without_in k else with_in k
-
--- a statement in a block or a body, and one of the script itself
-abbrev pub nested_item : Position
-nested_item = record { include_decl = true; top_level = false }
-
-abbrev pub top_item : Position
-top_item = record { include_decl = true; top_level = true }
-
--- ---- one token
-
-pub record ReadsToken (t : Token) (span : Span) (c d : Place) : Type 0 where
-  pub had_line_break : Bool
-  pub rest : List TokenAndSpan
-  pub is : c.left ≡ record { token = t; had_line_break = had_line_break; span = span } ∷ rest
-  pub next : d ≡ after c
-
--- ---- statements: section 14
+use Rattle.swc_ecma_parser_grammar.specs.language.Goals.{Class, expression, assignment}
+use Rattle.swc_ecma_parser_grammar.specs.language.Contexts.{named_by, in_parameters, in_body, in_loop, in_breakable, in_with, with_in, without_in, head_code}
+use Rattle.swc_ecma_parser_grammar.specs.language.Lists.{ReadsSeparated}
+use Rattle.swc_ecma_parser_grammar.specs.language.Parts.{ReadsToken}
+use Rattle.swc_ecma_parser_grammar.specs.language.Items.{nested_item, sub_statement, labelled_item, directed, directs_on}
+use Rattle.swc_ecma_parser_grammar.specs.language.Declarations.{is_using_declaration}
 
 -- VariableDeclaration and LexicalBinding: sections 14.3.2 and 14.3.1. In a pattern `in` is an operator in any case.
 pub data DeclaratorRule (Expr Pat : Code → Tree → Place → Place → Type 0) (k : Code) (loop : Bool) (word : VarDeclKind) (x : Tree) (c d : Place) : Type 0 where
@@ -62,20 +32,6 @@ pub data DeclaratorRule (Expr Pat : Code → Tree → Place → Place → Type 0
       → DeclaratorRule Expr Pat k loop word x c d
   initialized_rule : (p e : Tree) (m : Place) → Pat (with_in k) p c m → kind_at m ≡ kind.Assign → Expr k e (after m) d → x ≡ tree.declarator (spanned c d) p e
       → DeclaratorRule Expr Pat k loop word x c d
-
--- at least one, with commas between and none behind
-abbrev pub ReadsSeparated : (Tree → Place → Place → Type 0) → List Tree → Place → Place → Type 0
-ReadsSeparated Reads [] c d = ⊥
-ReadsSeparated Reads (x ∷ []) c d = Reads x c d × (sees kind.Comma d ≡ false)
-ReadsSeparated Reads (x ∷ y ∷ ys) c d = (m : Place) × Reads x c m × (kind_at m ≡ kind.Comma) × ReadsSeparated Reads (y ∷ ys) (after m) d
-
--- Directives, section 11.2.1: each of the strings that stand first in a body with directives can turn strict what follows it.
-abbrev pub directed : Code → Bool → Tree → Code
-directed k directives x = if directives && is_use_strict x then in_strict k else k
-
--- whether a statement behind this one can be a directive
-abbrev pub directs_on : Bool → Tree → Bool
-directs_on directives x = directives && is_string_statement x
 
 -- statements one behind another, in a body with directives or without
 abbrev pub ReadsItems : (Code → Tree → Place → Place → Type 0) → Code → Bool → List Tree → Place → Place → Type 0

@@ -15,10 +15,6 @@ use Rattle.swc_ecma_parser_grammar.specs.Names.{Code, identifier_at}
 use Rattle.swc_ecma_parser_grammar.specs.Follows.{word_at}
 use Rattle.swc_ecma_parser_grammar.specs.Own.{only}
 
--- `using` begins a declaration before a name on its line
-unfoldable pub is_using_declaration : Code → Place → Bool
-is_using_declaration k c = word_at (codes "using") c && (identifier_at k.flags (after c) && not (breaks_at (after c)))
-
 -- behind `await` on its line, at the top level too
 unfoldable pub is_await_using_declaration : Position → Code → Place → Bool
 is_await_using_declaration at k c = sees token.Await c && ((at.include_decl || at.top_level) && (not (breaks_at (after c)) && is_using_declaration k (after c)))

@@ -16,13 +16,13 @@ use Rattle.swc_ecma_parser_grammar.specs.Names.{Code}
 use Rattle.swc_ecma_parser_grammar.specs.Follows.{AsyncWord, not_async, async_word}
 use Rattle.swc_ecma_parser_grammar.specs.Notes.{notes}
 use Rattle.swc_ecma_parser_grammar.specs.Parameters.{parameters as parameter_trees}
-use Rattle.swc_ecma_parser_grammar.specs.Reads.{nested_item, with_in}
 use Rattle.swc_ecma_parser_grammar.specs.Supported.{supported, all_supported, has_none}
 use Rattle.swc_ecma_parser_grammar.specs.Variables.{begins_variables}
 use Rattle.swc_ecma_parser_grammar.specs.Walk as walks
 use Rattle.swc_ecma_parser_grammar.specs.Walk.{env_of, walk}
+use Rattle.swc_ecma_parser_grammar.specs.language.Items.{nested_item}
 use Rattle.swc_ecma_parser_grammar.specs.language.Classes.{DecoratorRule, decorator_rule, DecoratorsRule, no_decorators, some_decorators, ClassRule}
-use Rattle.swc_ecma_parser_grammar.specs.language.Contexts.{in_module}
+use Rattle.swc_ecma_parser_grammar.specs.language.Contexts.{in_module, with_in}
 use Rattle.swc_ecma_parser_grammar.specs.language.Exports.{ExportClauseRule, ExportFrontRule, decorated_before, decorated_behind, ExportedRule, exported_class as exported_class_rule, exported_function as exported_function_rule, exported_variables, DefaultRule, default_class as default_class_rule, default_function as default_function_rule, ExportRule, export_declaration_rule, export_from_rule, export_names_rule, export_default_declaration_rule, export_default_expression_rule, export_all_rule}
 use Rattle.swc_ecma_parser_grammar.specs.language.Functions.{FunctionRule}
 use Rattle.swc_ecma_parser_grammar.specs.language.Goals.{Goal, expr_goal, assignment, left_side}

@@ -17,15 +17,15 @@ use Rattle.swc_ecma_parser_grammar.specs.Names.{Code}
 use Rattle.swc_ecma_parser_grammar.specs.Ends.{Ends}
 use Rattle.swc_ecma_parser_grammar.specs.Follows.{word_at, is_async_function, AsyncWord, not_async, async_word}
 use Rattle.swc_ecma_parser_grammar.specs.Notes.{notes}
+use Rattle.swc_ecma_parser_grammar.specs.language.Items.{nested_item}
 use Rattle.swc_ecma_parser_grammar.specs.language.Noted.{has_meta}
 use Rattle.swc_ecma_parser_grammar.specs.Own.{misplaced_directive}
 use Rattle.swc_ecma_parser_grammar.specs.Parameters.{parameters as parameter_trees}
-use Rattle.swc_ecma_parser_grammar.specs.Reads.{nested_item, with_in}
 use Rattle.swc_ecma_parser_grammar.specs.Supported.{supported, supported_in, has_none}
 use Rattle.swc_ecma_parser_grammar.specs.Variables.{begins_variables}
 use Rattle.swc_ecma_parser_grammar.specs.Walk.{Env, env_of, in_body as walks_in_body, in_params, walk, walks, walk_body}
 use Rattle.swc_ecma_parser_grammar.specs.language.Classes.{DecoratorsRule, no_decorators, some_decorators, ClassRule}
-use Rattle.swc_ecma_parser_grammar.specs.language.Contexts.{in_parameters}
+use Rattle.swc_ecma_parser_grammar.specs.language.Contexts.{in_parameters, with_in}
 use Rattle.swc_ecma_parser_grammar.specs.language.Exports.{ExportFrontRule, decorated_before, decorated_behind, ExportWords, export_word, export_default_words, ExportedRule, exported_class as exported_class_rule, exported_function as exported_function_rule, exported_variables, DefaultRule, default_class as default_class_rule, default_function as default_function_rule, may_begin_default}
 use Rattle.swc_ecma_parser_grammar.specs.language.Functions.{FunctionRule}
 use Rattle.swc_ecma_parser_grammar.specs.language.Declarations.{VariablesRule}

@@ -25,7 +25,6 @@ use Rattle.swc_ecma_parser_grammar.specs.Follows.{word_at, first_is, token_is, b
 use Rattle.swc_ecma_parser_grammar.specs.Looks.{kind_at, sees, same_kind, span_at, spanned}
 use Rattle.swc_ecma_parser_grammar.specs.Names.{Code}
 use Rattle.swc_ecma_parser_grammar.specs.Notes.{notes, all_notes}
-use Rattle.swc_ecma_parser_grammar.specs.Reads.{ReadsToken}
 use Rattle.swc_ecma_parser_grammar.specs.Walk as walks_of
 use Rattle.swc_ecma_parser_grammar.specs.Walk.{Env, env_of, walk, walks}
 use Rattle.swc_ecma_parser_grammar.specs.language.Contexts.{in_module, outside_functions}
@@ -33,7 +32,7 @@ use Rattle.swc_ecma_parser_grammar.specs.language.Imports.{ImportSpecifierRule, 
 use Rattle.swc_ecma_parser_grammar.specs.language.Lists.{ReadsListed}
 use Rattle.swc_ecma_parser_grammar.specs.language.ModuleParts.{StringRule, FromRule, ModuleNameRule, word_name_rule, string_name_rule, AttributesRule}
 use Rattle.swc_ecma_parser_grammar.specs.language.Noted.{has_meta, any_has_meta}
-use Rattle.swc_ecma_parser_grammar.specs.language.Parts.{ReadsName, ReadsWord}
+use Rattle.swc_ecma_parser_grammar.specs.language.Parts.{ReadsName, ReadsWord, ReadsToken}
 use Rattle.swc_ecma_parser_grammar.specs.language.Reads.{Reads}
 use Rattle.swc_ecma_parser_grammar.proofs.StatementBegins.{word_place}
 use Rattle.swc_ecma_parser_grammar.proofs.Tests.{and_yes, or_no}

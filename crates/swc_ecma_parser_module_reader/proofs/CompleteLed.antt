@@ -14,6 +14,7 @@ use Rattle.swc_ecma_parser_grammar.specs.Notes.{notes}
 use Rattle.swc_ecma_parser_grammar.specs.Supported.{supported, all_supported, has_none}
 use Rattle.swc_ecma_parser_grammar.specs.Walk as walks
 use Rattle.swc_ecma_parser_grammar.specs.Walk.{Env, env_of, walk, walk_exported}
+use Rattle.swc_ecma_parser_grammar.specs.language.Items.{top_item}
 use Rattle.swc_ecma_parser_grammar.specs.language.Classes.{DecoratorsRule, no_decorators, some_decorators, ClassRule}
 use Rattle.swc_ecma_parser_grammar.specs.language.Contexts.{in_module}
 use Rattle.swc_ecma_parser_grammar.specs.language.Exports.{begin_before, all_before, export_word, export_default_words, decorated_before, decorated_behind, ExportedRule, exported_class as exported_class_rule, exported_function as exported_function_rule, exported_variables, DefaultRule, default_class as default_class_rule, default_function as default_function_rule, ExportRule, export_declaration_rule, export_from_rule, export_names_rule, export_default_declaration_rule, export_default_expression_rule, export_all_rule}
@@ -42,7 +43,6 @@ use Rattle.swc_ecma_parser_module_reader.proofs.ModuleCode.{IsModule}
 use Rattle.swc_ecma_parser_module_reader.proofs.SoundLed.{before_one}
 use Rattle.swc_ecma_parser_reader.proofs.decorators.CompleteStatements.{same_list}
 use Rattle.swc_ecma_parser_grammar.specs.Decorated.{plain_statement, decorated_statement}
-use Rattle.swc_ecma_parser_grammar.specs.Reads.{top_item}
 use Rattle.swc_ecma_parser_grammar.specs.ReadsSupported.{ReadsTop, ReadsStmt}
 use Rattle.swc_ecma_parser_grammar.proofs.SupportedIn.{lift_in}
 use Rattle.swc_ecma_parser_reader.specs.DecoratedStatements.{begins_declared}

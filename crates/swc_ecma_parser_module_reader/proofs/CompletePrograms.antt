@@ -13,8 +13,9 @@ use Rattle.swc_ecma_parser_grammar.specs.Entries.{items_await}
 use Rattle.swc_ecma_parser_grammar.specs.Looks.{kind_at, spanned, sees, same_kind}
 use Rattle.swc_ecma_parser_grammar.specs.Names.{Code}
 use Rattle.swc_ecma_parser_grammar.specs.Notes.{notes, all_notes}
-use Rattle.swc_ecma_parser_grammar.specs.Reads.{top_item, ReadsItems, directed, directs_on}
+use Rattle.swc_ecma_parser_grammar.specs.Reads.{ReadsItems}
 use Rattle.swc_ecma_parser_grammar.specs.Walk.{env_of, walks, walk_items, walk}
+use Rattle.swc_ecma_parser_grammar.specs.language.Items.{top_item, directed, directs_on}
 use Rattle.swc_ecma_parser_grammar.specs.language.ModuleItems.{ModuleItemsRule, statement_rule, import_item_rule, export_item_rule, behind_item, begins_with_await}
 use Rattle.swc_ecma_parser_grammar.specs.language.Noted.{has_meta, any_has_meta}
 use Rattle.swc_ecma_parser_grammar.specs.language.Programs.{ShebangRule, is_module_body, is_module_program, is_module_code, whole}

@@ -7,7 +7,8 @@ use Rattle.swc_ecma_parser_model.specs.Tree.{Tree, trees}
 use Rattle.swc_ecma_parser_grammar.specs.Entries.{items_await}
 use Rattle.swc_ecma_parser_grammar.specs.Looks.{kind_at, sees}
 use Rattle.swc_ecma_parser_grammar.specs.Names.{Code}
-use Rattle.swc_ecma_parser_grammar.specs.Reads.{directed, directs_on, top_item, ReadsItems}
+use Rattle.swc_ecma_parser_grammar.specs.Reads.{ReadsItems}
+use Rattle.swc_ecma_parser_grammar.specs.language.Items.{directed, directs_on, top_item}
 use Rattle.swc_ecma_parser_grammar.specs.ReadsSupported.{ReadsTop}
 use Rattle.swc_ecma_parser_grammar.specs.Walk.{env_of, walk, walks}
 use Rattle.swc_ecma_parser_reader.specs.DecoratorLevels.{decorated_in}

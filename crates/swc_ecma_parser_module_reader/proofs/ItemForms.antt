@@ -16,9 +16,10 @@ use Rattle.swc_ecma_parser_grammar.specs.Looks.{sees, span_at}
 use Rattle.swc_ecma_parser_grammar.specs.Names.{name_at}
 use Rattle.swc_ecma_parser_grammar.specs.Follows.{word_at, is_let_declaration}
 use Rattle.swc_ecma_parser_grammar.specs.Own.{export_faults}
-use Rattle.swc_ecma_parser_grammar.specs.Reads.{with_in, nested_item}
 use Rattle.swc_ecma_parser_grammar.specs.Walk as walks
 use Rattle.swc_ecma_parser_grammar.specs.Walk.{Env, walk}
+use Rattle.swc_ecma_parser_grammar.specs.language.Items.{nested_item}
+use Rattle.swc_ecma_parser_grammar.specs.language.Contexts.{with_in}
 use Rattle.swc_ecma_parser_grammar.specs.language.Goals.{assignment, left_side}
 use Rattle.swc_ecma_parser_grammar.specs.language.Imports.{follows_phase}
 use Rattle.swc_ecma_parser_reader.specs.DecoratorLevels.{decorated_in}

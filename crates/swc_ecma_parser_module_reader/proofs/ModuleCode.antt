@@ -6,10 +6,10 @@ use Rattle.swc_ecma_parser_model.specs.Kinds.{is_module_decl}
 use Rattle.swc_ecma_parser_input.specs.Place.{Place}
 use Rattle.swc_ecma_parser_model.specs.Tree.{Tree, Text, trees}
 use Rattle.swc_ecma_parser_grammar.specs.Names.{Code}
-use Rattle.swc_ecma_parser_grammar.specs.Reads.{in_strict, directed, directs_on}
 use Rattle.swc_ecma_parser_grammar.specs.Walk as walks
 use Rattle.swc_ecma_parser_grammar.specs.Walk.{Env, env_of, walk, walk_items}
-use Rattle.swc_ecma_parser_grammar.specs.language.Contexts.{in_module}
+use Rattle.swc_ecma_parser_grammar.specs.language.Items.{directed, directs_on}
+use Rattle.swc_ecma_parser_grammar.specs.language.Contexts.{in_module, in_strict}
 use Rattle.swc_ecma_parser_grammar.specs.language.Goals.{Goal}
 use Rattle.swc_ecma_parser_grammar.specs.language.ModuleItems.{ModuleItemsRule, behind_item}
 use Rattle.swc_ecma_parser_module_reader.specs.Modules.{module_code}

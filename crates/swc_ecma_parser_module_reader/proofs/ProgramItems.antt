@@ -10,12 +10,13 @@ use Rattle.swc_ecma_parser_grammar.specs.Looks.{sees}
 use Rattle.swc_ecma_parser_grammar.specs.Names.{Code}
 use Rattle.swc_ecma_parser_grammar.specs.Notes.{notes, all_notes}
 use Rattle.swc_ecma_parser_grammar.specs.Entries.{items_await}
-use Rattle.swc_ecma_parser_grammar.specs.Reads.{in_strict, directed, directs_on, top_item, ReadsItems}
+use Rattle.swc_ecma_parser_grammar.specs.Reads.{ReadsItems}
 use Rattle.swc_ecma_parser_grammar.specs.ReadsSupported.{ReadsTop}
 use Rattle.swc_ecma_parser_grammar.specs.Walk as walks
 use Rattle.swc_ecma_parser_grammar.specs.Walk.{walk, env_of, walk_items}
+use Rattle.swc_ecma_parser_grammar.specs.language.Items.{directed, directs_on, top_item}
 use Rattle.swc_ecma_parser_grammar.specs.language.Classes.{no_decorators, some_decorators}
-use Rattle.swc_ecma_parser_grammar.specs.language.Contexts.{in_module}
+use Rattle.swc_ecma_parser_grammar.specs.language.Contexts.{in_module, in_strict}
 use Rattle.swc_ecma_parser_grammar.specs.language.Exports as exports
 use Rattle.swc_ecma_parser_grammar.specs.language.Exports.{ExportFrontRule, ExportRule, may_begin_default}
 use Rattle.swc_ecma_parser_grammar.specs.language.Goals.{Goal, item_goal}

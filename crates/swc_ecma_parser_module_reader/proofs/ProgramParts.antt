@@ -15,11 +15,12 @@ use Rattle.swc_ecma_parser_grammar.specs.Looks.{kind_at, sees, same_kind, span_a
 use Rattle.swc_ecma_parser_grammar.specs.Names.{Code}
 use Rattle.swc_ecma_parser_grammar.specs.Notes.{notes, all_notes}
 use Rattle.swc_ecma_parser_grammar.specs.Own.{misplaced_directive}
-use Rattle.swc_ecma_parser_grammar.specs.Reads.{top_item, directed, directs_on, ReadsItems}
+use Rattle.swc_ecma_parser_grammar.specs.Reads.{ReadsItems}
 use Rattle.swc_ecma_parser_grammar.specs.ReadsSupported.{ReadsTop}
 use Rattle.swc_ecma_parser_grammar.specs.Supported.{supported, all_supported}
 use Rattle.swc_ecma_parser_grammar.specs.Walk as walks_of
 use Rattle.swc_ecma_parser_grammar.specs.Walk.{Env, env_of, walk, walks, walk_items, walk_body, walk_class_body, walk_decorators}
+use Rattle.swc_ecma_parser_grammar.specs.language.Items.{top_item, directed, directs_on}
 use Rattle.swc_ecma_parser_grammar.specs.language.Classes.{no_decorators, some_decorators}
 use Rattle.swc_ecma_parser_grammar.specs.language.Contexts.{in_module}
 use Rattle.swc_ecma_parser_grammar.specs.language.Exports as exports

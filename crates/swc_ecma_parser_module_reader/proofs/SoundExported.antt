@@ -25,13 +25,15 @@ use Rattle.swc_ecma_parser_grammar.specs.Variables.{begins_variables}
 use Rattle.swc_ecma_parser_grammar.specs.Notes.{notes}
 use Rattle.swc_ecma_parser_grammar.specs.Parameters.{parameters}
 use Rattle.swc_ecma_parser_grammar.specs.Supported.{supported, supported_in, all_supported}
-use Rattle.swc_ecma_parser_grammar.specs.Reads.{with_in, nested_item, DeclaratorRule, plain_rule, initialized_rule, ReadsSeparated, ReadsFunction, ReadsFunctionExpr, OwnNameRule, no_own_name_rule, own_name_rule, variables_rule, function_rule, class_rule}
+use Rattle.swc_ecma_parser_grammar.specs.Reads.{DeclaratorRule, plain_rule, initialized_rule, ReadsFunction, ReadsFunctionExpr, OwnNameRule, no_own_name_rule, own_name_rule, variables_rule, function_rule, class_rule}
 use Rattle.swc_ecma_parser_grammar.specs.Decorated.{plain_statement}
 use Rattle.swc_ecma_parser_grammar.specs.ReadsSupported.{ReadsClass, ReadsPat, ReadsStmt, ReadsParams, ReadsNamedClass}
 use Rattle.swc_ecma_parser_grammar.specs.Walk as walks
 use Rattle.swc_ecma_parser_grammar.specs.Walk.{Env, walk, env_of}
+use Rattle.swc_ecma_parser_grammar.specs.language.Lists.{ReadsSeparated}
+use Rattle.swc_ecma_parser_grammar.specs.language.Items.{nested_item}
 use Rattle.swc_ecma_parser_grammar.specs.language.Goals.{Goal, expression, assignment, left_side}
-use Rattle.swc_ecma_parser_grammar.specs.language.Contexts.{named_by, in_parameters, in_class}
+use Rattle.swc_ecma_parser_grammar.specs.language.Contexts.{named_by, in_parameters, in_class, with_in}
 use Rattle.swc_ecma_parser_grammar.specs.language.Classes.{ClassRule}
 use Rattle.swc_ecma_parser_grammar.specs.language.Declarations as declarations
 use Rattle.swc_ecma_parser_grammar.specs.language.Parts as parts

@@ -13,13 +13,13 @@ use Rattle.swc_ecma_parser_grammar.specs.Looks.{kind_at, sees, span_at, spanned}
 use Rattle.swc_ecma_parser_grammar.specs.Names.{Code}
 use Rattle.swc_ecma_parser_grammar.specs.Follows.{word_at, is_let_declaration, is_async_function}
 use Rattle.swc_ecma_parser_grammar.specs.Notes.{notes}
-use Rattle.swc_ecma_parser_grammar.specs.Reads.{with_in, nested_item}
 use Rattle.swc_ecma_parser_grammar.specs.Supported.{all_supported, all_supported_in}
 use Rattle.swc_ecma_parser_grammar.specs.Walk as walks
 use Rattle.swc_ecma_parser_grammar.specs.Walk.{walk, env_of}
+use Rattle.swc_ecma_parser_grammar.specs.language.Items.{nested_item}
 use Rattle.swc_ecma_parser_grammar.specs.language.Classes as classes
 use Rattle.swc_ecma_parser_grammar.specs.language.Classes.{DecoratorsRule}
-use Rattle.swc_ecma_parser_grammar.specs.language.Contexts.{in_module}
+use Rattle.swc_ecma_parser_grammar.specs.language.Contexts.{in_module, with_in}
 use Rattle.swc_ecma_parser_grammar.specs.language.Exports as exports
 use Rattle.swc_ecma_parser_grammar.specs.language.Exports.{all_before, ExportRule, ExportedRule, DefaultRule, ExportFrontRule, decorated_behind, export_word, export_default_words, may_begin_default}
 use Rattle.swc_ecma_parser_grammar.specs.language.Goals.{Goal, expr_goal, assignment, left_side}

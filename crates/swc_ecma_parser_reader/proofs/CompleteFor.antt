@@ -23,11 +23,12 @@ use Rattle.swc_ecma_parser_grammar.specs.Names.{Code, identifier_at}
 use Rattle.swc_ecma_parser_grammar.specs.Follows.{word_at, token_is, may_begin_head, is_bare_async, is_async_of, begins_async_of, is_async_function, is_let_declaration}
 use Rattle.swc_ecma_parser_grammar.specs.Variables.{begins_variables}
 use Rattle.swc_ecma_parser_grammar.specs.Using.{may_declare_using, awaits_using, declares_behind, stands_in_head}
-use Rattle.swc_ecma_parser_grammar.specs.Reads.{with_in, head_code, HeadVariables, InitRule, no_init_rule, init_variables_rule, init_expression_rule, LeftRule, declared_rule, left_target_rule, OfLeftRule, of_left_rule, of_using_rule, of_await_rule, DeclaratorRule, ReadsSeparated}
+use Rattle.swc_ecma_parser_grammar.specs.Reads.{HeadVariables, InitRule, no_init_rule, init_variables_rule, init_expression_rule, LeftRule, declared_rule, left_target_rule, OfLeftRule, of_left_rule, of_using_rule, of_await_rule, DeclaratorRule}
 use Rattle.swc_ecma_parser_grammar.specs.ReadsSupported.{ReadsClass, ReadsPat, ReadsTarget}
 use Rattle.swc_ecma_parser_grammar.specs.Walk.{env_of, walk, walks}
+use Rattle.swc_ecma_parser_grammar.specs.language.Lists.{ReadsSeparated}
 use Rattle.swc_ecma_parser_grammar.specs.language.Begins.{begins_expression, begins_unary}
-use Rattle.swc_ecma_parser_grammar.specs.language.Contexts.{without_in}
+use Rattle.swc_ecma_parser_grammar.specs.language.Contexts.{without_in, with_in, head_code}
 use Rattle.swc_ecma_parser_grammar.specs.language.Goals.{Class, expression, assignment, assigning, pattern_goal}
 use Rattle.swc_ecma_parser_grammar.specs.language.Parts.{ReadsName}
 use Rattle.swc_ecma_parser_grammar.specs.language.Patterns.{binding_name_rule, target_name_rule, target_rule, array_rule, object_rule}

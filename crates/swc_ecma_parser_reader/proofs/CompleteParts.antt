@@ -35,8 +35,12 @@ use Rattle.swc_ecma_parser_model.specs.Forms.{is_ident, is_ident_named, span_of}
 use Rattle.swc_ecma_parser_grammar.specs.Looks.{kind_at, breaks_at, sees, same_kind, spanned}
 use Rattle.swc_ecma_parser_grammar.specs.Ends.{Ends, by_semicolon, by_insertion, OptionalEnds, by_a_semicolon, by_nothing}
 use Rattle.swc_ecma_parser_grammar.specs.Follows.{begins_import_expression}
-use Rattle.swc_ecma_parser_grammar.specs.Reads.{with_in, in_strict, ReadsToken, DeclaratorRule, plain_rule, initialized_rule, ReadsSeparated, directed, directs_on, ReadsItems, TargetRule, no_target_rule, target_rule, OperandRule, no_operand_rule, operand_rule, ReadsHead}
+use Rattle.swc_ecma_parser_grammar.specs.Reads.{DeclaratorRule, plain_rule, initialized_rule, ReadsItems, TargetRule, no_target_rule, target_rule, OperandRule, no_operand_rule, operand_rule, ReadsHead}
 use Rattle.swc_ecma_parser_grammar.specs.ReadsSupported.{ReadsClass, ReadsPat}
+use Rattle.swc_ecma_parser_grammar.specs.language.Items.{directed, directs_on}
+use Rattle.swc_ecma_parser_grammar.specs.language.Lists.{ReadsSeparated}
+use Rattle.swc_ecma_parser_grammar.specs.language.Parts.{ReadsToken}
+use Rattle.swc_ecma_parser_grammar.specs.language.Contexts.{with_in, in_strict}
 use Rattle.swc_ecma_parser_grammar.specs.language.Goals.{expression, assignment}
 use Rattle.swc_ecma_parser_grammar.specs.Entries.{ReadsShebang, some_shebang, no_shebang}
 use Rattle.swc_ecma_parser_grammar.specs.Notes.{notes, statement_note, as_note, with_note}

@@ -8,10 +8,11 @@ use Rattle.swc_ecma_parser_model.specs.Tree.{Tree, trees}
 use Rattle.swc_ecma_parser_grammar.specs.declared.position.Position.{Position}
 use Rattle.swc_ecma_parser_grammar.specs.Looks.{kind_at, sees}
 use Rattle.swc_ecma_parser_grammar.specs.Names.{Code}
-use Rattle.swc_ecma_parser_grammar.specs.Reads.{directed, directs_on, top_item, ReadsItems}
+use Rattle.swc_ecma_parser_grammar.specs.Reads.{ReadsItems}
 use Rattle.swc_ecma_parser_grammar.specs.ReadsSupported.{ReadsTop}
 use Rattle.swc_ecma_parser_grammar.specs.Entries.{ReadsScript, script_code, items_await, script_awaits}
 use Rattle.swc_ecma_parser_grammar.specs.Walk.{env_of, walk, walks}
+use Rattle.swc_ecma_parser_grammar.specs.language.Items.{directed, directs_on, top_item}
 use Rattle.swc_ecma_parser_grammar.specs.language.Statements.{may_begin_at_top}
 use Rattle.swc_ecma_parser_reader.specs.Notes.{Notes, ◌⊕◌, notes_of, notes_with, all_notes_with}
 use Rattle.swc_ecma_parser_reader.specs.State.{Scope, State, Outcome, module_found, loop}

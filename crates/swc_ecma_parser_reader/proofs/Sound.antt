@@ -16,10 +16,11 @@ use Rattle.std.proofs.Common.{append_assoc, ◌≡◌, ℕ, zero, suc, Bool, tru
 use Rattle.swc_ecma_parser_reader.specs.Notes.{no_notes, ◌⊕◌, notes_of, all_notes_of}
 use Rattle.swc_ecma_parser_reader.proofs.Between.{sound_below, sound_coded, Sound, SoundTree, SoundStep, no_faults, same, nil-split, sound_then, sound_more, sound_moved, sound_here, sound_as, sound_after, within_sound}
 use Rattle.swc_ecma_parser_reader.specs.State.{name, reference, below, below_label, State, Reader, moved, coded, within, fault_at, wanted, labelled, labelled_as, expect, end}
-use Rattle.swc_ecma_parser_grammar.specs.Reads.{labeled_rule, with_rule, class_rule, function_rule, with_in, nested_item, ReadsItems, TargetRule, OperandRule, no_operand_rule, operand_rule, break_rule, continue_rule, return_rule, StmtRule, block_rule, empty_rule, debugger_rule, if_statement_rule, CaseRule, case_clause_rule, default_clause_rule, ReadsCases, switch_rule, throw_rule, try_rule, while_rule, do_while_rule, ReadsBlock, CatchRule, no_catch_rule, catch_rule, catch_parameter_rule, FinallyRule, no_finally_rule, finally_rule, ReadsHead, IfRule, if_rule, ElseRule, no_else_rule, else_rule, else_if_rule}
+use Rattle.swc_ecma_parser_grammar.specs.Reads.{labeled_rule, with_rule, class_rule, function_rule, ReadsItems, TargetRule, OperandRule, no_operand_rule, operand_rule, break_rule, continue_rule, return_rule, StmtRule, block_rule, empty_rule, debugger_rule, if_statement_rule, CaseRule, case_clause_rule, default_clause_rule, ReadsCases, switch_rule, throw_rule, try_rule, while_rule, do_while_rule, ReadsBlock, CatchRule, no_catch_rule, catch_rule, catch_parameter_rule, FinallyRule, no_finally_rule, finally_rule, ReadsHead, IfRule, if_rule, ElseRule, no_else_rule, else_rule, else_if_rule}
 use Rattle.swc_ecma_parser_grammar.specs.Own.{labelled_function, duplicates}
 use Rattle.swc_ecma_parser_reader.proofs.SoundParts.{labelled_meets, relabels_sound, SoundWith, note_with_sound, using_sound, end_sound, optional_end_sound, Declarators, declarators_sound, inside_sound, variables_sound, code_stays, items_sound, and_false, unbroken_sound, uncontinued_sound, misplaced_sound, target_sound, after_return_meets, first_sound}
-use Rattle.swc_ecma_parser_grammar.specs.language.Items.{labelled_item, sub_statement}
+use Rattle.swc_ecma_parser_grammar.specs.language.Declarations.{is_using_declaration}
+use Rattle.swc_ecma_parser_grammar.specs.language.Items.{labelled_item, sub_statement, nested_item}
 use Rattle.swc_ecma_parser_reader.specs.Reader.{begins_label, relabels, labelled_body, labeled_stmt, other_stmt, with_stmt, note_with, function_stmt, async_or_other, function_decl, variables, const_stmt, let_stmt, expr, cover, head_cover, pattern, element, decorated_in, member, operators, right_operand, function, function_by, getter, setter, plain_method, target, unbroken, break_stmt, uncontinued, continue_stmt, misplaced, operand, returned, return_stmt, empty, debugger, declarators, closes, close, items, block_from, block, braced, expr_stmt_at, optional_end, import_stmt_at, thrown, throw, head, while_stmt, do_while, Link, goes_on, condition, alternative, link_from, link, links, if_stmt, begins_clause, closes_clause, Clauses, clause_from, default_clause, case_clause, clause, clauses_turn, clauses, switch_stmt, begins_at, is_handled, handled, bound, parameter, finalizer, caught, handler, try_stmt, stmt_by, stmt_level, stmt, using_or_other}
 use Rattle.swc_ecma_parser_model.specs.declared.leaves.VarDeclKind.{VarDeclKind}
 use Rattle.swc_ecma_parser_model.specs.declared.leaves.VarDeclKind.TheVariants as decl
@@ -52,7 +53,7 @@ use Rattle.swc_ecma_parser_grammar.specs.Looks.{kind_at, breaks_at, sees, span_a
 use Rattle.swc_ecma_parser_grammar.specs.Names.{Code, name_at}
 use Rattle.swc_ecma_parser_grammar.specs.Ends.{Ends, ends_at}
 use Rattle.swc_ecma_parser_grammar.specs.Follows.{may_begin_expression_statement, begins_import_expression, is_let_declaration, is_async_function}
-use Rattle.swc_ecma_parser_grammar.specs.language.Contexts.{in_loop, in_breakable, in_with}
+use Rattle.swc_ecma_parser_grammar.specs.language.Contexts.{in_loop, in_breakable, in_with, with_in}
 use Rattle.swc_ecma_parser_grammar.specs.language.Goals.{Class, expression, left_side}
 use Rattle.swc_ecma_parser_grammar.specs.ReadsSupported.{ReadsClass, ReadsPat, ReadsElement, ReadsTarget, ReadsStmt, ReadsParams, ReadsDecorated, ReadsMember, ReadsNamedClass}
 use Rattle.swc_ecma_parser_grammar.specs.Walk as walks
@@ -76,7 +77,6 @@ use Rattle.swc_ecma_parser_reader.proofs.expressions.SoundSteps.{meets_as, FreeW
 use Rattle.swc_ecma_parser_reader.proofs.Notes.{or_true, notes_nil}
 use Rattle.swc_ecma_parser_reader.proofs.Meets.{Meets, Refuses, meets_then, meets_if, wanted_meets, too_deep_meets, refuse_meets, Turned, loop_answers, saw, meant}
 use Rattle.swc_ecma_parser_reader.proofs.Opens.{chain_goes, chain_stops}
-use Rattle.swc_ecma_parser_grammar.specs.Using.{is_using_declaration}
 
 -- ---- statements
 

@@ -25,10 +25,11 @@ use Rattle.swc_ecma_parser_grammar.specs.Follows.{token_is, first_is, word_at, i
 use Rattle.swc_ecma_parser_grammar.specs.Variables.{begins_variables}
 use Rattle.swc_ecma_parser_grammar.specs.Own.{only, head_faults}
 use Rattle.swc_ecma_parser_grammar.specs.Using.{may_declare_using, awaits_using, declares_behind, stands_in_head}
-use Rattle.swc_ecma_parser_grammar.specs.language.Contexts.{in_loop, without_in}
+use Rattle.swc_ecma_parser_grammar.specs.language.Lists.{ReadsSeparated}
+use Rattle.swc_ecma_parser_grammar.specs.language.Contexts.{in_loop, without_in, with_in, head_code}
 use Rattle.swc_ecma_parser_grammar.specs.language.Goals.{Class, expression, assignment}
 use Rattle.swc_ecma_parser_grammar.specs.language.Items.{sub_statement}
-use Rattle.swc_ecma_parser_grammar.specs.Reads.{with_in, head_code, DeclaratorRule, ReadsSeparated, HeadVariables, InitRule, no_init_rule, init_variables_rule, init_expression_rule, LeftRule, declared_rule, left_target_rule, OfLeftRule, of_left_rule, of_using_rule, of_await_rule, PartRule, no_part_rule, part_rule, StmtRule, for_rule, for_in_rule, for_of_rule}
+use Rattle.swc_ecma_parser_grammar.specs.Reads.{DeclaratorRule, HeadVariables, InitRule, no_init_rule, init_variables_rule, init_expression_rule, LeftRule, declared_rule, left_target_rule, OfLeftRule, of_left_rule, of_using_rule, of_await_rule, PartRule, no_part_rule, part_rule, StmtRule, for_rule, for_in_rule, for_of_rule}
 use Rattle.swc_ecma_parser_grammar.specs.Walk as walks
 use Rattle.swc_ecma_parser_grammar.specs.Walk.{walk, env_of}
 use Rattle.swc_ecma_parser_reader.specs.Notes.{no_notes, ◌⊕◌, notes_of, all_notes_of}

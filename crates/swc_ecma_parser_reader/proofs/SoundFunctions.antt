@@ -17,10 +17,12 @@ use Rattle.swc_ecma_parser_grammar.specs.Follows.{Star, is_async_function, Async
 use Rattle.swc_ecma_parser_grammar.specs.Looks.{kind_at, span_at, spanned}
 use Rattle.swc_ecma_parser_grammar.specs.Names.{Code, is_name, name_at}
 use Rattle.swc_ecma_parser_grammar.specs.Own.{misplaced_directive}
+use Rattle.swc_ecma_parser_grammar.specs.language.Parts.{ReadsToken}
+use Rattle.swc_ecma_parser_grammar.specs.language.Items.{nested_item}
 use Rattle.swc_ecma_parser_grammar.specs.language.Noted.{has_meta}
 use Rattle.swc_ecma_parser_grammar.specs.Parameters.{parameter, parameters}
-use Rattle.swc_ecma_parser_grammar.specs.Reads.{nested_item, with_in, ReadsToken, ReadsItems, ReadsBraced, ReadsParts, ReadsFunction, ReadsFunctionExpr, OwnNameRule, no_own_name_rule, own_name_rule}
-use Rattle.swc_ecma_parser_grammar.specs.language.Contexts.{named_by, in_parameters, in_body, in_arrow}
+use Rattle.swc_ecma_parser_grammar.specs.Reads.{ReadsItems, ReadsBraced, ReadsParts, ReadsFunction, ReadsFunctionExpr, OwnNameRule, no_own_name_rule, own_name_rule}
+use Rattle.swc_ecma_parser_grammar.specs.language.Contexts.{named_by, in_parameters, in_body, in_arrow, with_in}
 use Rattle.swc_ecma_parser_grammar.specs.Walk as walks
 use Rattle.swc_ecma_parser_grammar.specs.Walk.{Env, walk, env_of}
 use Rattle.swc_ecma_parser_reader.specs.Notes.{no_notes, ◌⊕◌, notes_of, all_notes_of}

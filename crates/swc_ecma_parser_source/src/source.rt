@@ -9,6 +9,7 @@ ghost use Rattle.swc_ecma_parser_grammar.specs.Looks as looks;
 ghost use Rattle.swc_ecma_parser_grammar.specs.Names as names;
 ghost use Rattle.swc_ecma_parser_grammar.specs.Using as resources;
 ghost use Rattle.swc_ecma_parser_grammar.specs.language.Begins as begins;
+ghost use Rattle.swc_ecma_parser_grammar.specs.language.Declarations as declarations;
 ghost use Rattle.swc_ecma_parser_model.specs.Tree.{Tree};
 ghost use Rattle.swc_ecma_parser_model.specs.declared.leaves.Ident.{Ident};
 ghost use Rattle.swc_ecma_parser_input.specs.Place as place;
@@ -199,7 +200,7 @@ pub trait Source {
 
     /// Whether `using` stands here and begins a declaration.
     fn is_using_declaration(&self) -> bool
-        ensures { result ≡ resources.is_using_declaration (seen self.now).code (seen self.now).at };
+        ensures { result ≡ declarations.is_using_declaration (seen self.now).code (seen self.now).at };
 
     /// Whether `using` stands here and may begin a declaration in the head of a loop.
     fn may_declare_using(&self) -> bool

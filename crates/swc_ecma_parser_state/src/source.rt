@@ -262,7 +262,7 @@ impl<O: Origin, I: Tokens> Source for Call<O, I> {
         self.sees(TokenKind::Let) && self.next_follows_let()
     }
 
-    #[tactic(auto, unfolding(swc_ecma_parser_grammar::specs::Using::is_using_declaration))]
+    #[tactic(auto, unfolding(swc_ecma_parser_grammar::specs::language::Declarations::is_using_declaration))]
     fn is_using_declaration(&self) -> bool {
         self.word_at("using") && self.next_is_identifier() && !self.next_had_line_break()
     }

@@ -6,14 +6,12 @@ use Rattle.swc_ecma_parser_model.specs.Tree.{Tree, trees}
 use Rattle.swc_ecma_parser_model.specs.Kinds.{is_if}
 use Rattle.swc_ecma_parser_grammar.specs.declared.position.Position.{Position}
 use Rattle.swc_ecma_parser_grammar.specs.Names.{Code}
-use Rattle.swc_ecma_parser_grammar.specs.Reads.{with_in}
 use Rattle.swc_ecma_parser_grammar.specs.Depth.{depth, depths, flat, deeper, is_head_decl}
 use Rattle.swc_ecma_parser_grammar.specs.language.Goals.{Goal, binding, assigning, expression, assignment, expr_goal, pattern_goal, stmt_goal, using_goal}
-use Rattle.swc_ecma_parser_grammar.specs.language.Contexts.{without_in, in_with, in_loop, in_breakable}
+use Rattle.swc_ecma_parser_grammar.specs.language.Contexts.{without_in, in_with, in_loop, in_breakable, with_in, head_code}
 use Rattle.swc_ecma_parser_grammar.specs.language.Items.{nested_item, sub_statement}
 use Rattle.swc_ecma_parser_grammar.specs.language.Declarations as declarations
 use Rattle.swc_ecma_parser_grammar.specs.language.Declarations.{DeclaratorRule, VariablesRule, UsingDeclaratorRule, UsingRule}
-use Rattle.swc_ecma_parser_grammar.specs.Reads.{head_code}
 use Rattle.swc_ecma_parser_grammar.specs.language.ForHeads as heads
 use Rattle.swc_ecma_parser_grammar.specs.language.ForHeads.{HeadVariablesRule, InitRule, PartRule, LeftRule, UsingNameRule, UsingHeadRule, OfLeftRule}
 use Rattle.swc_ecma_parser_grammar.specs.language.Statements as statements

@@ -11,9 +11,8 @@ use Rattle.swc_ecma_parser_grammar.specs.Looks.{kind_at, breaks_at, sees, spanne
 use Rattle.swc_ecma_parser_grammar.specs.Names.{Code}
 use Rattle.swc_ecma_parser_grammar.specs.Ends.{Ends, can_end}
 use Rattle.swc_ecma_parser_grammar.specs.Follows.{word_at}
-use Rattle.swc_ecma_parser_grammar.specs.Reads.{with_in}
 use Rattle.swc_ecma_parser_grammar.specs.language.Goals.{Goal, expr_goal, assignment, left_side, member_goal, decorator_goal}
-use Rattle.swc_ecma_parser_grammar.specs.language.Contexts.{in_class, in_static_block, in_body}
+use Rattle.swc_ecma_parser_grammar.specs.language.Contexts.{in_class, in_static_block, in_body, with_in}
 use Rattle.swc_ecma_parser_grammar.specs.language.Lists.{ReadsEach}
 use Rattle.swc_ecma_parser_grammar.specs.language.Parts.{OptionalName, PrivateRule, KeyRule, is_private}
 use Rattle.swc_ecma_parser_grammar.specs.language.Items.{BlockRule}

@@ -14,9 +14,9 @@ use Rattle.swc_ecma_parser_model.specs.Forms.{is_simple_target, is_pattern_targe
 use Rattle.swc_ecma_parser_grammar.specs.Looks.{kind_at, breaks_at, sees, spanned}
 use Rattle.swc_ecma_parser_grammar.specs.Names.{Code}
 use Rattle.swc_ecma_parser_grammar.specs.Follows.{continues_left_side, AsyncWord}
-use Rattle.swc_ecma_parser_grammar.specs.Reads.{with_in, ReadsSeparated}
+use Rattle.swc_ecma_parser_grammar.specs.language.Lists.{ReadsSeparated}
 use Rattle.swc_ecma_parser_grammar.specs.language.Goals.{Goal, Class, expression, assignment, operator, unary, left_side, callee, assigning, binding, expr_goal, pattern_goal}
-use Rattle.swc_ecma_parser_grammar.specs.language.Contexts.{in_arrow, may_await}
+use Rattle.swc_ecma_parser_grammar.specs.language.Contexts.{in_arrow, may_await, with_in}
 use Rattle.swc_ecma_parser_grammar.specs.language.Begins.{awaits, begins_expression}
 use Rattle.swc_ecma_parser_grammar.specs.language.Operators.{unary_operator, update_operator, binary_operator, assign_operator, precedence, groups_left, is_operator, mixes, is_unary}
 use Rattle.swc_ecma_parser_grammar.specs.language.Continues.{continues_callee, continues_unary, continues_operand, continues_conditional, continues_assignment, continues_yield}

@@ -11,9 +11,8 @@ use Rattle.swc_ecma_parser_grammar.specs.Looks.{kind_at, spanned}
 use Rattle.swc_ecma_parser_grammar.specs.Names.{Code}
 use Rattle.swc_ecma_parser_grammar.specs.Follows.{word_at, AsyncWord, Star}
 use Rattle.swc_ecma_parser_grammar.specs.Parameters.{parameters}
-use Rattle.swc_ecma_parser_grammar.specs.Reads.{with_in}
 use Rattle.swc_ecma_parser_grammar.specs.language.Goals.{Goal, Purpose, binding, pattern_goal, element_goal}
-use Rattle.swc_ecma_parser_grammar.specs.language.Contexts.{named_by, in_parameters, in_body}
+use Rattle.swc_ecma_parser_grammar.specs.language.Contexts.{named_by, in_parameters, in_body, with_in}
 use Rattle.swc_ecma_parser_grammar.specs.language.Lists.{ReadsListed}
 use Rattle.swc_ecma_parser_grammar.specs.language.Parts.{OptionalName}
 use Rattle.swc_ecma_parser_grammar.specs.language.Items.{BlockRule}

@@ -11,10 +11,10 @@ use Rattle.swc_ecma_parser_model.specs.Tree.{Tree, Text, listed}
 use Rattle.swc_ecma_parser_grammar.specs.Looks.{kind_at, span_at, spanned}
 use Rattle.swc_ecma_parser_grammar.specs.Names.{Code}
 use Rattle.swc_ecma_parser_grammar.specs.Follows.{word_at, is_async_function}
-use Rattle.swc_ecma_parser_grammar.specs.Reads.{with_in, ReadsToken}
+use Rattle.swc_ecma_parser_grammar.specs.language.Contexts.{with_in}
 use Rattle.swc_ecma_parser_grammar.specs.language.Goals.{Goal, expr_goal, callee_goal, expression, callee}
 use Rattle.swc_ecma_parser_grammar.specs.language.Lists.{ReadsListed, Elements}
-use Rattle.swc_ecma_parser_grammar.specs.language.Parts.{ReadsName, AccessRule, is_private, ElementRule, ArgumentsRule}
+use Rattle.swc_ecma_parser_grammar.specs.language.Parts.{ReadsName, AccessRule, is_private, ElementRule, ArgumentsRule, ReadsToken}
 use Rattle.swc_ecma_parser_grammar.specs.language.Functions.{FunctionRule}
 use Rattle.swc_ecma_parser_grammar.specs.language.Classes.{ClassRule}
 use Rattle.swc_ecma_parser_grammar.specs.language.Objects.{PropertyRule}

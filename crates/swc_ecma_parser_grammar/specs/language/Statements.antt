@@ -14,9 +14,8 @@ use Rattle.swc_ecma_parser_grammar.specs.Names.{Code}
 use Rattle.swc_ecma_parser_grammar.specs.Ends.{Ends, OptionalEnds, ends_at}
 use Rattle.swc_ecma_parser_grammar.specs.Follows.{word_at, is_async_function, may_begin_expression_statement, begins_import_expression, AwaitWord}
 use Rattle.swc_ecma_parser_grammar.specs.Variables.{is_var}
-use Rattle.swc_ecma_parser_grammar.specs.Reads.{with_in}
 use Rattle.swc_ecma_parser_grammar.specs.language.Goals.{Goal, expr_goal, expression, assignment, pattern_goal, binding, stmt_goal}
-use Rattle.swc_ecma_parser_grammar.specs.language.Contexts.{in_with, in_loop, in_breakable}
+use Rattle.swc_ecma_parser_grammar.specs.language.Contexts.{in_with, in_loop, in_breakable, with_in}
 use Rattle.swc_ecma_parser_grammar.specs.language.Lists.{ReadsEach}
 use Rattle.swc_ecma_parser_grammar.specs.language.Items.{nested_item, sub_statement, labelled_item, ItemsRule, BlockRule}
 use Rattle.swc_ecma_parser_grammar.specs.language.Functions.{FunctionRule}

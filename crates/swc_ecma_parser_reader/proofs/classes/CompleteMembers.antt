@@ -17,7 +17,7 @@ use Rattle.swc_ecma_parser_grammar.specs.Follows.{word_at}
 use Rattle.swc_ecma_parser_grammar.specs.Own.{only, misplaced_directive}
 use Rattle.swc_ecma_parser_grammar.specs.Parameters.{parameters as parameter_trees}
 use Rattle.swc_ecma_parser_grammar.specs.Notes.{notes, method_notes}
-use Rattle.swc_ecma_parser_grammar.specs.Reads.{nested_item, ReadsBraced, ReadsBlock, ReadsParts}
+use Rattle.swc_ecma_parser_grammar.specs.Reads.{ReadsBraced, ReadsBlock, ReadsParts}
 use Rattle.swc_ecma_parser_grammar.specs.ReadsSupported.{ReadsStmt, ReadsParams, ReadsMember}
 use Rattle.swc_ecma_parser_grammar.specs.Supported.{supported_in, is_supported_key_in, is_supported_property_in, is_supported_method_in, has_no_note}
 use Rattle.swc_ecma_parser_grammar.specs.Walk.{Env, env_of, walk, walks, walk_body, walk_method, in_params, in_body as walks_in_body}
@@ -26,7 +26,7 @@ use Rattle.swc_ecma_parser_grammar.specs.language.Classes.{DecoratorsRule, ends_
 use Rattle.swc_ecma_parser_grammar.specs.language.Contexts.{in_static_block, in_parameters, in_body}
 use Rattle.swc_ecma_parser_grammar.specs.language.Functions.{MethodRule, ParametersRule, takes}
 use Rattle.swc_ecma_parser_grammar.specs.language.Goals.{Goal, assignment}
-use Rattle.swc_ecma_parser_grammar.specs.language.Items.{BlockRule}
+use Rattle.swc_ecma_parser_grammar.specs.language.Items.{BlockRule, nested_item}
 use Rattle.swc_ecma_parser_grammar.specs.language.Noted.{has_meta}
 use Rattle.swc_ecma_parser_grammar.specs.language.Parts.{KeyRule, is_private}
 use Rattle.swc_ecma_parser_grammar.specs.language.Reads as language

@@ -20,13 +20,12 @@ use Rattle.swc_ecma_parser_grammar.specs.declared.position.Position.{Position}
 use Rattle.swc_ecma_parser_grammar.specs.Looks.{kind_at, sees, span_at, spanned}
 use Rattle.swc_ecma_parser_grammar.specs.Names.{Code, name_at}
 use Rattle.swc_ecma_parser_grammar.specs.Own.{only, second_constructor}
-use Rattle.swc_ecma_parser_grammar.specs.Reads.{with_in}
 use Rattle.swc_ecma_parser_grammar.specs.ReadsSupported.{ReadsClass, ReadsMember, ReadsNamedClass}
 use Rattle.swc_ecma_parser_grammar.specs.Supported.{supported_in, all_supported_in}
 use Rattle.swc_ecma_parser_grammar.specs.Walk as walks
 use Rattle.swc_ecma_parser_grammar.specs.Walk.{Env, walk, walk_members, env_of, is_dropping, drops}
 use Rattle.swc_ecma_parser_grammar.specs.language.Classes.{HeritageRule, no_heritage, heritage_rule, ClassRule}
-use Rattle.swc_ecma_parser_grammar.specs.language.Contexts.{in_class}
+use Rattle.swc_ecma_parser_grammar.specs.language.Contexts.{in_class, with_in}
 use Rattle.swc_ecma_parser_grammar.specs.language.Goals.{left_side, member_goal}
 use Rattle.swc_ecma_parser_grammar.specs.language.LeftSides as sides
 use Rattle.swc_ecma_parser_grammar.specs.language.LeftSides.{is_callee}

@@ -19,7 +19,7 @@ use Rattle.swc_ecma_parser_grammar.specs.Parameters.{parameters}
 use Rattle.swc_ecma_parser_grammar.specs.ReadsSupported.{ReadsDeclared}
 use Rattle.swc_ecma_parser_grammar.specs.Walk.{Env, walk}
 use Rattle.swc_ecma_parser_grammar.specs.Walk as walks
-use Rattle.swc_ecma_parser_grammar.specs.language.Contexts.{in_class, in_parameters}
+use Rattle.swc_ecma_parser_grammar.specs.language.Contexts.{in_class, in_parameters, with_in}
 use Rattle.swc_ecma_parser_grammar.specs.language.Parts.{OptionalName, no_name, a_name}
 use Rattle.swc_ecma_parser_reader.specs.Decorators.{has_any}
 use Rattle.swc_ecma_parser_reader.specs.Members.{extended, surplus, members, class_parts, named_class, class_decl, class_stmt}
@@ -27,7 +27,6 @@ use Rattle.swc_ecma_parser_reader.specs.Methods.{star}
 use Rattle.swc_ecma_parser_reader.specs.Notes.{Notes, ◌⊕◌, notes_of}
 use Rattle.swc_ecma_parser_reader.specs.Reader.{close, misdirected, function_body, function_parts, function_word, function_decl, function_stmt, named}
 use Rattle.swc_ecma_parser_reader.specs.State.{State, Reader, coded, moved, within, fault, expect, name}
-use Rattle.swc_ecma_parser_grammar.specs.Reads.{with_in}
 use Rattle.swc_ecma_parser_reader.proofs.Meets.{Meets, meets_then, meets_if, always}
 use Rattle.swc_ecma_parser_reader.proofs.Notes.{or_assoc}
 

@@ -11,8 +11,9 @@ use Rattle.swc_ecma_parser_grammar.specs.Decorated.{declared_class, declared_fun
 use Rattle.swc_ecma_parser_grammar.specs.Follows.{is_async_function, begins_import_expression, AsyncWord, not_async, async_word}
 use Rattle.swc_ecma_parser_grammar.specs.Looks.{kind_at, sees, same_kind}
 use Rattle.swc_ecma_parser_grammar.specs.Names.{Code}
-use Rattle.swc_ecma_parser_grammar.specs.Reads.{StmtRule, class_rule, function_rule, nested_item}
+use Rattle.swc_ecma_parser_grammar.specs.Reads.{StmtRule, class_rule, function_rule}
 use Rattle.swc_ecma_parser_grammar.specs.ReadsSupported.{ReadsStmt, ReadsClass, ReadsPat, ReadsTarget, ReadsParams, ReadsNamedClass, ReadsDeclared}
+use Rattle.swc_ecma_parser_grammar.specs.language.Items.{nested_item}
 use Rattle.swc_ecma_parser_grammar.specs.language.Goals.{Class, left_side}
 use Rattle.swc_ecma_parser_reader.specs.DecoratedStatements.{begins_declared}
 use Rattle.swc_ecma_parser_reader.specs.Expressions.{Cover}

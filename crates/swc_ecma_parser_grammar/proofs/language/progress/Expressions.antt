@@ -5,11 +5,10 @@ use Rattle.swc_ecma_parser_model.specs.declared.leaves.MethodKind.{MethodKind}
 use Rattle.swc_ecma_parser_model.specs.Tree.{Tree, Text}
 use Rattle.swc_ecma_parser_grammar.specs.declared.position.Position.{Position}
 use Rattle.swc_ecma_parser_grammar.specs.Names.{Code}
-use Rattle.swc_ecma_parser_grammar.specs.Reads.{ReadsSeparated, with_in}
 use Rattle.swc_ecma_parser_grammar.specs.language.Goals.{Goal, member_goal, binding, Class, expression, assignment, operator, unary, left_side, callee, Purpose}
-use Rattle.swc_ecma_parser_grammar.specs.language.Contexts.{in_class}
+use Rattle.swc_ecma_parser_grammar.specs.language.Contexts.{in_class, with_in}
 use Rattle.swc_ecma_parser_grammar.specs.language.Lists as lists
-use Rattle.swc_ecma_parser_grammar.specs.language.Lists.{ReadsEach, LastComma, ReadsListed, Elements}
+use Rattle.swc_ecma_parser_grammar.specs.language.Lists.{ReadsEach, LastComma, ReadsListed, Elements, ReadsSeparated}
 use Rattle.swc_ecma_parser_grammar.specs.language.Parts as parts
 use Rattle.swc_ecma_parser_grammar.specs.language.Parts.{ReadsName, ReadsWord, OptionalName, PrivateRule, ComputedRule, KeyRule, AccessRule, ElementRule, ArgumentsRule}
 use Rattle.swc_ecma_parser_grammar.specs.language.Items.{nested_item, directed, directs_on, ItemsRule, BlockRule}
