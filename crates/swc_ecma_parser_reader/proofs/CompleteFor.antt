@@ -20,7 +20,7 @@ use Rattle.swc_ecma_parser_model.specs.Tree.{Tree, Text, listed, trees}
 use Rattle.swc_ecma_parser_model.specs.Forms.{is_binding_name}
 use Rattle.swc_ecma_parser_grammar.specs.Looks.{kind_at, breaks_at, sees, same_kind, spanned, span_at}
 use Rattle.swc_ecma_parser_grammar.specs.Names.{Code, identifier_at}
-use Rattle.swc_ecma_parser_grammar.specs.Follows.{word_at, token_is, may_begin_head, is_bare_async, is_async_of, begins_async_of, is_async_function, is_let_declaration}
+use Rattle.swc_ecma_parser_grammar.specs.Follows.{word_at, token_is, may_begin_head, is_bare_async, is_async_of, is_async_function, is_let_declaration}
 use Rattle.swc_ecma_parser_grammar.specs.Variables.{begins_variables}
 use Rattle.swc_ecma_parser_grammar.specs.Using.{may_declare_using, awaits_using, declares_behind, stands_in_head}
 use Rattle.swc_ecma_parser_grammar.specs.Reads.{HeadVariables, InitRule, no_init_rule, init_variables_rule, init_expression_rule, LeftRule, declared_rule, left_target_rule, OfLeftRule, of_left_rule, of_using_rule, of_await_rule, DeclaratorRule}
@@ -38,6 +38,7 @@ use Rattle.swc_ecma_parser_grammar.proofs.StatementBegins.{word_place}
 use Rattle.swc_ecma_parser_grammar.proofs.Using.{no_other, word_target, word_no_function, using_alone}
 use Rattle.swc_ecma_parser_grammar.proofs.UsingParts.{target_bound, using_read, declares_in_head, bound_stands}
 use Rattle.swc_ecma_parser_grammar.proofs.AwaitHeads.{awaited_words, declares_so, undeclared_unnamed, undeclared_of}
+use Rattle.swc_ecma_parser_reader.specs.Words.{begins_async_of}
 use Rattle.swc_ecma_parser_reader.specs.Notes.{Notes, no_notes, ◌⊕◌, notes_of, all_notes_of}
 use Rattle.swc_ecma_parser_reader.specs.State.{Scope, State, Outcome, Reader, coded, flagged, loop}
 use Rattle.swc_ecma_parser_reader.specs.Expressions.{Cover}

@@ -21,7 +21,7 @@ use Rattle.swc_ecma_parser_model.specs.Targets.{as_target}
 use Rattle.swc_ecma_parser_grammar.specs.declared.position.Position.{Position}
 use Rattle.swc_ecma_parser_grammar.specs.Looks.{kind_at, first_kind, sees, span_at, spanned, breaks_at}
 use Rattle.swc_ecma_parser_grammar.specs.Names.{Code, identifier_at}
-use Rattle.swc_ecma_parser_grammar.specs.Follows.{token_is, first_is, word_at, is_let_declaration, may_begin_head, is_async_of, begins_async_of, AwaitWord, no_await, await_word}
+use Rattle.swc_ecma_parser_grammar.specs.Follows.{token_is, first_is, word_at, is_let_declaration, may_begin_head, is_async_of, AwaitWord, no_await, await_word}
 use Rattle.swc_ecma_parser_grammar.specs.Variables.{begins_variables}
 use Rattle.swc_ecma_parser_grammar.specs.Own.{only, head_faults}
 use Rattle.swc_ecma_parser_grammar.specs.Using.{may_declare_using, awaits_using, declares_behind, stands_in_head}
@@ -32,6 +32,7 @@ use Rattle.swc_ecma_parser_grammar.specs.language.Items.{sub_statement}
 use Rattle.swc_ecma_parser_grammar.specs.Reads.{DeclaratorRule, HeadVariables, InitRule, no_init_rule, init_variables_rule, init_expression_rule, LeftRule, declared_rule, left_target_rule, OfLeftRule, of_left_rule, of_using_rule, of_await_rule, PartRule, no_part_rule, part_rule, StmtRule, for_rule, for_in_rule, for_of_rule}
 use Rattle.swc_ecma_parser_grammar.specs.Walk as walks
 use Rattle.swc_ecma_parser_grammar.specs.Walk.{walk, env_of}
+use Rattle.swc_ecma_parser_reader.specs.Words.{begins_async_of}
 use Rattle.swc_ecma_parser_reader.specs.Notes.{no_notes, ◌⊕◌, notes_of, all_notes_of}
 use Rattle.swc_ecma_parser_reader.specs.State.{State, Reader, moved, coded, within, expect}
 use Rattle.swc_ecma_parser_reader.specs.Expressions as exprs

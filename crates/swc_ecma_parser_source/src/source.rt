@@ -138,10 +138,6 @@ pub trait Source {
     fn continues_left_side(&self) -> bool
         ensures { result ≡ follows.continues_left_side (seen self.now).at };
 
-    /// Whether the current token goes on with an operand.
-    fn continues_operand(&self) -> bool
-        ensures { result ≡ follows.continues_operand (seen self.now).code (seen self.now).at };
-
     /// Whether a word that is not reserved stands here.
     fn identifier_at(&self) -> bool
         ensures { result ≡ names.identifier_at (seen self.now).code.flags (seen self.now).at };

@@ -12,8 +12,8 @@ use swc_ecma_parser_input::{Context, Tokens};
 use swc_ecma_parser_model::Ident;
 use swc_ecma_parser_reader::Mark;
 use swc_ecma_parser_source::{
-    Around, Literal, Source, Wanted, begins_operand, count_labels, ends_key, is_assign_op,
-    is_identifier, is_label, may_bind_await,
+    Around, Literal, Source, Wanted, begins_operand, count_labels, ends_key, is_identifier,
+    is_label, may_bind_await,
 };
 use swc_ecma_parser_token::{Token, TokenAndSpan, TokenKind, Word};
 
@@ -141,14 +141,6 @@ impl<O: Origin, I: Tokens> Source for Call<O, I> {
             || self.sees(TokenKind::LParen)
             || !self.had_line_break()
                 && (self.sees(TokenKind::PlusPlus) || self.sees(TokenKind::MinusMinus))
-    }
-
-    #[tactic(auto, unfolding(swc_ecma_parser_grammar::specs::Follows::continues_operand))]
-    fn continues_operand(&self) -> bool {
-        self.is_binary()
-            || self.sees(TokenKind::QuestionMark)
-            || is_assign_op(self.kind())
-            || self.sees(TokenKind::Comma)
     }
 
     #[tactic(auto, unfolding(swc_ecma_parser_grammar::specs::Names::identifier_at))]
