@@ -15,7 +15,7 @@ use Rattle.swc_ecma_parser_grammar.specs.language.Declarations.{DeclaratorRule, 
 use Rattle.swc_ecma_parser_grammar.specs.language.ForHeads as heads
 use Rattle.swc_ecma_parser_grammar.specs.language.ForHeads.{HeadVariablesRule, InitRule, PartRule, LeftRule, UsingNameRule, UsingHeadRule, OfLeftRule}
 use Rattle.swc_ecma_parser_grammar.specs.language.Statements as statements
-use Rattle.swc_ecma_parser_grammar.specs.language.Statements.{HeadRule, OperandRule, TargetRule, IfRule, ElseRule, CaseRule, CatchRule, FinallyRule, FormRule, StmtRule}
+use Rattle.swc_ecma_parser_grammar.specs.language.Statements.{HeadRule, ReturnedRule, TargetRule, IfRule, ElseRule, CaseRule, CatchRule, FinallyRule, FormRule, StmtRule}
 use Rattle.swc_ecma_parser_grammar.proofs.Tests.{and_both}
 use Rattle.swc_ecma_parser_grammar.specs.Supported.{supported}
 use Rattle.swc_ecma_parser_exactness.specs.Supports.{Whole, WholeGoal}
@@ -90,7 +90,7 @@ module _ (In : Goal → Type 0) (small : (g : Goal) → In g → WholeGoal g) wh
   head_whole : {k : Code} {y : Tree} {c d : Place} → HeadRule In k y c d → Whole y
   head_whole {k = k} {y = y} {c = c} r = small (expr_goal expression (with_in k) y (after c) r.close) r.reads
 
-  operand_whole : {k : Code} {x : Tree} {c d : Place} → OperandRule In k x c d → Whole x
+  operand_whole : {k : Code} {x : Tree} {c d : Place} → ReturnedRule In k x c d → Whole x
   operand_whole {x = x} (statements.no_operand_rule h i e) = ap supported e
   operand_whole {k = k} {x = x} {c = c} {d = d} (statements.operand_rule h r) = small (expr_goal expression (with_in k) x c d) r
 

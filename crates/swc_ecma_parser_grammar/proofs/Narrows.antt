@@ -79,7 +79,7 @@ target_narrows (statements.no_target_rule i g e) h = no_target_rule i g e
 target_narrows {k = k} {x = x} {c = c} {d = d} (statements.target_rule text s i r e) h =
     target_rule r.word s i r.reads_word (name_is_name k text s c d r) (e ∙ ap (tree.ident s) r.is_text)
 
-operand_narrows : (n : ℕ) {k : Code} {x : Tree} {c d : Place} → statements.OperandRule (Reads n) k x c d → supported_in k.flags.module x ≡ true → OperandRule (ReadsClass n) k x c d
+operand_narrows : (n : ℕ) {k : Code} {x : Tree} {c d : Place} → statements.ReturnedRule (Reads n) k x c d → supported_in k.flags.module x ≡ true → OperandRule (ReadsClass n) k x c d
 operand_narrows n (statements.no_operand_rule i g e) h = no_operand_rule i g e
 operand_narrows n (statements.operand_rule i r) h = operand_rule i (r, h)
 

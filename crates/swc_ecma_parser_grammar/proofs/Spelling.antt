@@ -23,8 +23,7 @@ use Rattle.swc_ecma_parser_grammar.specs.language.Begins.{awaits, begins_unary, 
 use Rattle.swc_ecma_parser_grammar.specs.language.Continues.{continues_callee, continues_unary, continues_operand, continues_head, continues_conditional, continues_assignment, continues_yield}
 use Rattle.swc_ecma_parser_grammar.specs.language.Parts.{ReadsName, ReadsWord, ReadsToken}
 use Rattle.swc_ecma_parser_grammar.specs.language.Classes.{ends_key, is_static_word, is_accessor_word, is_accessor_key}
-use Rattle.swc_ecma_parser_grammar.specs.language.LeftSides.{primary_rule, name_rule}
-use Rattle.swc_ecma_parser_grammar.specs.language.Patterns.{OperandRule}
+use Rattle.swc_ecma_parser_grammar.specs.language.LeftSides.{primary_rule, name_rule, OperandRule}
 use Rattle.swc_ecma_parser_grammar.specs.language.Expressions.{BinaryRule, single_rule, operand_rule, AssignmentRule, operators_rule}
 
 -- ---- tokens

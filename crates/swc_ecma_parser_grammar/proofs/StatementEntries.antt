@@ -1,6 +1,6 @@
 -- What an entry reads for one statement: in module code too, where the rules of the first forms read nothing that is noted.
 use Rattle.swc_ecma_parser_grammar.proofs.Tests.{and_yes}
-use Rattle.swc_ecma_parser_grammar.specs.language.Functions.{PatternItemRule}
+use Rattle.swc_ecma_parser_grammar.specs.language.PatternItems.{PatternItemRule}
 use Rattle.swc_ecma_parser_grammar.specs.language.Lists.{ReadsListed, ReadsSeparated}
 use Rattle.swc_ecma_parser_grammar.specs.Parameters.{parameters}
 use Rattle.std.proofs.Common.{◌≡◌, ℕ, zero, suc, Bool, true, false, true≢false, List, [], ◌∷◌, ◌++◌, refl, sym, ◌∙◌, ap}

@@ -103,7 +103,7 @@ target_widens (no_target_rule h g e) = statements.no_target_rule h g e
 target_widens {k = k} (target_rule w s h r f e) =
     statements.target_rule (word_text w) s h (record { word = w; reads_word = r; is_text = refl; is_name = name_is_clean k.flags (word_text w) f }) e
 
-operand_widens : (n : ℕ) {k : Code} {x : Tree} {c d : Place} → OperandRule (ReadsClass n) k x c d → statements.OperandRule (Reads n) k x c d
+operand_widens : (n : ℕ) {k : Code} {x : Tree} {c d : Place} → OperandRule (ReadsClass n) k x c d → statements.ReturnedRule (Reads n) k x c d
 operand_widens n (no_operand_rule h g e) = statements.no_operand_rule h g e
 operand_widens n (operand_rule h r) = statements.operand_rule h r.0
 

@@ -5,6 +5,7 @@ pub mod Begins
 pub mod Continues
 pub mod Lists
 pub mod Parts
+pub mod PatternItems
 pub mod Items
 pub mod Functions
 pub mod Classes

@@ -10,6 +10,7 @@ use Rattle.swc_ecma_parser_grammar.proofs.SupportedBegins.{word_begins, name_beg
 use Rattle.swc_ecma_parser_grammar.specs.Own.{labelled_function, duplicates, misplaced_directive, head_faults}
 use Rattle.swc_ecma_parser_grammar.specs.Reads.{labeled_rule, with_rule, class_rule, function_rule, ReadsFunction, ReadsFunctionExpr, ReadsParts, OwnNameRule, no_own_name_rule, own_name_rule, ReadsBraced, InitRule, LeftRule, OfLeftRule, PartRule, no_part_rule, part_rule, for_rule, for_in_rule, for_of_rule, ReadsItems, break_rule, continue_rule, return_rule, StmtRule, block_rule, empty_rule, debugger_rule, variables_rule, if_statement_rule, CaseRule, case_clause_rule, default_clause_rule, ReadsCases, switch_rule, throw_rule, try_rule, while_rule, do_while_rule, expr_rule, import_rule, ReadsBlock, CatchRule, no_catch_rule, catch_rule, catch_parameter_rule, FinallyRule, no_finally_rule, finally_rule, ReadsHead, IfRule, if_rule, no_else_rule, else_rule, else_if_rule, using_rule, DeclaratorRule}
 use Rattle.swc_ecma_parser_grammar.specs.Names.{is_name, first_is_identifier, identifier_at, Code}
+use Rattle.swc_ecma_parser_grammar.specs.language.PatternItems.{PatternItemRule}
 use Rattle.swc_ecma_parser_grammar.specs.language.Declarations.{is_using_declaration}
 use Rattle.swc_ecma_parser_grammar.specs.language.Lists.{ReadsSeparated}
 use Rattle.swc_ecma_parser_grammar.specs.language.Parts.{ReadsToken}
@@ -73,8 +74,8 @@ use Rattle.swc_ecma_parser_grammar.proofs.MethodParts.{parts_narrow}
 use Rattle.swc_ecma_parser_grammar.proofs.Unnoted.{clean_is}
 use Rattle.swc_ecma_parser_grammar.proofs.Widens.{parameters_same}
 use Rattle.swc_ecma_parser_grammar.specs.Supported.{supported_in, is_supported_key_in, has_no_note}
-use Rattle.swc_ecma_parser_grammar.specs.language.Functions as formal
-use Rattle.swc_ecma_parser_grammar.specs.language.Functions.{PatternItemRule, ParametersRule}
+use Rattle.swc_ecma_parser_grammar.specs.language.PatternItems as pattern_items
+use Rattle.swc_ecma_parser_grammar.specs.language.Functions.{ParametersRule}
 use Rattle.swc_ecma_parser_grammar.specs.language.Patterns as patterns
 use Rattle.swc_ecma_parser_grammar.specs.language.Patterns.{PatternRule, PatternElementRule}
 use Rattle.swc_ecma_parser_grammar.specs.language.Reads as language
@@ -686,9 +687,9 @@ element_plain k p c d (patterns.bare_rule r e) = pattern_plain k p c d r
 element_plain k p c d (patterns.initialized_rule y z m r i v e) = ap is_plain_param e ∙ ap is_binding_name (sym e)
 
 item_plain : (n : ℕ) (k : Code) (p : Tree) (c d : Place) → PatternItemRule (language.Reads n) binding k p c d → is_plain_param p ≡ is_binding_name p
-item_plain zero k p c d (formal.element_rule r) = absurd r
-item_plain (suc n) k p c d (formal.element_rule r) = element_plain k p c d r
-item_plain n k p c d (formal.rest_rule y o r e) = ap is_plain_param e ∙ ap is_binding_name (sym e)
+item_plain zero k p c d (pattern_items.element_rule r) = absurd r
+item_plain (suc n) k p c d (pattern_items.element_rule r) = element_plain k p c d r
+item_plain n k p c d (pattern_items.rest_rule y o r e) = ap is_plain_param e ∙ ap is_binding_name (sym e)
 
 parameter_plain : {k : Code} {c d : Place} (n : ℕ) (p : Tree) → ParametersRule (language.Reads n) k (p ∷ []) c d → is_plain_param p ≡ is_binding_name p
 parameter_plain {k = k} {c = c} n p r = let (m, one, l) = r.reads_patterns in item_plain n (with_in k) p (after c) m one

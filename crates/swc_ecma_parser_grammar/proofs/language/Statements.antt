@@ -16,7 +16,7 @@ use Rattle.swc_ecma_parser_grammar.specs.language.ForHeads as heads
 use Rattle.swc_ecma_parser_grammar.specs.language.ForHeads.{HeadVariablesRule, InitRule, PartRule, LeftRule, UsingNameRule, UsingHeadRule, OfLeftRule}
 use Rattle.swc_ecma_parser_grammar.specs.language.Statements as statements
 use Rattle.swc_ecma_parser_grammar.specs.language.Items.{labelled_item}
-use Rattle.swc_ecma_parser_grammar.specs.language.Statements.{HeadRule, OperandRule, IfRule, ElseRule, CaseRule, CatchRule, FinallyRule, FormRule, StmtRule}
+use Rattle.swc_ecma_parser_grammar.specs.language.Statements.{HeadRule, ReturnedRule, IfRule, ElseRule, CaseRule, CatchRule, FinallyRule, FormRule, StmtRule}
 use Rattle.swc_ecma_parser_grammar.proofs.language.Asked.{Inside, Level, Fitting, whole_head, nothing, part, joined, both, turned, sized, leaf, over, aligned, same}
 use Rattle.swc_ecma_parser_grammar.proofs.language.Parts.{body_depth, each_inside, separated_inside, items_inside, block_inside, block_level, function_level, decorators_inside, class_level}
 
@@ -113,7 +113,7 @@ module _ (In Out : Goal → Type 0) (fitting : (g : Goal) → In g → Fitting g
   head_inside {k = k} {y = y} {c = c} r =
       part (expr_goal expression (with_in k) y (after c) r.close) r.reads (λ o. record { close = r.close; opens = r.opens; reads = o; closes = r.closes; next = r.next })
 
-  operand_inside : {k : Code} {x : Tree} {c d : Place} → OperandRule In k x c d → Inside In Out (OperandRule Out k x c d) (depth x)
+  operand_inside : {k : Code} {x : Tree} {c d : Place} → ReturnedRule In k x c d → Inside In Out (ReturnedRule Out k x c d) (depth x)
   operand_inside (statements.no_operand_rule h i e) = sized (nothing (statements.no_operand_rule h i e)) (ap depth e)
   operand_inside {k = k} {x = x} {c = c} {d = d} (statements.operand_rule h r) = part (expr_goal expression (with_in k) x c d) r (statements.operand_rule h)
 

@@ -22,8 +22,8 @@ use Rattle.swc_ecma_parser_grammar.specs.language.Operators.{unary_operator, upd
 use Rattle.swc_ecma_parser_grammar.specs.language.Continues.{continues_callee, continues_unary, continues_operand, continues_conditional, continues_assignment, continues_yield}
 use Rattle.swc_ecma_parser_grammar.specs.language.Functions.{ParametersRule}
 use Rattle.swc_ecma_parser_grammar.specs.language.Items.{BlockRule}
-use Rattle.swc_ecma_parser_grammar.specs.language.LeftSides.{LeftSideRule, CalleeRule}
-use Rattle.swc_ecma_parser_grammar.specs.language.Patterns.{OperandRule, PatternRule}
+use Rattle.swc_ecma_parser_grammar.specs.language.LeftSides.{LeftSideRule, CalleeRule, OperandRule}
+use Rattle.swc_ecma_parser_grammar.specs.language.Patterns.{PatternRule}
 
 -- UnaryExpression and UpdateExpression, sections 13.4 and 13.5; AwaitExpression of section 15.8
 pub data UnaryRule (In : Goal → Type 0) (k : Code) (x : Tree) (c d : Place) : Type 0 where

@@ -13,6 +13,7 @@ use Rattle.swc_ecma_parser_grammar.specs.Names.{Code}
 use Rattle.swc_ecma_parser_grammar.specs.Follows.{word_at, is_async_function}
 use Rattle.swc_ecma_parser_grammar.specs.language.Contexts.{with_in}
 use Rattle.swc_ecma_parser_grammar.specs.language.Goals.{Goal, expr_goal, callee_goal, expression, callee}
+use Rattle.swc_ecma_parser_grammar.specs.language.Begins.{awaits}
 use Rattle.swc_ecma_parser_grammar.specs.language.Lists.{ReadsListed, Elements}
 use Rattle.swc_ecma_parser_grammar.specs.language.Parts.{ReadsName, AccessRule, is_private, ElementRule, ArgumentsRule, ReadsToken}
 use Rattle.swc_ecma_parser_grammar.specs.language.Functions.{FunctionRule}
@@ -74,3 +75,7 @@ pub data LeftSideRule (In : Goal → Type 0) (k : Code) : Tree → Place → Pla
 
 abbrev pub CalleeRule : (Goal → Type 0) → Code → Tree → Place → Place → Type 0
 CalleeRule In k x c d = LeftSideRule In k x c d × (is_callee x ≡ true)
+
+-- Where a unary expression may begin: `await` before an operand is no name there. On it unary expressions rest, and what is assigned to.
+abbrev pub OperandRule : (Goal → Type 0) → Code → Tree → Place → Place → Type 0
+OperandRule In k x c d = LeftSideRule In k x c d × (awaits k.flags c ≡ false)

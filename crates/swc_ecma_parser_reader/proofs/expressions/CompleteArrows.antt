@@ -14,9 +14,10 @@ use Rattle.swc_ecma_parser_grammar.specs.Notes.{notes}
 use Rattle.swc_ecma_parser_grammar.specs.Own.{misplaced_directive}
 use Rattle.swc_ecma_parser_grammar.specs.Supported.{supported_in, all_supported_in}
 use Rattle.swc_ecma_parser_grammar.specs.Walk.{env_of, in_body, walk, walks}
+use Rattle.swc_ecma_parser_grammar.specs.language.PatternItems.{PatternItemRule}
 use Rattle.swc_ecma_parser_grammar.specs.language.Contexts.{in_arrow, with_in}
 use Rattle.swc_ecma_parser_grammar.specs.language.Expressions.{ArrowHeadRule, name_head, parameters_head, ArrowBodyRule, block_body, expression_body}
-use Rattle.swc_ecma_parser_grammar.specs.language.Functions.{PatternItemRule, ParametersRule}
+use Rattle.swc_ecma_parser_grammar.specs.language.Functions.{ParametersRule}
 use Rattle.swc_ecma_parser_grammar.specs.language.Goals.{Goal, Class, assignment, assigning, binding, pattern_goal, element_goal}
 use Rattle.swc_ecma_parser_grammar.specs.language.Lists.{ReadsListed, LastComma}
 use Rattle.swc_ecma_parser_grammar.specs.language.Noted.{has_meta}

@@ -20,12 +20,13 @@ use Rattle.swc_ecma_parser_model.specs.Targets.{as_target, as_element, binds}
 use Rattle.swc_ecma_parser_grammar.specs.Looks.{kind_at, sees, same_kind, span_at, spanned}
 use Rattle.swc_ecma_parser_grammar.specs.Names.{Code, is_name, is_clean_name, is_identifier, may_refer_to_await}
 use Rattle.swc_ecma_parser_grammar.specs.Notes.{notes}
+use Rattle.swc_ecma_parser_grammar.specs.language.PatternItems.{PatternItemRule}
 use Rattle.swc_ecma_parser_grammar.specs.language.Noted.{has_meta}
 use Rattle.swc_ecma_parser_grammar.specs.Walk.{Env, env_of, in_body, walk, walks}
 use Rattle.swc_ecma_parser_grammar.specs.Supported.{supported_in, is_supported_property_in, is_supported_key_in, all_supported_in}
 use Rattle.swc_ecma_parser_grammar.specs.Parameters.{parameters}
 use Rattle.swc_ecma_parser_grammar.specs.language.Contexts.{in_arrow, with_in}
-use Rattle.swc_ecma_parser_grammar.specs.language.Functions.{PatternItemRule, FunctionRule, FunctionParts}
+use Rattle.swc_ecma_parser_grammar.specs.language.Functions.{FunctionRule, FunctionParts}
 use Rattle.swc_ecma_parser_grammar.specs.language.Classes.{ClassRule}
 use Rattle.swc_ecma_parser_grammar.specs.language.Goals.{Goal, Class, expression, assignment, callee, assigning, binding, expr_goal, callee_goal, element_goal, pattern_goal}
 use Rattle.swc_ecma_parser_grammar.specs.language.Items.{BlockRule}

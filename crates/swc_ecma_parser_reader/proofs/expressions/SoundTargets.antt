@@ -23,8 +23,8 @@ use Rattle.swc_ecma_parser_grammar.specs.language.Operators.{binary_operator, as
 use Rattle.swc_ecma_parser_grammar.specs.language.Continues.{is_operation, binds, continues_unary, continues_operand, continues_conditional, continues_assignment, continues_head}
 use Rattle.swc_ecma_parser_grammar.specs.language.Parts.{ReadsName}
 use Rattle.swc_ecma_parser_grammar.specs.language.LeftSides as sides
-use Rattle.swc_ecma_parser_grammar.specs.language.LeftSides.{PrimaryRule, LeftSideRule, primary_rule}
-use Rattle.swc_ecma_parser_grammar.specs.language.Patterns.{OperandRule, PatternRule, target_name_rule, target_rule, PatternElementRule, bare_rule, initialized_rule}
+use Rattle.swc_ecma_parser_grammar.specs.language.LeftSides.{PrimaryRule, LeftSideRule, primary_rule, OperandRule}
+use Rattle.swc_ecma_parser_grammar.specs.language.Patterns.{PatternRule, target_name_rule, target_rule, PatternElementRule, bare_rule, initialized_rule}
 use Rattle.swc_ecma_parser_grammar.specs.language.Expressions as expressions
 use Rattle.swc_ecma_parser_grammar.specs.language.Expressions.{UnaryRule, BinaryRule, AssignmentRule, operators_rule, single_rule, operand_rule}
 use Rattle.swc_ecma_parser_grammar.specs.language.Reads.{Reads}

@@ -16,7 +16,7 @@ use Rattle.swc_ecma_parser_grammar.specs.language.Declarations.{DeclaratorRule, 
 use Rattle.swc_ecma_parser_grammar.specs.language.ForHeads as heads
 use Rattle.swc_ecma_parser_grammar.specs.language.ForHeads.{HeadVariablesRule, InitRule, PartRule, LeftRule, UsingNameRule, UsingHeadRule, OfLeftRule}
 use Rattle.swc_ecma_parser_grammar.specs.language.Statements as statements
-use Rattle.swc_ecma_parser_grammar.specs.language.Statements.{HeadRule, OperandRule, TargetRule, IfRule, ElseRule, CaseRule, CatchRule, FinallyRule, FormRule}
+use Rattle.swc_ecma_parser_grammar.specs.language.Statements.{HeadRule, ReturnedRule, TargetRule, IfRule, ElseRule, CaseRule, CatchRule, FinallyRule, FormRule}
 use Rattle.swc_ecma_parser_grammar.specs.language.ModuleParts as module_parts
 use Rattle.swc_ecma_parser_grammar.specs.language.ModuleParts.{BracedRule, StringRule, FromRule, ModuleNameRule, AttributesRule}
 use Rattle.swc_ecma_parser_grammar.specs.language.Imports as imports
@@ -156,7 +156,7 @@ module _ (In : Goal → Type 0) (go : (g : Goal) → In g → Advances (begin g)
   pub head : {k : Code} {x : Tree} {c d : Place} → HeadRule In k x c d → Advances c d
   head r = any_token ▹▸ inner r.reads ▸▹ any_token_to r.next
 
-  pub operand : {k : Code} {x : Tree} {c d : Place} → OperandRule In k x c d → Onward c d
+  pub operand : {k : Code} {x : Tree} {c d : Place} → ReturnedRule In k x c d → Onward c d
   operand (statements.no_operand_rule a e b) = stays e
   operand (statements.operand_rule a r) = goes (inner r)
 
