@@ -25,9 +25,9 @@ pub data ReadsShebang (c d : Place) : Option Text → Type 0 where
   no_shebang : sees kind.Shebang c ≡ false → d ≡ c → ReadsShebang c d None
 
 -- whether one of the statements begins with `await`
-abbrev pub items_await : (Item : Code → Tree → Place → Place → Type 0) (k : Code) (directives : Bool) (xs : List Tree) (c d : Place) → ReadsItems Item k directives xs c d → Bool
-items_await Item k directives [] c d r = false
-items_await Item k directives (x ∷ xs) c d (m, r, rs) = sees kind.Await c || items_await Item (directed k directives x) (directs_on directives x) xs m d rs
+abbrev pub small_items_await : (Item : Code → Tree → Place → Place → Type 0) (k : Code) (directives : Bool) (xs : List Tree) (c d : Place) → ReadsItems Item k directives xs c d → Bool
+small_items_await Item k directives [] c d r = false
+small_items_await Item k directives (x ∷ xs) c d (m, r, rs) = sees kind.Await c || small_items_await Item (directed k directives x) (directs_on directives x) xs m d rs
 
 -- a script within so many levels, which takes the whole list
 pub record ReadsScript (n : ℕ) (k : Code) (x : Tree) (c d : Place) : Type 0 where
@@ -40,8 +40,8 @@ pub record ReadsScript (n : ℕ) (k : Code) (x : Tree) (c d : Place) : Type 0 wh
   pub is : x ≡ tree.script (spanned c d) (listed items) shebang
 
 -- whether one of its own statements begins with `await`
-abbrev pub script_awaits : (n : ℕ) (k : Code) (x : Tree) (c d : Place) → ReadsScript n k x c d → Bool
-script_awaits n k x c d r = items_await (λ j. ReadsTop n j top_item) (script_code k) true r.items r.first d r.reads_items
+abbrev pub small_script_awaits : (n : ℕ) (k : Code) (x : Tree) (c d : Place) → ReadsScript n k x c d → Bool
+small_script_awaits n k x c d r = small_items_await (λ j. ReadsTop n j top_item) (script_code k) true r.items r.first d r.reads_items
 
 -- no error token stands in the list
 abbrev pub has_error_token : List TokenAndSpan → Bool

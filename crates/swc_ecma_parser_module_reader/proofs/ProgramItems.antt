@@ -9,7 +9,7 @@ use Rattle.swc_ecma_parser_model.specs.Tree.{Tree, Text, trees}
 use Rattle.swc_ecma_parser_grammar.specs.Looks.{sees}
 use Rattle.swc_ecma_parser_grammar.specs.Names.{Code}
 use Rattle.swc_ecma_parser_grammar.specs.Notes.{notes, all_notes}
-use Rattle.swc_ecma_parser_grammar.specs.Entries.{items_await}
+use Rattle.swc_ecma_parser_grammar.specs.Entries.{small_items_await}
 use Rattle.swc_ecma_parser_grammar.specs.Reads.{ReadsItems}
 use Rattle.swc_ecma_parser_grammar.specs.ReadsSupported.{ReadsTop}
 use Rattle.swc_ecma_parser_grammar.specs.Walk as walks
@@ -137,7 +137,7 @@ around_rule n k (y ∷ ys) b c d (y_is, w) h o (i, others, q, qs, f) =
     )
 
 pub items_joined : (n : ℕ) (k : Code) (directives : Bool) (xs ys : List Tree) (a b : Bool) (c m d : Place) (r : ReadsItems (Top n) k directives xs c m)
-    → a ≡ items_await (Top n) k directives xs c m r
+    → a ≡ small_items_await (Top n) k directives xs c m r
     → ModuleItemsRule (Reads n) (code_after k directives xs) true ys b m d → Leads ys
     → ModuleItemsRule (Reads n) k directives (xs ++ ys) (a || b) c d
 items_joined n k directives [] [] a b c m d r e (i, f) l = (i ∙ r, ap (λ z. z || b) e ∙ f)
@@ -152,7 +152,7 @@ items_joined n k directives (x ∷ xs) ys a b c m d (i, q, more) e p l =
     let w = statement_widens n k top_item x c i q in
     let x_is = no_module_decl x w.1 in
     let j = directed k directives x in
-    let others = items_await (Top n) j (directs_on directives x) xs i m more in (
+    let others = small_items_await (Top n) j (directs_on directives x) xs i m more in (
       i,
       others || b,
       stmt_item n k x c i w.0.0,

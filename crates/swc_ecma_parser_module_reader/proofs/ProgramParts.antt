@@ -10,7 +10,7 @@ use Rattle.swc_ecma_parser_model.specs.Forms.{has_plain_params}
 use Rattle.swc_ecma_parser_model.specs.Kinds.{is_module_decl}
 use Rattle.swc_ecma_parser_model.specs.Tree as tree
 use Rattle.swc_ecma_parser_model.specs.Tree.{Tree, Text, trees}
-use Rattle.swc_ecma_parser_grammar.specs.Entries.{items_await}
+use Rattle.swc_ecma_parser_grammar.specs.Entries.{small_items_await}
 use Rattle.swc_ecma_parser_grammar.specs.Looks.{kind_at, sees, same_kind, span_at, spanned}
 use Rattle.swc_ecma_parser_grammar.specs.Names.{Code}
 use Rattle.swc_ecma_parser_grammar.specs.Notes.{notes, all_notes}
@@ -201,7 +201,7 @@ pub record Parts (n : ℕ) (k : Code) (b : Bool) (xs : List Tree) (awaits : Bool
   pub middle : Place
   pub others : Bool
   pub reads_before : ReadsItems (Item n) k b before c middle
-  pub awaited : awaits ≡ (items_await (Item n) k b before c middle reads_before || others)
+  pub awaited : awaits ≡ (small_items_await (Item n) k b before c middle reads_before || others)
   -- in the code around
   pub reads_behind : ModuleItemsRule (Reads n) (code_behind k b before) true behind others middle d
   pub plain : list_any is_module_decl before ≡ false

@@ -8,7 +8,7 @@ use Rattle.swc_ecma_parser_token.specs.declared.token.Word.{Word}
 use Rattle.swc_ecma_parser_grammar.proofs.Tests.{and_yes, and_both, and_no}
 use Rattle.swc_ecma_parser_grammar.proofs.SupportedBegins.{word_begins, name_begins, opens, expr_opens}
 use Rattle.swc_ecma_parser_grammar.specs.Own.{labelled_function, duplicates, misplaced_directive, head_faults}
-use Rattle.swc_ecma_parser_grammar.specs.Reads.{labeled_rule, with_rule, class_rule, function_rule, ReadsFunction, ReadsFunctionExpr, ReadsParts, OwnNameRule, no_own_name_rule, own_name_rule, ReadsBraced, InitRule, LeftRule, OfLeftRule, PartRule, no_part_rule, part_rule, for_rule, for_in_rule, for_of_rule, ReadsItems, break_rule, continue_rule, return_rule, StmtRule, block_rule, empty_rule, debugger_rule, variables_rule, if_statement_rule, CaseRule, case_clause_rule, default_clause_rule, ReadsCases, switch_rule, throw_rule, try_rule, while_rule, do_while_rule, expr_rule, import_rule, ReadsBlock, CatchRule, no_catch_rule, catch_rule, catch_parameter_rule, FinallyRule, no_finally_rule, finally_rule, ReadsHead, IfRule, if_rule, no_else_rule, else_rule, else_if_rule, using_rule, DeclaratorRule}
+use Rattle.swc_ecma_parser_grammar.specs.Reads.{labeled_rule, with_rule, class_rule, function_rule, ReadsFunction, ReadsFunctionExpr, ReadsParts, OwnNameRule, no_own_name_rule, own_name_rule, ReadsBraced, SmallInitRule, SmallLeftRule, SmallOfLeftRule, SmallPartRule, no_part_rule, part_rule, for_rule, for_in_rule, for_of_rule, ReadsItems, break_rule, continue_rule, return_rule, SmallStmtRule, block_rule, empty_rule, debugger_rule, variables_rule, if_statement_rule, SmallCaseRule, case_clause_rule, default_clause_rule, ReadsCases, switch_rule, throw_rule, try_rule, while_rule, do_while_rule, expr_rule, import_rule, ReadsBlock, SmallCatchRule, no_catch_rule, catch_rule, catch_parameter_rule, SmallFinallyRule, no_finally_rule, finally_rule, ReadsHead, SmallIfRule, if_rule, no_else_rule, else_rule, else_if_rule, using_rule, SmallDeclaratorRule}
 use Rattle.swc_ecma_parser_grammar.specs.Names.{is_name, first_is_identifier, identifier_at, Code}
 use Rattle.swc_ecma_parser_grammar.specs.language.PatternItems.{PatternItemRule}
 use Rattle.swc_ecma_parser_grammar.specs.language.Declarations.{is_using_declaration}
@@ -270,7 +270,7 @@ module _ (n : ℕ) (below : Below n) (reads : (at : Position) (k : Code) (x : Tr
         code_stays k xs,
       ) refl
 
-  clause_reads : (k : Code) (b : Bool) (x : Tree) (c d : Place) (w : Scope) (f : List Fault) (h : Notes) → CaseRule (ReadsStmt n) (ReadsClass n) k b x c d → closes_clause d ≡ true
+  clause_reads : (k : Code) (b : Bool) (x : Tree) (c d : Place) (w : Scope) (f : List Fault) (h : Notes) → SmallCaseRule (ReadsStmt n) (ReadsClass n) k b x c d → closes_clause d ≡ true
       → clause (stmt n nested_item) (expr n expression) b (st c k w f h) ≡ Ok (x, st d k w (f ++ walk (env_of k w.labels) x) (h ⊕ notes_of x))
   unfolding clause case_clause default_clause same_kind spanned
   clause_reads k b x c d w f h (case_clause_rule test xs m a r i s e) z =
@@ -284,7 +284,7 @@ module _ (n : ℕ) (below : Below n) (reads : (at : Position) (k : Code) (x : Tr
   clause_reads k b x c d w f h (default_clause_rule xs o a i s e) z =
       rw (ap (λ j. same_kind j kind.Case) a, o, clause_from_reads (span_at c) tree.absent xs k (after c) d w f h i s z, e) refl
 
-  clause_begins : {k : Code} {b : Bool} {x : Tree} {c d : Place} → CaseRule (ReadsStmt n) (ReadsClass n) k b x c d → begins_clause c ≡ true
+  clause_begins : {k : Code} {b : Bool} {x : Tree} {c d : Place} → SmallCaseRule (ReadsStmt n) (ReadsClass n) k b x c d → begins_clause c ≡ true
   unfolding begins_clause same_kind
   clause_begins (case_clause_rule test xs m a r i s e) = rw a refl
   clause_begins (default_clause_rule xs o a i s e) = rw a refl
@@ -332,7 +332,7 @@ module _ (n : ℕ) (below : Below n) (reads : (at : Position) (k : Code) (x : Tr
   unfolding same_kind
   no_paren c e = rw e refl
 
-  handler_reads : (k : Code) (x : Tree) (c d : Place) → CatchRule (ReadsStmt n) (ReadsPat n) k x c d → Reads (handler (stmt n nested_item) (pattern n)) k x c d
+  handler_reads : (k : Code) (x : Tree) (c d : Place) → SmallCatchRule (ReadsStmt n) (ReadsPat n) k x c d → Reads (handler (stmt n nested_item) (pattern n)) k x c d
   unfolding handler caught parameter bound
   handler_reads k x c d (no_catch_rule a b e) w f h = rw (a, b, e, append-nil f, append-nil h.held_back, or_nil h.found_module_item) refl
   handler_reads k x c d (catch_rule body a r e) w f h =
@@ -350,13 +350,13 @@ module _ (n : ℕ) (below : Below n) (reads : (at : Position) (k : Code) (x : Tr
         or_assoc h.found_module_item (has_meta p) (has_meta body),
       ) refl
 
-  finalizer_reads : (k : Code) (x : Tree) (c d : Place) → FinallyRule (ReadsStmt n) k x c d → Reads (finalizer (stmt n nested_item)) k x c d
+  finalizer_reads : (k : Code) (x : Tree) (c d : Place) → SmallFinallyRule (ReadsStmt n) k x c d → Reads (finalizer (stmt n nested_item)) k x c d
   unfolding finalizer
   finalizer_reads k x c d (no_finally_rule a b e) w f h = rw (a, b, e, append-nil f, append-nil h.held_back, or_nil h.found_module_item) refl
   finalizer_reads k x c d (finally_rule a r) w f h = rw (seen c kind.Finally a) (braced_reads k x (after c) d r w f h)
 
   -- what the tree has stands there
-  one_seen : {k : Code} {x y : Tree} {c m d : Place} → CatchRule (ReadsStmt n) (ReadsPat n) k x c m → FinallyRule (ReadsStmt n) k y m d → is_absent x && is_absent y ≡ false → is_handled c ≡ true
+  one_seen : {k : Code} {x y : Tree} {c m d : Place} → SmallCatchRule (ReadsStmt n) (ReadsPat n) k x c m → SmallFinallyRule (ReadsStmt n) k y m d → is_absent x && is_absent y ≡ false → is_handled c ≡ true
   unfolding is_handled
   one_seen {c = c} (catch_rule body i r e) f h = rw (seen c kind.Catch i) refl
   one_seen {c = c} (catch_parameter_rule p body i j l r t u e) f h = rw (seen c kind.Catch j) refl
@@ -366,8 +366,8 @@ module _ (n : ℕ) (below : Below n) (reads : (at : Position) (k : Code) (x : Tr
       true_false : true ≡ false → ⊥
       true_false h = cc
 
-  try_reads : (y z v : Tree) (m i : Place) (k : Code) (x : Tree) (c d : Place) → ReadsBlock (ReadsStmt n) k y (after c) m → CatchRule (ReadsStmt n) (ReadsPat n) k z m i
-      → FinallyRule (ReadsStmt n) k v i d → is_absent z && is_absent v ≡ false → x ≡ tree.try (spanned c d) y z v → Reads (try_stmt (stmt n nested_item) (pattern n)) k x c d
+  try_reads : (y z v : Tree) (m i : Place) (k : Code) (x : Tree) (c d : Place) → ReadsBlock (ReadsStmt n) k y (after c) m → SmallCatchRule (ReadsStmt n) (ReadsPat n) k z m i
+      → SmallFinallyRule (ReadsStmt n) k v i d → is_absent z && is_absent v ≡ false → x ≡ tree.try (spanned c d) y z v → Reads (try_stmt (stmt n nested_item) (pattern n)) k x c d
   unfolding try_stmt handled
   try_reads y z v m i k x c d r s t b e w f h =
       let a = f ++ walk (env_of k w.labels) y in
@@ -408,7 +408,7 @@ module _ (n : ℕ) (below : Below n) (reads : (at : Position) (k : Code) (x : Tr
 
   -- ---- `for`
 
-  part_reads : (j : TokenKind) → opens j ≡ false → is_error j ≡ false → (k : Code) (x : Tree) (c d : Place) → PartRule (ReadsClass n) k x c d → kind_at d ≡ j → Reads (head_part j (expr n expression)) k x c d
+  part_reads : (j : TokenKind) → opens j ≡ false → is_error j ≡ false → (k : Code) (x : Tree) (c d : Place) → SmallPartRule (ReadsClass n) k x c d → kind_at d ≡ j → Reads (head_part j (expr n expression)) k x c d
   unfolding head_part
   part_reads j o i k x c d (no_part_rule b e) z w f h = rw (seen c j (ap kind_at (sym b) ∙ z), e, b, append-nil f, append-nil h.held_back, or_nil h.found_module_item) refl
   part_reads j o i k x c d (part_rule r) z w f h = rw (unopened c j (expr_opens n (with_in k) x c d r) o, expr_reads n below expression (with_in k) x c d r w f h (inr (ap is_error z ∙ i))) refl
@@ -433,8 +433,8 @@ module _ (n : ℕ) (below : Below n) (reads : (at : Position) (k : Code) (x : Tr
   await_reads v k c l w f h (no_await e i) o = (None, rw (no_await_here c (ap kind_at (sym i) ∙ o), i) refl, sym e)
   await_reads v k c l w f h (await_word e i g) o = (Some (span_at c), rw (seen c kind.Await i, g) refl, sym e)
 
-  for_reads : (a b g y : Tree) (l m i : Place) (k : Code) (x : Tree) (c d : Place) → kind_at (after c) ≡ kind.LParen → InitRule (ReadsClass n) (ReadsPat n) k a (after (after c)) l
-      → kind_at l ≡ kind.Semi → PartRule (ReadsClass n) k b (after l) m → kind_at m ≡ kind.Semi → PartRule (ReadsClass n) k g (after m) i → kind_at i ≡ kind.RParen
+  for_reads : (a b g y : Tree) (l m i : Place) (k : Code) (x : Tree) (c d : Place) → kind_at (after c) ≡ kind.LParen → SmallInitRule (ReadsClass n) (ReadsPat n) k a (after (after c)) l
+      → kind_at l ≡ kind.Semi → SmallPartRule (ReadsClass n) k b (after l) m → kind_at m ≡ kind.Semi → SmallPartRule (ReadsClass n) k g (after m) i → kind_at i ≡ kind.RParen
       → ReadsStmt n (in_loop k) sub_statement y (after i) d → x ≡ tree.for (spanned c d) a b g y
       → ReadsCalm (for_stmt (stmt n sub_statement) (expr n) (pattern n) (head_cover n)) k x c d
   unfolding for_stmt for_behind for_parts await_here spanned
@@ -466,7 +466,7 @@ module _ (n : ℕ) (below : Below n) (reads : (at : Position) (k : Code) (x : Tr
 
   -- the faults of what is declared stand before `in` or `of`, which is no error token
   for_in_reads : (a b y : Tree) (m i : Place) (k : Code) (x : Tree) (c d : Place) → kind_at (after c) ≡ kind.LParen
-      → LeftRule (ReadsClass n) (ReadsPat n) (ReadsTarget n) k a (after (after c)) m → kind_at m ≡ kind.In → ReadsClass n expression (with_in k) b (after m) i → kind_at i ≡ kind.RParen
+      → SmallLeftRule (ReadsClass n) (ReadsPat n) (ReadsTarget n) k a (after (after c)) m → kind_at m ≡ kind.In → ReadsClass n expression (with_in k) b (after m) i → kind_at i ≡ kind.RParen
       → ReadsStmt n (in_loop k) sub_statement y (after i) d → x ≡ tree.for_in (spanned c d) a b y
       → ReadsCalm (for_stmt (stmt n sub_statement) (expr n) (pattern n) (head_cover n)) k x c d
   unfolding for_stmt for_behind for_in misdeclared await_here spanned
@@ -494,7 +494,7 @@ module _ (n : ℕ) (below : Below n) (reads : (at : Position) (k : Code) (x : Tr
       ) (simp (append_assoc, or_assoc) refl)
 
   for_of_reads : (v : Bool) (a b y : Tree) (p m i : Place) (k : Code) (x : Tree) (c d : Place) → AwaitWord v (after c) p → kind_at p ≡ kind.LParen
-      → OfLeftRule (ReadsClass n) (ReadsPat n) (ReadsTarget n) k v a (after p) m → word_at (codes "of") m ≡ true
+      → SmallOfLeftRule (ReadsClass n) (ReadsPat n) (ReadsTarget n) k v a (after p) m → word_at (codes "of") m ≡ true
       → ReadsClass n assignment (with_in k) b (after m) i → kind_at i ≡ kind.RParen → ReadsStmt n (in_loop k) sub_statement y (after i) d → x ≡ tree.for_of (spanned c d) v a b y
       → ReadsCalm (for_stmt (stmt n sub_statement) (expr n) (pattern n) (head_cover n)) k x c d
   unfolding for_stmt for_behind for_of misdeclared spanned
@@ -589,7 +589,7 @@ module _ (n : ℕ) (below : Below n) (reads : (at : Position) (k : Code) (x : Tr
   unfolding spanned
   closed_reads t y z x k c d w f h o e g = rw (g, e) (simp (append_assoc, or_assoc) refl)
 
-  if_begins : {k : Code} {x : Tree} {c d : Place} → IfRule (ReadsStmt n) (ReadsClass n) k x c d → kind_at c ≡ kind.If
+  if_begins : {k : Code} {x : Tree} {c d : Place} → SmallIfRule (ReadsStmt n) (ReadsClass n) k x c d → kind_at c ≡ kind.If
   if_begins (if_rule t y z m i g r s o e) = g
 
   -- the parts of an `if` that end where it does
@@ -602,7 +602,7 @@ module _ (n : ℕ) (below : Below n) (reads : (at : Position) (k : Code) (x : Tr
       let g = calm_first d (walk (env_of k l) t ++ walk (env_of k l) y) (walk (env_of k l) z) (walk (env_of k l) x) (ap (walk (env_of k l)) e) q in
       subst (λ v. Calm k l y v) b (calm_last d (walk (env_of k l) t) (walk (env_of k l) y) (walk (env_of k l) t ++ walk (env_of k l) y) refl g)
 
-  if_reads : {k : Code} {x : Tree} {c d : Place} → IfRule (ReadsStmt n) (ReadsClass n) k x c d → ReadsCalm (if_stmt (stmt n sub_statement) (expr n expression)) k x c d
+  if_reads : {k : Code} {x : Tree} {c d : Place} → SmallIfRule (ReadsStmt n) (ReadsClass n) k x c d → ReadsCalm (if_stmt (stmt n sub_statement) (expr n expression)) k x c d
   unfolding alternative goes_on
   if_reads {k = k} {x = x} {c = c} {d = d} (if_rule t y z m i g r s (no_else_rule a b j) e) w f h q =
       if_last n (st c k w f h) _ (linked k w f h t y i) (link_reads t y m k c i w f h r s (unelsed k w.labels c i d e b q)) (rw a refl)
@@ -629,7 +629,7 @@ module _ (n : ℕ) (below : Below n) (reads : (at : Position) (k : Code) (x : Tr
   function_statement at k x c d m a (async_word i j l o) e reads w f h q = let v = async_stands c m j l o e in rw (async_kind c v, v) (reads w f h q)
 
   -- `await using` is read before
-  by_rules : (at : Position) (k : Code) (x : Tree) (c d : Place) → is_await_using_declaration at k c ≡ false → StmtRule (ReadsStmt n) (ReadsClass n) (ReadsPat n) (ReadsTarget n) (ReadsParams n) (ReadsNamedClass n) k at x c d
+  by_rules : (at : Position) (k : Code) (x : Tree) (c d : Place) → is_await_using_declaration at k c ≡ false → SmallStmtRule (ReadsStmt n) (ReadsClass n) (ReadsPat n) (ReadsTarget n) (ReadsParams n) (ReadsNamedClass n) k at x c d
       → ReadsCalm (stmt_level (stmt n) (expr n) (pattern n) (head_cover n) (parameters n) (member n) (operators n) at) k x c d
   unfolding stmt_level other_stmt const_stmt let_stmt expr_stmt_at import_stmt_at function_stmt class_stmt async_or_other using_or_other
   by_rules at k x c d n' (class_rule name y a r b e) w f h q = rw (r.0.is_class, a) (class_decl_reads n below members k x c d name y r b e w f h)
@@ -643,7 +643,7 @@ module _ (n : ℕ) (below : Below n) (reads : (at : Position) (k : Code) (x : Tr
   by_rules at k x c d n' (using_rule v xs m p a (no_await l i) t b r e s g) w f h q =
       let b' = subst (λ z. is_using_declaration k z ≡ true) i b in
       rw (using_stands k c b', using_no_function k c b', placed at v l a, b')
-      (using_reads n below xs p k x c d (subst (λ z. ReadsSeparated (DeclaratorRule (ReadsClass n assignment) (ReadsPat n) (with_in k) false decl.Var) xs (after z) p) i r) e s (g ∙ ap (λ z. tree.using (spanned c d) z (listed xs)) l) w f h q)
+      (using_reads n below xs p k x c d (subst (λ z. ReadsSeparated (SmallDeclaratorRule (ReadsClass n assignment) (ReadsPat n) (with_in k) false decl.Var) xs (after z) p) i r) e s (g ∙ ap (λ z. tree.using (spanned c d) z (listed xs)) l) w f h q)
   by_rules at k x c d n' (using_rule v xs m p a (await_word l i j) t b r e s g) w f h q =
       absurd (true≢false (sym (declares_so at k c m v a l i j t b) ∙ n'))
   by_rules at k x c d n' (if_statement_rule r) w f h q = rw (if_begins r) (if_reads r w f h q)
