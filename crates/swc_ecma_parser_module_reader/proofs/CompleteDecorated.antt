@@ -188,7 +188,7 @@ module _ (n : ℕ) (k : Code) (o : IsModule k) where
   module _ (w : Scope) (f : List Fault) (h : Notes) where
     -- the whole walk and the whole notes
     module _ (ds : List Tree) (y : Tree) (c m d : Place) (before : none_before (span_at c).lo (trees ds) ≡ true) where
-      walk_is : (x bare : Tree) → Takes bare → walk (env_of k w.labels) x ≡ walks.walk_exported (env_of k w.labels) (spanned c d) (walk (walks.in_module (env_of k w.labels)) (with_decorators ds bare)) (with_decorators ds bare)
+      walk_is : (x bare : Tree) → Takes bare → walk (env_of k w.labels) x ≡ walks.walk_exported (env_of k w.labels) (spanned c d) (walk (walks.env_in_module (env_of k w.labels)) (with_decorators ds bare)) (with_decorators ds bare)
           → walk (env_of k w.labels) (listed ds) ++ walk (env_of k w.labels) bare ≡ walk (env_of k w.labels) x
       unfolding spanned
       walk_is x bare t e = front_walk n (st c k w f h) o (span_at c) (spanned c d) ds bare before t ∙ sym e
@@ -239,7 +239,7 @@ module _ (n : ℕ) (k : Code) (o : IsModule k) where
       list_state = st m k w (f ++ walk (env_of k w.labels) a) (h ⊕ notes_of a)
 
       -- the walk of its list stands before that of what it is without it
-      parts_walk : (bare : Tree) → Takes bare → walk (env_of k w.labels) x ≡ walks.walk_exported (env_of k w.labels) (spanned c d) (walk (walks.in_module (env_of k w.labels)) (with_decorators ds bare)) (with_decorators ds bare)
+      parts_walk : (bare : Tree) → Takes bare → walk (env_of k w.labels) x ≡ walks.walk_exported (env_of k w.labels) (spanned c d) (walk (walks.env_in_module (env_of k w.labels)) (with_decorators ds bare)) (with_decorators ds bare)
           → walk (env_of k w.labels) a ++ walk (env_of k w.labels) bare ≡ walk (env_of k w.labels) x
       parts_walk bare t e = ap (λ v. walk (env_of k w.labels) v ++ walk (env_of k w.labels) bare) u ∙ walk_is ds y c m d before x bare t e
 

@@ -161,7 +161,7 @@ module _ (n : ℕ) (k : Code) where
   unfolding names_from spanned
   names_from_read o xs src attributes x c l m i d w f h q r a e g j =
       let env = env_of k w.labels in
-      let inner = walk (walks_of.in_module env) attributes in
+      let inner = walk (walks_of.env_in_module env) attributes in
       let v : walk env x ≡ walk env attributes = rw (j, r.1.is, q.walked) (append-nil inner ∙ ap (λ z. walk z attributes) (module_env k w.labels o)) in
       let y : notes x ≡ notes attributes = rw (j, r.1.is, q.noted) refl in
       let z : has_meta x ≡ has_meta attributes = rw (j, r.1.is, q.unmet) refl in

@@ -161,11 +161,11 @@ clause_quiet k xs c d (default_binding_rule text s ys m r more e) =
 
 -- an import carries the faults and notes of its attributes
 abbrev Carries : (x given : Tree) → Type 0
-Carries x given = ((env : Env) → walk env x ≡ walk (walks_of.in_module env) given) × (notes x ≡ notes given) × (has_meta x ≡ has_meta given)
+Carries x given = ((env : Env) → walk env x ≡ walk (walks_of.env_in_module env) given) × (notes x ≡ notes given) × (has_meta x ≡ has_meta given)
 
 import_carries : (x : Tree) (s : Span) (xs : List Tree) (src given : Tree) (p : ImportPhase) → x ≡ tree.import s (listed xs) src given p → QuietAll xs → Quiet src → Carries x given
 import_carries x s xs src given p is q r =
-    (λ env. rw (is, q.0 (walks_of.in_module env) false, r.0 (walks_of.in_module env)) refl, rw (is, q.1, r.1) refl, rw (is, q.2, r.2) refl)
+    (λ env. rw (is, q.0 (walks_of.env_in_module env) false, r.0 (walks_of.env_in_module env)) refl, rw (is, q.1, r.1) refl, rw (is, q.2, r.2) refl)
 
 -- ---- what is imported
 

@@ -80,9 +80,9 @@ later_none n start v s e = rw (leading_none (decorated_in n) s e) refl
 -- ---- the walk of the whole
 
 bare_walked : (env : Env) (w : Span) (hi : BytePos) (ds : List Tree) (z : Tree) → Takes z → all_before w (trees ds) ≡ true → let span : Span = record { lo = w.lo; hi = hi } in
-    walk env (listed ds) ++ walk (walks.in_module env) z ≡ walk_exported env span (walk (walks.in_module env) (with_decorators ds z)) (with_decorators ds z)
+    walk env (listed ds) ++ walk (walks.env_in_module env) z ≡ walk_exported env span (walk (walks.env_in_module env) (with_decorators ds z)) (with_decorators ds z)
 bare_walked env w hi ds z f h = let span : Span = record { lo = w.lo; hi = hi } in
-    ap (λ v. v ++ walk (walks.in_module env) z) (sym (before_walk env span ds (before_one w hi ds h))) ∙ sym (f.walked ds env span)
+    ap (λ v. v ++ walk (walks.env_in_module env) z) (sym (before_walk env span ds (before_one w hi ds h))) ∙ sym (f.walked ds env span)
 
 -- ---- the export, from its word on
 

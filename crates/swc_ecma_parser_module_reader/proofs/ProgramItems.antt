@@ -57,7 +57,7 @@ plainly_leads (y ∷ ys) l = l.0
 -- ---- the walk
 
 -- what the walk knows of the code behind a directive
-directed_env : (k : Code) (labels : List Text) (directives : Bool) (x : Tree) → env_of (directed k directives x) labels ≡ walks.directed (env_of k labels) directives x
+directed_env : (k : Code) (labels : List Text) (directives : Bool) (x : Tree) → env_of (directed k directives x) labels ≡ walks.env_directed (env_of k labels) directives x
 directed_env k labels directives x = by_test (directives && is_use_strict x)
   where
     by_test : (b : Bool) → env_of (cond b (in_strict k) k) labels ≡ cond b (record (env_of k labels) { strict = true }) (env_of k labels)
@@ -69,7 +69,7 @@ around_walk k labels [] l = refl
 around_walk k labels (y ∷ ys) (d, w) =
     let env = env_of k labels in
     let strict = env_of (module_code k) labels in
-    ap (λ z. z ++ walk_items (walks.behind_item (walks.directed strict true y) y) (directs_on true y) (trees ys)) (w env)
+    ap (λ z. z ++ walk_items (walks.env_behind_item (walks.env_directed strict true y) y) (directs_on true y) (trees ys)) (w env)
     ∙ ap (λ v. walk env y ++ walk_items v (directs_on true y) (trees ys)) (declared_env strict true y d ∙ sym (declared_env env true y d))
 
 pub walk_joined : (k : Code) (labels : List Text) (directives : Bool) (xs ys : List Tree) → any_module_decl (trees xs) ≡ false → Leads ys
@@ -81,10 +81,10 @@ walk_joined k labels directives (x ∷ xs) ys h l =
     let env = env_of k labels in
     let b : Bool = directs_on directives x in
     let last = walk_items (env_of (code_after (directed k directives x) b xs) labels) true (trees ys) in
-    append_assoc (walk env x) (walks.walks (walks.directed env directives x) b (trees xs)) last
+    append_assoc (walk env x) (walks.walks (walks.env_directed env directives x) b (trees xs)) last
     ∙ ap (λ z. walk env x ++ z) (subst (λ v. walks.walks v b (trees xs) ++ last ≡ walk_items v b (trees (xs ++ ys))) (directed_env k labels directives x)
     (walk_joined (directed k directives x) labels b xs ys g.1 l))
-    ∙ ap (λ v. walk env x ++ walk_items v b (trees (xs ++ ys))) (sym (stated_env (walks.directed env directives x) x g.0))
+    ∙ ap (λ v. walk env x ++ walk_items v b (trees (xs ++ ys))) (sym (stated_env (walks.env_directed env directives x) x g.0))
 
 -- ---- in module code the statements of a script note nothing
 

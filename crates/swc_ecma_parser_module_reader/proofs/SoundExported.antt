@@ -86,7 +86,7 @@ SoundExport n s x t = Sound same (λ k l. walk (env_of k l) x) (notes_of x) (Exp
 
 -- no decorators stand before what is exported
 abbrev IsPlain : Tree → Type 0
-IsPlain x = (env : Env) (s : Span) → walks.walk_exported env s (walk (walks.in_module env) x) x ≡ walk (walks.in_module env) x
+IsPlain x = (env : Env) (s : Span) → walks.walk_exported env s (walk (walks.env_in_module env) x) x ≡ walk (walks.env_in_module env) x
 
 -- variables that are exported, in the code of the export
 abbrev VariablesRead : ℕ → Tree → Code → Place → Place → Type 0

@@ -82,10 +82,10 @@ module _ (n : ℕ) (s : State) (o : IsModule s.code) (start : Span) where
   -- the walk of what is exported, behind that of its decorators
   pub front_walk : (span : Span) (ds : List Tree) (x : Tree) → none_before span.lo (trees ds) ≡ true → Takes x
       → walk (env_of s.code s.scope.labels) (listed ds) ++ walk (env_of s.code s.scope.labels) x
-      ≡ walks.walk_exported (env_of s.code s.scope.labels) span (walk (walks.in_module (env_of s.code s.scope.labels)) (with_decorators ds x)) (with_decorators ds x)
+      ≡ walks.walk_exported (env_of s.code s.scope.labels) span (walk (walks.env_in_module (env_of s.code s.scope.labels)) (with_decorators ds x)) (with_decorators ds x)
   front_walk span ds x h f = let env = env_of s.code s.scope.labels in
       ap (λ z. walk z (listed ds) ++ walk z x) (sym (module_env s.code s.scope.labels o))
-      ∙ sym (ap (λ z. z ++ walk (walks.in_module env) x) (behind_walk env span ds h)) ∙ sym (f.walked ds env span)
+      ∙ sym (ap (λ z. z ++ walk (walks.env_in_module env) x) (behind_walk env span ds h)) ∙ sym (f.walked ds env span)
 
   front_notes : (ds : List Tree) (x : Tree) → Takes x → notes (listed ds) ≡ [] → notes x ≡ [] → notes (with_decorators ds x) ≡ []
   front_notes ds x f a b = sym (ap (λ z. z.held_back) (f.noted ds)) ∙ joined (notes (listed ds)) (notes x) a b

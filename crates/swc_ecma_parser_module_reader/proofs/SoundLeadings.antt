@@ -114,10 +114,10 @@ kept_meets g (Err e) h = tt
 
 module _ (n : ℕ) (m : State) (o : IsModule m.code) (start : Span) (begins : start.lo ≡ (span_at m.at).lo) (v : Leading) (any : has_any v.found ≡ true) where
   -- its walk without decorators
-  bare_walk : (span : Span) (z : Tree) → Takes z → walk (env_of m.code m.scope.labels) z ≡ walks.walk_exported (env_of m.code m.scope.labels) span (walk (walks.in_module (env_of m.code m.scope.labels)) z) z
+  bare_walk : (span : Span) (z : Tree) → Takes z → walk (env_of m.code m.scope.labels) z ≡ walks.walk_exported (env_of m.code m.scope.labels) span (walk (walks.env_in_module (env_of m.code m.scope.labels)) z) z
   bare_walk span z f = let env = env_of m.code m.scope.labels in
       sym (ap (λ e. walk e z) (module_env m.code m.scope.labels o))
-      ∙ sym (subst (λ y. walks.walk_exported env span (walk (walks.in_module env) y) y ≡ walk (walks.in_module env) z) f.bare (f.walked [] env span))
+      ∙ sym (subst (λ y. walks.walk_exported env span (walk (walks.env_in_module env) y) y ≡ walk (walks.env_in_module env) z) f.bare (f.walked [] env span))
 
   taken_sound : (u : State) → SoundStep (Words start) m u → (declaration : Reader Tree) → Meets (SoundExported n u) (declaration u)
       → Meets (SoundBehind n v m) (exported (stmt n nested_item) (expr n) (pattern n) (reader.parameters n) (member n) start (decorating v.found declaration) u)

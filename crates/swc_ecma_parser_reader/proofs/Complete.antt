@@ -2,7 +2,7 @@
 use Rattle.swc_ecma_parser_reader.proofs.Words.{plain_function, async_stands, async_kind, or_earlier}
 use Rattle.swc_ecma_parser_reader.proofs.SoundFunctions.{parameters_walk, parameters_notes}
 use Rattle.swc_ecma_parser_grammar.specs.Parameters.{parameters as parameter_trees}
-use Rattle.swc_ecma_parser_grammar.specs.Walk.{in_body as walks_in_body, in_params, walk_body, Env, env_of, walk, walks}
+use Rattle.swc_ecma_parser_grammar.specs.Walk.{env_in_body, env_in_parameters, walk_body, Env, env_of, walk, walks}
 use Rattle.swc_ecma_parser_token.specs.Text.{word_text}
 use Rattle.swc_ecma_parser_token.specs.declared.token.Word.{Word}
 use Rattle.swc_ecma_parser_grammar.proofs.Tests.{and_yes, and_both, and_no}
@@ -123,7 +123,7 @@ module _ (n : ℕ) (below : Below n) (reads : (at : Position) (k : Code) (x : Tr
   -- a body has labels of its own, and what is found in it is not told
   function_body_reads : (a g : Bool) (k : Code) (x : Tree) (c d : Place) (w : Scope) (f : List Fault) (h : Notes) → ReadsBraced (ReadsStmt n) true (in_body k a g) x c d
       → function_body (stmt n nested_item) (parameters n) a g (st c k w f h)
-      ≡ Ok (x, st d k w (f ++ walk_body (walks_in_body (env_of k w.labels)) x) (record { held_back = h.held_back ++ notes x; found_module_item = h.found_module_item }))
+      ≡ Ok (x, st d k w (f ++ walk_body (env_in_body (env_of k w.labels)) x) (record { held_back = h.held_back ++ notes x; found_module_item = h.found_module_item }))
   unfolding function_body
   function_body_reads a g k x c d w f h r =
       rw (body_reads true (in_body k a g) x c d (record w { labels = [] }) f h r, behind_setting (in_body k a g) true r.items, r.is) refl
@@ -142,8 +142,8 @@ module _ (n : ℕ) (below : Below n) (reads : (at : Position) (k : Code) (x : Tr
   unfolding function_decl function_parts misdirected spanned
   function_reads k x c d r w f h q =
       let env = env_of k w.labels in
-      let a = walks (in_params env) false (trees r.patterns) in
-      let b = walk_body (walks_in_body env) r.body in
+      let a = walks (env_in_parameters env) false (trees r.patterns) in
+      let b = walk_body (env_in_body env) r.body in
       let l = misplaced_directive (has_plain_params (parameter_trees r.patterns)) r.body in
       rw (
         word_reads k c r.word w f h r.reads_async r.is_function,
@@ -151,9 +151,9 @@ module _ (n : ℕ) (below : Below n) (reads : (at : Position) (k : Code) (x : Tr
         name_reads faults.ExpectedIdent r.name r.name_span r.behind_word r.behind_name k w f h r.reads_name r.is_named,
         parameters_reads n below (in_parameters k r.is_async r.is_generator) r.patterns r.behind_name r.middle r.reads_parameters w f h,
         function_body_reads r.is_async r.is_generator k r.body r.middle d w (f ++ a) (h ⊕ all_notes_of (trees r.patterns)) r.reads_body,
-        told_reads l d k w (f ++ a ++ b) _ (calm_last d (a ++ b) l (walk env x) (ap (walk env) r.is ∙ ap (λ z. z ++ b ++ l) (parameters_walk (in_params env) r.patterns)) q),
+        told_reads l d k w (f ++ a ++ b) _ (calm_last d (a ++ b) l (walk env x) (ap (walk env) r.is ∙ ap (λ z. z ++ b ++ l) (parameters_walk (env_in_parameters env) r.patterns)) q),
         r.is,
-        parameters_walk (in_params env) r.patterns,
+        parameters_walk (env_in_parameters env) r.patterns,
         ap (λ z. z.held_back) (parameters_notes r.patterns),
         ap (λ z. z.found_module_item) (parameters_notes r.patterns),
       ) (simp (append_assoc) refl)
@@ -180,8 +180,8 @@ module _ (n : ℕ) (below : Below n) (reads : (at : Position) (k : Code) (x : Tr
   function_expr_reads k x c d r w f h q =
       let env = env_of k w.labels in
       let fn = tree.function (spanned c d) (listed []) (parameter_trees r.patterns) r.body r.is_async r.is_generator in
-      let a = walks (in_params env) false (trees r.patterns) in
-      let b = walk_body (walks_in_body env) r.body in
+      let a = walks (env_in_parameters env) false (trees r.patterns) in
+      let b = walk_body (env_in_body env) r.body in
       let l = misplaced_directive (has_plain_params (parameter_trees r.patterns)) r.body in
       let here = calm_last d (walk env r.name) (walk env fn) (walk env x) (ap (walk env) r.is) q in
       let quiet = own_name_quiet env r.reads_name in
@@ -191,12 +191,12 @@ module _ (n : ℕ) (below : Below n) (reads : (at : Position) (k : Code) (x : Tr
         own_name_reads r.is_async r.is_generator r.name k r.behind_word r.behind_name w f h r.reads_name,
         parameters_reads n below (in_parameters k r.is_async r.is_generator) r.patterns r.behind_name r.middle r.reads_parameters w f h,
         function_body_reads r.is_async r.is_generator k r.body r.middle d w (f ++ a) (h ⊕ all_notes_of (trees r.patterns)) r.reads_body,
-        told_reads l d k w (f ++ a ++ b) _ (calm_last d (a ++ b) l (walk env fn) (ap (λ z. z ++ b ++ l) (parameters_walk (in_params env) r.patterns)) here),
+        told_reads l d k w (f ++ a ++ b) _ (calm_last d (a ++ b) l (walk env fn) (ap (λ z. z ++ b ++ l) (parameters_walk (env_in_parameters env) r.patterns)) here),
         r.is,
         quiet.0,
         quiet.1,
         quiet.2,
-        parameters_walk (in_params env) r.patterns,
+        parameters_walk (env_in_parameters env) r.patterns,
         ap (λ z. z.held_back) (parameters_notes r.patterns),
         ap (λ z. z.found_module_item) (parameters_notes r.patterns),
       ) (simp (append_assoc, append-nil) refl)
@@ -225,9 +225,9 @@ module _ (n : ℕ) (below : Below n) (reads : (at : Position) (k : Code) (x : Tr
       rw (
         parameters_reads n below (in_parameters k false false) (p ∷ []) m r.middle r.reads_parameters w f' h',
         q,
-        function_body_reads false false k body r.middle d w (f' ++ walks (in_params env) false (trees (p ∷ []))) (h' ⊕ all_notes_of (trees (p ∷ []))) r.reads_body,
+        function_body_reads false false k body r.middle d w (f' ++ walks (env_in_parameters env) false (trees (p ∷ []))) (h' ⊕ all_notes_of (trees (p ∷ []))) r.reads_body,
         ← s,
-        told_reads (misplaced_directive (is_plain_param p) body) d k w (f' ++ walks (in_params env) false (trees (p ∷ [])) ++ walk_body (walks_in_body env) body) _ (inr z),
+        told_reads (misplaced_directive (is_plain_param p) body) d k w (f' ++ walks (env_in_parameters env) false (trees (p ∷ [])) ++ walk_body (env_in_body env) body) _ (inr z),
         e,
       ) (simp (append_assoc, append-nil, or_assoc, or_nil) refl)
 
@@ -241,10 +241,10 @@ module _ (n : ℕ) (below : Below n) (reads : (at : Position) (k : Code) (x : Tr
       let h' = h ⊕ notes_of key in
       rw (
         parameters_reads n below (in_parameters k a g) ps m r.middle r.reads_parameters w f' h',
-        function_body_reads a g k body r.middle d w (f' ++ walks (in_params env) false (trees ps)) (h' ⊕ all_notes_of (trees ps)) r.reads_body,
-        told_reads (misplaced_directive (has_plain_params (parameter_trees ps)) body) d k w (f' ++ walks (in_params env) false (trees ps) ++ walk_body (walks_in_body env) body) _ (inr z),
+        function_body_reads a g k body r.middle d w (f' ++ walks (env_in_parameters env) false (trees ps)) (h' ⊕ all_notes_of (trees ps)) r.reads_body,
+        told_reads (misplaced_directive (has_plain_params (parameter_trees ps)) body) d k w (f' ++ walks (env_in_parameters env) false (trees ps) ++ walk_body (env_in_body env) body) _ (inr z),
         e,
-        parameters_walk (in_params env) ps,
+        parameters_walk (env_in_parameters env) ps,
         ap (λ z. z.held_back) (parameters_notes ps),
         ap (λ z. z.found_module_item) (parameters_notes ps),
       ) (simp (append_assoc, append-nil, or_assoc) refl)

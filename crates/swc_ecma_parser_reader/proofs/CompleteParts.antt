@@ -273,7 +273,7 @@ pub strict_walk : (b : Bool) (k : Code) (labels : List Text) → env_of (cond b 
 strict_walk true k labels = refl
 strict_walk false k labels = refl
 
-pub directed_walk : (k : Code) (directives : Bool) (x : Tree) (labels : List Text) → env_of (directed k directives x) labels ≡ walks_of.directed (env_of k labels) directives x
+pub directed_walk : (k : Code) (directives : Bool) (x : Tree) (labels : List Text) → env_of (directed k directives x) labels ≡ walks_of.env_directed (env_of k labels) directives x
 directed_walk k directives x labels = strict_walk (directives && is_use_strict x) k labels
 
 module _ (Inner : Code → Tree → Place → Place → Type 0) (inner : Reader Tree)

@@ -268,7 +268,7 @@ code_push k directives [] x = refl
 code_push k directives (y ∷ ys) x = code_push (directed k directives y) (directs_on directives y) ys x
 
 -- what the walk knows of the code behind a directive
-directed_env : (k : Code) (labels : List Text) (directives : Bool) (x : Tree) → env_of (directed k directives x) labels ≡ walks.directed (env_of k labels) directives x
+directed_env : (k : Code) (labels : List Text) (directives : Bool) (x : Tree) → env_of (directed k directives x) labels ≡ walks.env_directed (env_of k labels) directives x
 directed_env k labels directives x = by_test (directives && is_use_strict x)
   where
     by_test : (b : Bool) → env_of (cond b (in_strict k) k) labels ≡ cond b (record (env_of k labels) { strict = true }) (env_of k labels)
@@ -282,8 +282,8 @@ items_walk_push k labels directives [] x = sym (append-nil (walk (env_of k label
 items_walk_push k labels directives (y ∷ ys) x =
     let j : Code = directed k directives y in
     let b : Bool = directs_on directives y in
-    let e : env_of j labels ≡ walks.directed (env_of k labels) directives y = directed_env k labels directives y in
-    append_assoc (walk (env_of k labels) y) (walks.walks (walks.directed (env_of k labels) directives y) b (trees ys)) (walk (env_of (code_after j b ys) labels) x)
+    let e : env_of j labels ≡ walks.env_directed (env_of k labels) directives y = directed_env k labels directives y in
+    append_assoc (walk (env_of k labels) y) (walks.walks (walks.env_directed (env_of k labels) directives y) b (trees ys)) (walk (env_of (code_after j b ys) labels) x)
     ∙ ap (λ z. walk (env_of k labels) y ++ z) (subst (λ v. walks.walks v b (trees ys) ++ walk (env_of (code_after j b ys) labels) x ≡ walks.walks v b (trees (ys ++ x ∷ []))) e
     (items_walk_push j labels b ys x))
 

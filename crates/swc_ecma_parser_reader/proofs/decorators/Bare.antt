@@ -54,11 +54,11 @@ walks_first env start ds x y e h = ap (λ z. walk env (decorated_by start ds z))
 
 pub walk_decorated : (env : Env) (start : Span) (ds : List Tree) (x : Tree) → IsBare x → walk env (decorated_by start ds x) ≡ walk env (listed ds) ++ walk env x
 walk_decorated env start ds x (bare_class s text span ms base e) = walks_first env start ds x _ e
-    (append_assoc (walk env (listed ds)) (walk (walks.in_class env) base) (walks.walk_class_body (walks.in_class env) ms))
+    (append_assoc (walk env (listed ds)) (walk (walks.env_in_class env) base) (walks.walk_class_body (walks.env_in_class env) ms))
 walk_decorated env start ds x (bare_function s text span ps body a g e) = walks_first env start ds x _ e
-    (append_assoc (walk env (listed ds) ++ walk (walks.in_params env) ps) (walks.walk_body (walks.in_body env) body) _
-    ∙ append_assoc (walk env (listed ds)) (walk (walks.in_params env) ps) _
-    ∙ ap (λ z. walk env (listed ds) ++ z) (sym (append_assoc (walk (walks.in_params env) ps) (walks.walk_body (walks.in_body env) body) _)))
+    (append_assoc (walk env (listed ds) ++ walk (walks.env_in_parameters env) ps) (walks.walk_body (walks.env_in_body env) body) _
+    ∙ append_assoc (walk env (listed ds)) (walk (walks.env_in_parameters env) ps) _
+    ∙ ap (λ z. walk env (listed ds) ++ z) (sym (append_assoc (walk (walks.env_in_parameters env) ps) (walks.walk_body (walks.env_in_body env) body) _)))
 
 notes_first : (start : Span) (ds : List Tree) (x y : Tree) → x ≡ y → notes_of (decorated_by start ds y) ≡ notes_of (listed ds) ⊕ notes_of y
     → notes_of (decorated_by start ds x) ≡ notes_of (listed ds) ⊕ notes_of x

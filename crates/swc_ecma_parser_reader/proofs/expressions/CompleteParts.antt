@@ -22,7 +22,7 @@ use Rattle.swc_ecma_parser_grammar.specs.Names.{Code, is_name, is_clean_name, is
 use Rattle.swc_ecma_parser_grammar.specs.Notes.{notes}
 use Rattle.swc_ecma_parser_grammar.specs.language.PatternItems.{PatternItemRule}
 use Rattle.swc_ecma_parser_grammar.specs.language.Noted.{has_meta}
-use Rattle.swc_ecma_parser_grammar.specs.Walk.{Env, env_of, in_body, walk, walks}
+use Rattle.swc_ecma_parser_grammar.specs.Walk.{Env, env_of, env_in_body, walk, walks}
 use Rattle.swc_ecma_parser_grammar.specs.Supported.{supported_in, is_supported_property_in, is_supported_key_in, all_supported_in}
 use Rattle.swc_ecma_parser_grammar.specs.Parameters.{parameters}
 use Rattle.swc_ecma_parser_grammar.specs.language.Contexts.{in_arrow, with_in}
@@ -179,7 +179,7 @@ pub record IsRead (In : Goal → Type 0) (inner : Class → Reader Tree) (cover 
 -- what the body of an arrow function is read as: no label stands around it, and nothing in it makes a program a module
 abbrev pub ReadsEnclosed : Reader Tree → Code → Tree → Place → Place → Type 0
 ReadsEnclosed reader k x c d = (w : Scope) (f : List Fault) (h : Notes) → reader (st c k w f h)
-    ≡ Ok (x, st d k w (f ++ body_walk (in_body (env_of k w.labels)) x) (record { held_back = h.held_back ++ notes x; found_module_item = h.found_module_item }))
+    ≡ Ok (x, st d k w (f ++ body_walk (env_in_body (env_of k w.labels)) x) (record { held_back = h.held_back ++ notes x; found_module_item = h.found_module_item }))
 
 -- a method is read from behind its key, whose walk and notes are before its own
 abbrev pub MethodIsRead : (FunctionForm → Reader Tree) → MethodForm → Code → (key x : Tree) (c m d : Place) → Type 0

@@ -120,7 +120,7 @@ abbrev pub BodyRead : ℕ → (is_async : Bool) → Tree → Code → Place → 
 BodyRead n w x k c d = ArrowBodyRule (Reads n) k w x c d × (supported_in k.flags.module x ≡ true) × (k.flags.module ≡ true → notes x ≡ [])
 
 abbrev pub SoundBody : ℕ → (is_async : Bool) → State → Tree → State → Type 0
-SoundBody n w s x t = Sound same (λ k l. body_walk (walks.in_body (env_of k l)) x) (record (notes_of x) { found_module_item = false }) (BodyRead n w x) s t
+SoundBody n w s x t = Sound same (λ k l. body_walk (walks.env_in_body (env_of k l)) x) (record (notes_of x) { found_module_item = false }) (BodyRead n w x) s t
 
 -- the reader of functions as parts of expressions is sound: a method is read from behind its key, and where a name stands a
 -- parameter is that name
