@@ -25,7 +25,7 @@ use Rattle.swc_ecma_parser_grammar.specs.language.Expressions.{UnaryRule, Binary
 use Rattle.swc_ecma_parser_grammar.specs.language.Decorators as decorators
 use Rattle.swc_ecma_parser_grammar.specs.language.Decorators.{ChainRule, GroupRule, DecoratedRule}
 use Rattle.swc_ecma_parser_grammar.proofs.Tests.{and_both}
-use Rattle.swc_ecma_parser_grammar.specs.Supported.{supported}
+use Rattle.swc_ecma_parser_grammar.specs.scaffold.Supported.{supported}
 use Rattle.swc_ecma_parser_exactness.specs.Supports.{Whole, WholeGoal}
 use Rattle.swc_ecma_parser_exactness.proofs.Wholes.{as_form, both, three, WholeKey, EachWhole, each_as, list_whole, parameters_whole, listed_whole, separated_whole, elements_whole}
 use Rattle.swc_ecma_parser_exactness.proofs.Parts.{name_supported, WholeParts, key_whole, access_whole, element_whole, arguments_whole, block_whole, pattern_item_whole, patterns_whole, function_parts, function_whole, class_whole}

@@ -20,7 +20,7 @@ use Rattle.swc_ecma_parser_grammar.specs.language.ModuleItems as items
 use Rattle.swc_ecma_parser_grammar.specs.language.ModuleItems.{ItemRule}
 use Rattle.swc_ecma_parser_grammar.specs.language.Laws.{Advances, begin, end}
 use Rattle.swc_ecma_parser_grammar.proofs.Tests.{and_both}
-use Rattle.swc_ecma_parser_grammar.specs.Supported.{supported}
+use Rattle.swc_ecma_parser_grammar.specs.scaffold.Supported.{supported}
 use Rattle.swc_ecma_parser_module_reader.specs.Supported.{supported_item}
 use Rattle.swc_ecma_parser_exactness.specs.Supports.{Whole, WholeGoal, Ordered, is_astride, needs_order}
 use Rattle.swc_ecma_parser_exactness.proofs.Wholes.{list_whole}

@@ -22,7 +22,7 @@ use Rattle.swc_ecma_parser_grammar.specs.language.Functions.{ParametersRule, Fun
 use Rattle.swc_ecma_parser_grammar.specs.language.Classes as classes
 use Rattle.swc_ecma_parser_grammar.specs.language.Classes.{DecoratorRule, DecoratorsRule, MemberKeyRule, method_member, field_member, FieldValueRule, CoreRule, MemberRule, HeritageRule, ClassRule}
 use Rattle.swc_ecma_parser_grammar.proofs.Tests.{and_both}
-use Rattle.swc_ecma_parser_grammar.specs.Supported.{supported, is_supported_key_in, is_supported_property_in, is_supported_method_in}
+use Rattle.swc_ecma_parser_grammar.specs.scaffold.Supported.{supported, is_supported_key_in, is_supported_property_in, is_supported_method_in}
 use Rattle.swc_ecma_parser_exactness.specs.Supports.{Whole, WholeGoal}
 use Rattle.swc_ecma_parser_exactness.proofs.Wholes.{as_form, three, WholeKey, WholeProperty, key_as, property_as, EachWhole, list_whole, parameters_whole, each_whole, listed_whole}
 

@@ -17,7 +17,7 @@ use Rattle.swc_ecma_parser_grammar.specs.language.ForHeads.{HeadVariablesRule, I
 use Rattle.swc_ecma_parser_grammar.specs.language.Statements as statements
 use Rattle.swc_ecma_parser_grammar.specs.language.Statements.{HeadRule, ReturnedRule, TargetRule, IfRule, ElseRule, CaseRule, CatchRule, FinallyRule, FormRule, StmtRule}
 use Rattle.swc_ecma_parser_grammar.proofs.Tests.{and_both}
-use Rattle.swc_ecma_parser_grammar.specs.Supported.{supported}
+use Rattle.swc_ecma_parser_grammar.specs.scaffold.Supported.{supported}
 use Rattle.swc_ecma_parser_exactness.specs.Supports.{Whole, WholeGoal}
 use Rattle.swc_ecma_parser_exactness.proofs.Wholes.{as_form, both, three, EachWhole, list_whole, each_whole, separated_whole}
 use Rattle.swc_ecma_parser_exactness.proofs.Parts.{name_supported, items_whole, block_whole, decorators_whole, function_whole, class_whole}

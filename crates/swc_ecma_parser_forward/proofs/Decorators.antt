@@ -9,7 +9,7 @@ use Rattle.swc_ecma_parser_model.specs.Forms.{span_of}
 use Rattle.swc_ecma_parser_model.specs.Tree as tree
 use Rattle.swc_ecma_parser_model.specs.Tree.{Tree, trees}
 use Rattle.swc_ecma_parser_grammar.specs.declared.position.Position.{Position}
-use Rattle.swc_ecma_parser_grammar.specs.Decorated.{class_behind, function_behind, decorated_by}
+use Rattle.swc_ecma_parser_grammar.specs.scaffold.Decorated.{class_behind, function_behind, decorated_by}
 use Rattle.swc_ecma_parser_grammar.specs.Looks.{sees, span_at}
 use Rattle.swc_ecma_parser_grammar.specs.language.Contexts.{with_in}
 use Rattle.swc_ecma_parser_grammar.specs.language.Goals.{Class}

@@ -15,7 +15,7 @@ use Rattle.swc_ecma_parser_grammar.specs.Follows.{word_at, is_let_declaration}
 use Rattle.swc_ecma_parser_grammar.specs.Looks.{sees, span_at, spanned}
 use Rattle.swc_ecma_parser_grammar.specs.Names.{Code}
 use Rattle.swc_ecma_parser_grammar.specs.Own.{head_faults}
-use Rattle.swc_ecma_parser_grammar.specs.Using.{is_await_using_declaration, may_declare_using, awaits_using, declares_behind, stands_in_head}
+use Rattle.swc_ecma_parser_grammar.specs.scaffold.Using.{is_await_using_declaration, may_declare_using, awaits_using, declares_behind, stands_in_head}
 use Rattle.swc_ecma_parser_grammar.specs.Variables.{is_const, needs_no_initializer}
 use Rattle.swc_ecma_parser_grammar.specs.language.Contexts.{in_loop, without_in, with_in, head_code}
 use Rattle.swc_ecma_parser_grammar.specs.language.Goals.{Class, expression, assignment}

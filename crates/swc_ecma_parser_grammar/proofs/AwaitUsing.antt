@@ -9,7 +9,7 @@ use Rattle.swc_ecma_parser_grammar.specs.Looks.{kind_at, breaks_at, sees, same_k
 use Rattle.swc_ecma_parser_grammar.specs.Names.{Code}
 use Rattle.swc_ecma_parser_grammar.specs.Ends.{Ends, by_semicolon, by_insertion, can_end}
 use Rattle.swc_ecma_parser_grammar.specs.Follows.{word_at}
-use Rattle.swc_ecma_parser_grammar.specs.Using.{is_await_using_declaration}
+use Rattle.swc_ecma_parser_grammar.specs.scaffold.Using.{is_await_using_declaration}
 use Rattle.swc_ecma_parser_grammar.specs.language.LeftSides.{OperandRule}
 use Rattle.swc_ecma_parser_grammar.specs.language.Declarations.{is_using_declaration}
 use Rattle.swc_ecma_parser_grammar.specs.language.Goals.{Goal, expr_goal, expression}

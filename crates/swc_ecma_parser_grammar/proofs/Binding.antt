@@ -9,7 +9,7 @@ use Rattle.swc_ecma_parser_model.specs.Forms.{is_rest}
 use Rattle.swc_ecma_parser_model.specs.Targets.{binds, all_bind, if_binds}
 use Rattle.swc_ecma_parser_grammar.specs.Looks.{kind_at, spanned}
 use Rattle.swc_ecma_parser_grammar.specs.Names.{Code}
-use Rattle.swc_ecma_parser_grammar.specs.Supported.{supported_in, all_supported_in, is_supported_key_in}
+use Rattle.swc_ecma_parser_grammar.specs.scaffold.Supported.{supported_in, all_supported_in, is_supported_key_in}
 use Rattle.swc_ecma_parser_grammar.specs.language.PatternItems.{PatternItemRule}
 use Rattle.swc_ecma_parser_grammar.specs.language.Contexts.{with_in}
 use Rattle.swc_ecma_parser_grammar.specs.language.Goals.{Goal, Purpose, binding, assigning, pattern_goal, element_goal}

@@ -18,8 +18,8 @@ use Rattle.swc_ecma_parser_grammar.specs.Names.{Code}
 use Rattle.swc_ecma_parser_grammar.specs.Parameters.{parameters}
 use Rattle.swc_ecma_parser_grammar.specs.Follows.{begins_import_expression}
 use Rattle.swc_ecma_parser_grammar.specs.Notes.{notes, method_notes, all_notes, statement_note}
-use Rattle.swc_ecma_parser_grammar.specs.Supported.{supported_in, all_supported_in, is_supported_key_in, is_supported_property_in, has_no_note, is_clean, is_supported_method_in}
-use Rattle.swc_ecma_parser_grammar.specs.ReadsSupported.{ReadsClass}
+use Rattle.swc_ecma_parser_grammar.specs.scaffold.Supported.{supported_in, all_supported_in, is_supported_key_in, is_supported_property_in, has_no_note, is_clean, is_supported_method_in}
+use Rattle.swc_ecma_parser_grammar.specs.scaffold.ReadsSupported.{ReadsClass}
 use Rattle.swc_ecma_parser_grammar.specs.language.PatternItems.{PatternItemRule}
 use Rattle.swc_ecma_parser_grammar.specs.language.Goals.{Goal, Class, Purpose, binding, expression, assignment, operator, unary, left_side, callee, expr_goal, callee_goal, pattern_goal, element_goal, stmt_goal, member_goal, decorator_goal, using_goal, attributes_goal, item_goal}
 use Rattle.swc_ecma_parser_grammar.specs.language.Lists.{ReadsEach, ReadsListed, Elements, no_elements, hole, last_element, more_elements, ReadsSeparated}

@@ -8,8 +8,8 @@ use Rattle.swc_ecma_parser_grammar.specs.Follows.{Star, no_star, star as starred
 use Rattle.swc_ecma_parser_grammar.specs.Looks.{kind_at, sees}
 use Rattle.swc_ecma_parser_grammar.specs.Names.{Code}
 use Rattle.swc_ecma_parser_grammar.specs.Notes.{notes}
-use Rattle.swc_ecma_parser_grammar.specs.Reads.{ReadsBraced}
-use Rattle.swc_ecma_parser_grammar.specs.ReadsSupported.{ReadsStmt}
+use Rattle.swc_ecma_parser_grammar.specs.scaffold.Reads.{ReadsBraced}
+use Rattle.swc_ecma_parser_grammar.specs.scaffold.ReadsSupported.{ReadsStmt}
 use Rattle.swc_ecma_parser_grammar.specs.Walk.{env_in_body, walk_body, env_of, walks}
 use Rattle.swc_ecma_parser_grammar.specs.language.Items.{nested_item}
 use Rattle.swc_ecma_parser_grammar.specs.language.Contexts.{in_body}

@@ -21,7 +21,7 @@ use Rattle.swc_ecma_parser_grammar.specs.language.Items.{nested_item}
 use Rattle.swc_ecma_parser_grammar.specs.language.Noted.{has_meta}
 use Rattle.swc_ecma_parser_grammar.specs.Own.{misplaced_directive}
 use Rattle.swc_ecma_parser_grammar.specs.Parameters.{parameters as parameter_trees}
-use Rattle.swc_ecma_parser_grammar.specs.Supported.{supported, supported_in, has_none}
+use Rattle.swc_ecma_parser_grammar.specs.scaffold.Supported.{supported, supported_in, has_none}
 use Rattle.swc_ecma_parser_grammar.specs.Variables.{begins_variables}
 use Rattle.swc_ecma_parser_grammar.specs.Walk.{Env, env_of, env_in_body, env_in_parameters, walk, walks, walk_body}
 use Rattle.swc_ecma_parser_grammar.specs.language.Classes.{DecoratorsRule, no_decorators, some_decorators, ClassRule}
@@ -63,7 +63,7 @@ use Rattle.swc_ecma_parser_module_reader.proofs.CompleteShared.{name_reads}
 use Rattle.swc_ecma_parser_module_reader.proofs.CompleteExportNames.{no_function_at}
 use Rattle.swc_ecma_parser_module_reader.proofs.AllLevels.{below, function_body_reads, word_reads, star_reads}
 use Rattle.swc_ecma_parser_grammar.proofs.Naming.{name_is_name}
-use Rattle.swc_ecma_parser_grammar.specs.Using.{is_await_using_declaration}
+use Rattle.swc_ecma_parser_grammar.specs.scaffold.Using.{is_await_using_declaration}
 
 -- ---- words and decorators
 

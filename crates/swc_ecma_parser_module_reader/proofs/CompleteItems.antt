@@ -10,7 +10,7 @@ use Rattle.swc_ecma_parser_model.specs.Tree.{Tree}
 use Rattle.swc_ecma_parser_grammar.specs.Looks.{kind_at, sees, same_kind}
 use Rattle.swc_ecma_parser_grammar.specs.Names.{Code}
 use Rattle.swc_ecma_parser_grammar.specs.Notes.{notes}
-use Rattle.swc_ecma_parser_grammar.specs.ReadsSupported.{ReadsTop}
+use Rattle.swc_ecma_parser_grammar.specs.scaffold.ReadsSupported.{ReadsTop}
 use Rattle.swc_ecma_parser_grammar.specs.Walk as walks
 use Rattle.swc_ecma_parser_grammar.specs.Walk.{Env, walk, env_of}
 use Rattle.swc_ecma_parser_grammar.specs.language.Items.{top_item}

@@ -11,7 +11,7 @@ use Rattle.swc_ecma_parser_grammar.specs.Looks.{kind_at, sees, same_kind, span_a
 use Rattle.swc_ecma_parser_grammar.specs.Names.{Code}
 use Rattle.swc_ecma_parser_grammar.specs.Follows.{AsyncWord, not_async, async_word}
 use Rattle.swc_ecma_parser_grammar.specs.Notes.{notes}
-use Rattle.swc_ecma_parser_grammar.specs.Supported.{supported, all_supported, has_none}
+use Rattle.swc_ecma_parser_grammar.specs.scaffold.Supported.{supported, all_supported, has_none}
 use Rattle.swc_ecma_parser_grammar.specs.Walk as walks
 use Rattle.swc_ecma_parser_grammar.specs.Walk.{Env, env_of, walk, walk_exported}
 use Rattle.swc_ecma_parser_grammar.specs.language.Items.{top_item}
@@ -42,8 +42,8 @@ use Rattle.swc_ecma_parser_module_reader.proofs.ItemStarts.{exported_behind, def
 use Rattle.swc_ecma_parser_module_reader.proofs.ModuleCode.{IsModule}
 use Rattle.swc_ecma_parser_module_reader.proofs.SoundLed.{before_one}
 use Rattle.swc_ecma_parser_reader.proofs.decorators.CompleteStatements.{same_list}
-use Rattle.swc_ecma_parser_grammar.specs.Decorated.{plain_statement, decorated_statement}
-use Rattle.swc_ecma_parser_grammar.specs.ReadsSupported.{ReadsTop, ReadsStmt}
+use Rattle.swc_ecma_parser_grammar.specs.scaffold.Decorated.{plain_statement, decorated_statement}
+use Rattle.swc_ecma_parser_grammar.specs.scaffold.ReadsSupported.{ReadsTop, ReadsStmt}
 use Rattle.swc_ecma_parser_grammar.proofs.SupportedIn.{lift_in}
 use Rattle.swc_ecma_parser_reader.specs.DecoratedStatements.{begins_declared}
 use Rattle.swc_ecma_parser_reader.proofs.Calm.{calm_last}

@@ -48,7 +48,7 @@ use Rattle.swc_ecma_parser_module_reader.specs.Exports.{renamed_export, plain_ex
 use Rattle.swc_ecma_parser_module_reader.specs.Decorated.{none_before, begins_decorators, no_leading, later_alone, later, decorating, by_default, named_with, default_with, behind_export, behind_default_word, export_from, export_with, export_item}
 use Rattle.swc_ecma_parser_module_reader.specs.Modules.{begins_import, import_in, export_in, import_behind, export_behind, module_item}
 use Rattle.swc_ecma_parser_module_reader.proofs.DecoratedItems.{item_cases}
-use Rattle.swc_ecma_parser_grammar.specs.Using.{is_await_using_declaration}
+use Rattle.swc_ecma_parser_grammar.specs.scaffold.Using.{is_await_using_declaration}
 
 -- ---- a declaration is the statement that it is where it stands
 

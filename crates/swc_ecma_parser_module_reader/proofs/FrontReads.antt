@@ -4,12 +4,12 @@ use Rattle.swc_ecma_parser_error.specs.Kind.{Fault}
 use Rattle.swc_ecma_parser_token.specs.declared.kind.TokenKind.TheVariants as kind
 use Rattle.swc_ecma_parser_input.specs.Place.{Place}
 use Rattle.swc_ecma_parser_model.specs.Tree.{Tree, trees}
-use Rattle.swc_ecma_parser_grammar.specs.Entries.{small_items_await}
+use Rattle.swc_ecma_parser_grammar.specs.scaffold.Entries.{small_items_await}
 use Rattle.swc_ecma_parser_grammar.specs.Looks.{kind_at, sees}
 use Rattle.swc_ecma_parser_grammar.specs.Names.{Code}
-use Rattle.swc_ecma_parser_grammar.specs.Reads.{ReadsItems}
+use Rattle.swc_ecma_parser_grammar.specs.scaffold.Reads.{ReadsItems}
 use Rattle.swc_ecma_parser_grammar.specs.language.Items.{directed, directs_on, top_item}
-use Rattle.swc_ecma_parser_grammar.specs.ReadsSupported.{ReadsTop}
+use Rattle.swc_ecma_parser_grammar.specs.scaffold.ReadsSupported.{ReadsTop}
 use Rattle.swc_ecma_parser_grammar.specs.Walk.{env_of, walk, walks}
 use Rattle.swc_ecma_parser_reader.specs.DecoratorLevels.{decorated_in}
 use Rattle.swc_ecma_parser_reader.specs.Decorators.{Leading, leading}

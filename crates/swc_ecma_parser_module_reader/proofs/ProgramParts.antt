@@ -10,14 +10,14 @@ use Rattle.swc_ecma_parser_model.specs.Forms.{has_plain_params}
 use Rattle.swc_ecma_parser_model.specs.Kinds.{is_module_decl}
 use Rattle.swc_ecma_parser_model.specs.Tree as tree
 use Rattle.swc_ecma_parser_model.specs.Tree.{Tree, Text, trees}
-use Rattle.swc_ecma_parser_grammar.specs.Entries.{small_items_await}
+use Rattle.swc_ecma_parser_grammar.specs.scaffold.Entries.{small_items_await}
 use Rattle.swc_ecma_parser_grammar.specs.Looks.{kind_at, sees, same_kind, span_at, spanned}
 use Rattle.swc_ecma_parser_grammar.specs.Names.{Code}
 use Rattle.swc_ecma_parser_grammar.specs.Notes.{notes, all_notes}
 use Rattle.swc_ecma_parser_grammar.specs.Own.{misplaced_directive}
-use Rattle.swc_ecma_parser_grammar.specs.Reads.{ReadsItems}
-use Rattle.swc_ecma_parser_grammar.specs.ReadsSupported.{ReadsTop}
-use Rattle.swc_ecma_parser_grammar.specs.Supported.{supported, all_supported}
+use Rattle.swc_ecma_parser_grammar.specs.scaffold.Reads.{ReadsItems}
+use Rattle.swc_ecma_parser_grammar.specs.scaffold.ReadsSupported.{ReadsTop}
+use Rattle.swc_ecma_parser_grammar.specs.scaffold.Supported.{supported, all_supported}
 use Rattle.swc_ecma_parser_grammar.specs.Walk as walks_of
 use Rattle.swc_ecma_parser_grammar.specs.Walk.{Env, env_of, walk, walks, walk_items, walk_body, walk_class_body, walk_decorators}
 use Rattle.swc_ecma_parser_grammar.specs.language.Items.{top_item, directed, directs_on}

@@ -24,10 +24,10 @@ use Rattle.swc_ecma_parser_grammar.specs.Follows.{is_async_function}
 use Rattle.swc_ecma_parser_grammar.specs.Variables.{begins_variables}
 use Rattle.swc_ecma_parser_grammar.specs.Notes.{notes}
 use Rattle.swc_ecma_parser_grammar.specs.Parameters.{parameters}
-use Rattle.swc_ecma_parser_grammar.specs.Supported.{supported, supported_in, all_supported}
-use Rattle.swc_ecma_parser_grammar.specs.Reads.{SmallDeclaratorRule, plain_rule, initialized_rule, ReadsFunction, ReadsFunctionExpr, OwnNameRule, no_own_name_rule, own_name_rule, variables_rule, function_rule, class_rule}
-use Rattle.swc_ecma_parser_grammar.specs.Decorated.{plain_statement}
-use Rattle.swc_ecma_parser_grammar.specs.ReadsSupported.{ReadsClass, ReadsPat, ReadsStmt, ReadsParams, ReadsNamedClass}
+use Rattle.swc_ecma_parser_grammar.specs.scaffold.Supported.{supported, supported_in, all_supported}
+use Rattle.swc_ecma_parser_grammar.specs.scaffold.Reads.{SmallDeclaratorRule, plain_rule, initialized_rule, ReadsFunction, ReadsFunctionExpr, OwnNameRule, no_own_name_rule, own_name_rule, variables_rule, function_rule, class_rule}
+use Rattle.swc_ecma_parser_grammar.specs.scaffold.Decorated.{plain_statement}
+use Rattle.swc_ecma_parser_grammar.specs.scaffold.ReadsSupported.{ReadsClass, ReadsPat, ReadsStmt, ReadsParams, ReadsNamedClass}
 use Rattle.swc_ecma_parser_grammar.specs.Walk as walks
 use Rattle.swc_ecma_parser_grammar.specs.Walk.{Env, walk, env_of}
 use Rattle.swc_ecma_parser_grammar.specs.language.Lists.{ReadsSeparated}

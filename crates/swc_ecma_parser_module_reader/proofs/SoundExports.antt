@@ -13,7 +13,7 @@ use Rattle.swc_ecma_parser_grammar.specs.Looks.{kind_at, sees, span_at, spanned}
 use Rattle.swc_ecma_parser_grammar.specs.Names.{Code}
 use Rattle.swc_ecma_parser_grammar.specs.Follows.{word_at, is_let_declaration, is_async_function}
 use Rattle.swc_ecma_parser_grammar.specs.Notes.{notes}
-use Rattle.swc_ecma_parser_grammar.specs.Supported.{all_supported, all_supported_in}
+use Rattle.swc_ecma_parser_grammar.specs.scaffold.Supported.{all_supported, all_supported_in}
 use Rattle.swc_ecma_parser_grammar.specs.Walk as walks
 use Rattle.swc_ecma_parser_grammar.specs.Walk.{walk, env_of}
 use Rattle.swc_ecma_parser_grammar.specs.language.Items.{nested_item}
@@ -27,7 +27,7 @@ use Rattle.swc_ecma_parser_grammar.specs.language.Reads.{Reads}
 use Rattle.swc_ecma_parser_grammar.proofs.SupportedIn.{lower}
 use Rattle.swc_ecma_parser_grammar.proofs.Tests.{and_yes, and_both, or_no}
 use Rattle.swc_ecma_parser_grammar.proofs.Unnoted.{joined, expr_unnoted, decorators_unnoted}
-use Rattle.swc_ecma_parser_grammar.specs.ReadsSupported.{ReadsClass, ReadsPat}
+use Rattle.swc_ecma_parser_grammar.specs.scaffold.ReadsSupported.{ReadsClass, ReadsPat}
 use Rattle.swc_ecma_parser_reader.specs.DecoratorLevels.{decorated_in}
 use Rattle.swc_ecma_parser_reader.specs.Decorators.{Leading, leading, has_any, misplaced}
 use Rattle.swc_ecma_parser_reader.specs.Members.{class_decl, class_expr}

@@ -22,7 +22,7 @@ use Rattle.swc_ecma_parser_grammar.specs.Names.{Code, is_name, is_reserved, is_i
 use Rattle.swc_ecma_parser_grammar.specs.Ends.{Ends}
 use Rattle.swc_ecma_parser_grammar.specs.Follows.{token_is, word_at}
 use Rattle.swc_ecma_parser_grammar.specs.Notes.{notes}
-use Rattle.swc_ecma_parser_grammar.specs.Supported.{supported}
+use Rattle.swc_ecma_parser_grammar.specs.scaffold.Supported.{supported}
 use Rattle.swc_ecma_parser_grammar.specs.Walk as walks
 use Rattle.swc_ecma_parser_grammar.specs.Walk.{Env, walk, env_of}
 use Rattle.swc_ecma_parser_grammar.specs.language.Contexts.{in_module, outside_functions}

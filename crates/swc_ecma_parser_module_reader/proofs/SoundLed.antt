@@ -14,7 +14,7 @@ use Rattle.swc_ecma_parser_model.specs.Tree.{Tree, Trees, none, also, listed, tr
 use Rattle.swc_ecma_parser_grammar.specs.Looks.{kind_at, sees, span_at, spanned}
 use Rattle.swc_ecma_parser_grammar.specs.Names.{Code}
 use Rattle.swc_ecma_parser_grammar.specs.Notes.{notes}
-use Rattle.swc_ecma_parser_grammar.specs.Supported.{all_supported}
+use Rattle.swc_ecma_parser_grammar.specs.scaffold.Supported.{all_supported}
 use Rattle.swc_ecma_parser_grammar.specs.Walk as walks
 use Rattle.swc_ecma_parser_grammar.specs.Walk.{Env, walk, env_of, walk_exported, tabled, drops}
 use Rattle.swc_ecma_parser_grammar.specs.language.Contexts.{in_module}

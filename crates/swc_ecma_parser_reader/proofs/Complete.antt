@@ -8,7 +8,7 @@ use Rattle.swc_ecma_parser_token.specs.declared.token.Word.{Word}
 use Rattle.swc_ecma_parser_grammar.proofs.Tests.{and_yes, and_both, and_no}
 use Rattle.swc_ecma_parser_grammar.proofs.SupportedBegins.{word_begins, name_begins, opens, expr_opens}
 use Rattle.swc_ecma_parser_grammar.specs.Own.{labelled_function, duplicates, misplaced_directive, head_faults}
-use Rattle.swc_ecma_parser_grammar.specs.Reads.{labeled_rule, with_rule, class_rule, function_rule, ReadsFunction, ReadsFunctionExpr, ReadsParts, OwnNameRule, no_own_name_rule, own_name_rule, ReadsBraced, SmallInitRule, SmallLeftRule, SmallOfLeftRule, SmallPartRule, no_part_rule, part_rule, for_rule, for_in_rule, for_of_rule, ReadsItems, break_rule, continue_rule, return_rule, SmallStmtRule, block_rule, empty_rule, debugger_rule, variables_rule, if_statement_rule, SmallCaseRule, case_clause_rule, default_clause_rule, ReadsCases, switch_rule, throw_rule, try_rule, while_rule, do_while_rule, expr_rule, import_rule, ReadsBlock, SmallCatchRule, no_catch_rule, catch_rule, catch_parameter_rule, SmallFinallyRule, no_finally_rule, finally_rule, ReadsHead, SmallIfRule, if_rule, no_else_rule, else_rule, else_if_rule, using_rule, SmallDeclaratorRule}
+use Rattle.swc_ecma_parser_grammar.specs.scaffold.Reads.{labeled_rule, with_rule, class_rule, function_rule, ReadsFunction, ReadsFunctionExpr, ReadsParts, OwnNameRule, no_own_name_rule, own_name_rule, ReadsBraced, SmallInitRule, SmallLeftRule, SmallOfLeftRule, SmallPartRule, no_part_rule, part_rule, for_rule, for_in_rule, for_of_rule, ReadsItems, break_rule, continue_rule, return_rule, SmallStmtRule, block_rule, empty_rule, debugger_rule, variables_rule, if_statement_rule, SmallCaseRule, case_clause_rule, default_clause_rule, ReadsCases, switch_rule, throw_rule, try_rule, while_rule, do_while_rule, expr_rule, import_rule, ReadsBlock, SmallCatchRule, no_catch_rule, catch_rule, catch_parameter_rule, SmallFinallyRule, no_finally_rule, finally_rule, ReadsHead, SmallIfRule, if_rule, no_else_rule, else_rule, else_if_rule, using_rule, SmallDeclaratorRule}
 use Rattle.swc_ecma_parser_grammar.specs.Names.{is_name, first_is_identifier, identifier_at, Code}
 use Rattle.swc_ecma_parser_grammar.specs.language.PatternItems.{PatternItemRule}
 use Rattle.swc_ecma_parser_grammar.specs.language.Declarations.{is_using_declaration}
@@ -36,7 +36,7 @@ use Rattle.swc_ecma_parser_model.specs.Forms.{is_absent, is_rest, is_binding_nam
 use Rattle.swc_ecma_parser_grammar.specs.declared.position.Position.{Position}
 use Rattle.swc_ecma_parser_grammar.specs.Looks.{kind_at, sees, same_kind, span_at, spanned}
 use Rattle.swc_ecma_parser_grammar.specs.Ends.{OptionalEnds}
-use Rattle.swc_ecma_parser_grammar.specs.ReadsSupported.{ReadsClass, ReadsPat, ReadsTarget, ReadsStmt, ReadsParams, ReadsDecorated, ReadsMember, ReadsNamedClass}
+use Rattle.swc_ecma_parser_grammar.specs.scaffold.ReadsSupported.{ReadsClass, ReadsPat, ReadsTarget, ReadsStmt, ReadsParams, ReadsDecorated, ReadsMember, ReadsNamedClass}
 use Rattle.swc_ecma_parser_grammar.specs.language.Contexts.{in_loop, in_breakable, in_with, named_by, in_parameters, in_body, in_arrow, with_in}
 use Rattle.swc_ecma_parser_grammar.specs.language.Goals.{Goal, Purpose, binding, expression, assignment, pattern_goal}
 use Rattle.swc_ecma_parser_grammar.specs.Notes.{notes, with_note}
@@ -73,7 +73,7 @@ use Rattle.swc_ecma_parser_grammar.proofs.Arrows.{block_narrows}
 use Rattle.swc_ecma_parser_grammar.proofs.MethodParts.{parts_narrow}
 use Rattle.swc_ecma_parser_grammar.proofs.Unnoted.{clean_is}
 use Rattle.swc_ecma_parser_grammar.proofs.Widens.{parameters_same}
-use Rattle.swc_ecma_parser_grammar.specs.Supported.{supported_in, is_supported_key_in, has_no_note}
+use Rattle.swc_ecma_parser_grammar.specs.scaffold.Supported.{supported_in, is_supported_key_in, has_no_note}
 use Rattle.swc_ecma_parser_grammar.specs.language.PatternItems as pattern_items
 use Rattle.swc_ecma_parser_grammar.specs.language.Functions.{ParametersRule}
 use Rattle.swc_ecma_parser_grammar.specs.language.Patterns as patterns
@@ -83,7 +83,7 @@ use Rattle.swc_ecma_parser_reader.proofs.Loops.{stmt_shorter, clauses_done, clau
 use Rattle.swc_ecma_parser_reader.proofs.Chains.{if_last, if_more}
 use Rattle.swc_ecma_parser_reader.proofs.CompleteParts.{behind_setting, break_reads, clause_ends, close_reads, closes_at, code_stays, condition_reads, continue_reads, debugger_reads, empty_reads, expect_reads, expr_stmt_reads, head_reads, import_stmt_reads, items_read, name_no_function, name_no_class, no_brace, no_label_here, optional_end_reads, return_reads, statement_calm, throw_reads, variables_reads, note_with_reads, code_behind, using_reads}
 use Rattle.swc_ecma_parser_grammar.proofs.Naming.{name_is_free}
-use Rattle.swc_ecma_parser_grammar.specs.Using.{is_await_using_declaration}
+use Rattle.swc_ecma_parser_grammar.specs.scaffold.Using.{is_await_using_declaration}
 use Rattle.swc_ecma_parser_reader.proofs.CompleteFor.{no_arrow, opening_reads_init, opening_reads_in, opening_reads_of}
 use Rattle.swc_ecma_parser_grammar.proofs.ExpressionBegins.{expressions_begin}
 use Rattle.swc_ecma_parser_reader.proofs.CompleteFirst.{declares, placed, declares_so, plain_reads}

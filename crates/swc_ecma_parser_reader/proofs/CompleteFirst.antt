@@ -13,9 +13,9 @@ use Rattle.swc_ecma_parser_grammar.specs.Looks.{kind_at, same_kind, spanned, bre
 use Rattle.swc_ecma_parser_grammar.specs.Names.{Code}
 use Rattle.swc_ecma_parser_grammar.specs.Follows.{no_await, await_word, AsyncWord, not_async, async_word}
 use Rattle.swc_ecma_parser_grammar.specs.Variables.{begins_variables}
-use Rattle.swc_ecma_parser_grammar.specs.Using.{is_await_using_declaration}
-use Rattle.swc_ecma_parser_grammar.specs.Reads.{SmallDeclaratorRule, SmallIfRule, if_rule, SmallStmtRule, class_rule, function_rule, block_rule, empty_rule, debugger_rule, variables_rule, using_rule, if_statement_rule, switch_rule, break_rule, continue_rule, return_rule, for_rule, for_in_rule, for_of_rule, labeled_rule, throw_rule, try_rule, with_rule, while_rule, do_while_rule, expr_rule, import_rule}
-use Rattle.swc_ecma_parser_grammar.specs.ReadsSupported.{ReadsClass, ReadsPat, ReadsTarget, ReadsStmt, ReadsParams, ReadsNamedClass}
+use Rattle.swc_ecma_parser_grammar.specs.scaffold.Using.{is_await_using_declaration}
+use Rattle.swc_ecma_parser_grammar.specs.scaffold.Reads.{SmallDeclaratorRule, SmallIfRule, if_rule, SmallStmtRule, class_rule, function_rule, block_rule, empty_rule, debugger_rule, variables_rule, using_rule, if_statement_rule, switch_rule, break_rule, continue_rule, return_rule, for_rule, for_in_rule, for_of_rule, labeled_rule, throw_rule, try_rule, with_rule, while_rule, do_while_rule, expr_rule, import_rule}
+use Rattle.swc_ecma_parser_grammar.specs.scaffold.ReadsSupported.{ReadsClass, ReadsPat, ReadsTarget, ReadsStmt, ReadsParams, ReadsNamedClass}
 use Rattle.swc_ecma_parser_grammar.specs.language.Lists.{ReadsSeparated}
 use Rattle.swc_ecma_parser_grammar.specs.language.Contexts.{with_in}
 use Rattle.swc_ecma_parser_grammar.specs.language.Declarations.{is_using_declaration}

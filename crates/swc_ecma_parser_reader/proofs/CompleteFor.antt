@@ -22,9 +22,9 @@ use Rattle.swc_ecma_parser_grammar.specs.Looks.{kind_at, breaks_at, sees, same_k
 use Rattle.swc_ecma_parser_grammar.specs.Names.{Code, identifier_at}
 use Rattle.swc_ecma_parser_grammar.specs.Follows.{word_at, token_is, may_begin_head, is_bare_async, is_async_of, is_async_function, is_let_declaration}
 use Rattle.swc_ecma_parser_grammar.specs.Variables.{begins_variables}
-use Rattle.swc_ecma_parser_grammar.specs.Using.{may_declare_using, awaits_using, declares_behind, stands_in_head}
-use Rattle.swc_ecma_parser_grammar.specs.Reads.{HeadVariables, SmallInitRule, no_init_rule, init_variables_rule, init_expression_rule, SmallLeftRule, declared_rule, left_target_rule, SmallOfLeftRule, of_left_rule, of_using_rule, of_await_rule, SmallDeclaratorRule}
-use Rattle.swc_ecma_parser_grammar.specs.ReadsSupported.{ReadsClass, ReadsPat, ReadsTarget}
+use Rattle.swc_ecma_parser_grammar.specs.scaffold.Using.{may_declare_using, awaits_using, declares_behind, stands_in_head}
+use Rattle.swc_ecma_parser_grammar.specs.scaffold.Reads.{HeadVariables, SmallInitRule, no_init_rule, init_variables_rule, init_expression_rule, SmallLeftRule, declared_rule, left_target_rule, SmallOfLeftRule, of_left_rule, of_using_rule, of_await_rule, SmallDeclaratorRule}
+use Rattle.swc_ecma_parser_grammar.specs.scaffold.ReadsSupported.{ReadsClass, ReadsPat, ReadsTarget}
 use Rattle.swc_ecma_parser_grammar.specs.Walk.{env_of, walk, walks}
 use Rattle.swc_ecma_parser_grammar.specs.language.Lists.{ReadsSeparated}
 use Rattle.swc_ecma_parser_grammar.specs.language.Begins.{begins_expression, begins_unary}

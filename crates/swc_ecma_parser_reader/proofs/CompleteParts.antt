@@ -35,14 +35,14 @@ use Rattle.swc_ecma_parser_model.specs.Forms.{is_ident, is_ident_named, span_of}
 use Rattle.swc_ecma_parser_grammar.specs.Looks.{kind_at, breaks_at, sees, same_kind, spanned}
 use Rattle.swc_ecma_parser_grammar.specs.Ends.{Ends, by_semicolon, by_insertion, OptionalEnds, by_a_semicolon, by_nothing}
 use Rattle.swc_ecma_parser_grammar.specs.Follows.{begins_import_expression}
-use Rattle.swc_ecma_parser_grammar.specs.Reads.{SmallDeclaratorRule, plain_rule, initialized_rule, ReadsItems, SmallTargetRule, no_target_rule, target_rule, SmallReturnedRule, no_operand_rule, operand_rule, ReadsHead}
-use Rattle.swc_ecma_parser_grammar.specs.ReadsSupported.{ReadsClass, ReadsPat}
+use Rattle.swc_ecma_parser_grammar.specs.scaffold.Reads.{SmallDeclaratorRule, plain_rule, initialized_rule, ReadsItems, SmallTargetRule, no_target_rule, target_rule, SmallReturnedRule, no_operand_rule, operand_rule, ReadsHead}
+use Rattle.swc_ecma_parser_grammar.specs.scaffold.ReadsSupported.{ReadsClass, ReadsPat}
 use Rattle.swc_ecma_parser_grammar.specs.language.Items.{directed, directs_on}
 use Rattle.swc_ecma_parser_grammar.specs.language.Lists.{ReadsSeparated}
 use Rattle.swc_ecma_parser_grammar.specs.language.Parts.{ReadsToken}
 use Rattle.swc_ecma_parser_grammar.specs.language.Contexts.{with_in, in_strict}
 use Rattle.swc_ecma_parser_grammar.specs.language.Goals.{expression, assignment}
-use Rattle.swc_ecma_parser_grammar.specs.Entries.{ReadsShebang, some_shebang, no_shebang}
+use Rattle.swc_ecma_parser_grammar.specs.scaffold.Entries.{ReadsShebang, some_shebang, no_shebang}
 use Rattle.swc_ecma_parser_grammar.specs.Notes.{notes, statement_note, as_note, with_note}
 use Rattle.swc_ecma_parser_grammar.specs.language.Noted.{has_meta}
 use Rattle.swc_ecma_parser_grammar.specs.Walk as walks_of
@@ -64,7 +64,7 @@ use Rattle.swc_ecma_parser_grammar.proofs.Naming.{name_is_free}
 use Rattle.swc_ecma_parser_reader.proofs.CleanStarts.{Starts, expressions_start}
 use Rattle.swc_ecma_parser_grammar.proofs.Ended.{ends_name, ended_awaits}
 use Rattle.swc_ecma_parser_grammar.specs.language.Begins.{awaits}
-use Rattle.swc_ecma_parser_grammar.specs.Using.{using_faults}
+use Rattle.swc_ecma_parser_grammar.specs.scaffold.Using.{using_faults}
 
 -- ---- fixed tokens and ends
 

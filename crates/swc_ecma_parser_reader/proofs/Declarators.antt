@@ -15,8 +15,8 @@ use Rattle.swc_ecma_parser_model.specs.declared.leaves.VarDeclKind.{VarDeclKind}
 use Rattle.swc_ecma_parser_model.specs.Tree.{Tree, Text}
 use Rattle.swc_ecma_parser_grammar.specs.Looks.{kind_at, same_kind}
 use Rattle.swc_ecma_parser_grammar.specs.Names.{Code}
-use Rattle.swc_ecma_parser_grammar.specs.Reads.{SmallDeclaratorRule, plain_rule, initialized_rule}
-use Rattle.swc_ecma_parser_grammar.specs.ReadsSupported.{ReadsClass, ReadsPat}
+use Rattle.swc_ecma_parser_grammar.specs.scaffold.Reads.{SmallDeclaratorRule, plain_rule, initialized_rule}
+use Rattle.swc_ecma_parser_grammar.specs.scaffold.ReadsSupported.{ReadsClass, ReadsPat}
 use Rattle.swc_ecma_parser_grammar.specs.language.Contexts.{with_in}
 use Rattle.swc_ecma_parser_grammar.specs.language.Goals.{Goal, assignment, binding}
 use Rattle.swc_ecma_parser_grammar.specs.language.Parts.{ReadsName}

@@ -50,7 +50,7 @@ use Rattle.swc_ecma_parser_model.specs.Forms.{is_ident, is_ident_named, is_bindi
 use Rattle.swc_ecma_parser_grammar.specs.declared.position.Position.{Position}
 use Rattle.swc_ecma_parser_grammar.specs.Looks.{kind_at, breaks_at, sees, span_at}
 use Rattle.swc_ecma_parser_grammar.specs.Ends.{ends_at}
-use Rattle.swc_ecma_parser_grammar.specs.Entries.{script_code}
+use Rattle.swc_ecma_parser_grammar.specs.scaffold.Entries.{script_code}
 use Rattle.swc_ecma_parser_grammar.specs.language.Goals.{Class, expression, assignment, left_side}
 use Rattle.swc_ecma_parser_reader.specs.Expressions.{Cover}
 use Rattle.swc_ecma_parser_reader.proofs.Meets.{Answers, Meets, answers_then, answers_if, meant, saw, too_deep_meets}
@@ -59,7 +59,7 @@ use Rattle.swc_ecma_parser_reader.proofs.StatementEnds.{stmt_end_keeps}
 use Rattle.swc_ecma_parser_reader.proofs.Behind.{NothingLost, Kept, Lost, Passes, ItemPasses, item_self, items_from, items_follow, Follows, follows, flagged_kept, lost, kept_both, answers_as, behind_self, behind_after, behind_seen, too_deep_keeps, fault_keeps, fault_stays, wanted_keeps, refuse_keeps, reject_keeps, end_keeps, expect_keeps, close_keeps, shebang_keeps, name_keeps, loop_keeps, reference_keeps}
 use Rattle.swc_ecma_parser_reader.specs.Entry.{unmarked, IsBehind, IsSetBack, AnswersScript, AnswersStatement, Stays}
 use Rattle.swc_ecma_parser_reader.proofs.Opens.{chain_goes}
-use Rattle.swc_ecma_parser_grammar.specs.Using.{may_declare_using, awaits_using, declares_behind, stands_in_head}
+use Rattle.swc_ecma_parser_grammar.specs.scaffold.Using.{may_declare_using, awaits_using, declares_behind, stands_in_head}
 
 -- ---- statements
 

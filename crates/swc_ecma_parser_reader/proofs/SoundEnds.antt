@@ -15,7 +15,7 @@ use Rattle.swc_ecma_parser_grammar.specs.Looks.{sees, span_at, spanned}
 use Rattle.swc_ecma_parser_grammar.specs.Names.{Code}
 use Rattle.swc_ecma_parser_grammar.specs.Ends.{Ends}
 use Rattle.swc_ecma_parser_grammar.specs.Follows.{may_begin_expression_statement, begins_import_expression}
-use Rattle.swc_ecma_parser_grammar.specs.Reads.{SmallStmtRule, expr_rule, import_rule}
+use Rattle.swc_ecma_parser_grammar.specs.scaffold.Reads.{SmallStmtRule, expr_rule, import_rule}
 use Rattle.swc_ecma_parser_grammar.specs.Notes.{notes, statement_note}
 use Rattle.swc_ecma_parser_grammar.specs.Walk.{walk, env_of, is_dropping, drops}
 use Rattle.swc_ecma_parser_grammar.specs.language.Contexts.{with_in}

@@ -21,7 +21,7 @@ use Rattle.swc_ecma_parser_grammar.specs.language.Parts.{ReadsToken}
 use Rattle.swc_ecma_parser_grammar.specs.language.Items.{nested_item}
 use Rattle.swc_ecma_parser_grammar.specs.language.Noted.{has_meta}
 use Rattle.swc_ecma_parser_grammar.specs.Parameters.{parameter, parameters}
-use Rattle.swc_ecma_parser_grammar.specs.Reads.{ReadsItems, ReadsBraced, ReadsParts, ReadsFunction, ReadsFunctionExpr, OwnNameRule, no_own_name_rule, own_name_rule}
+use Rattle.swc_ecma_parser_grammar.specs.scaffold.Reads.{ReadsItems, ReadsBraced, ReadsParts, ReadsFunction, ReadsFunctionExpr, OwnNameRule, no_own_name_rule, own_name_rule}
 use Rattle.swc_ecma_parser_grammar.specs.language.Contexts.{named_by, in_parameters, in_body, in_arrow, with_in}
 use Rattle.swc_ecma_parser_grammar.specs.Walk as walks
 use Rattle.swc_ecma_parser_grammar.specs.Walk.{Env, walk, env_of}

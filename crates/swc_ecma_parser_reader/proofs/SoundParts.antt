@@ -29,7 +29,7 @@ use Rattle.swc_ecma_parser_grammar.specs.language.Lists.{ReadsSeparated}
 use Rattle.swc_ecma_parser_grammar.specs.language.Items.{directed, directs_on}
 use Rattle.swc_ecma_parser_grammar.specs.language.Contexts.{with_in, in_strict}
 use Rattle.swc_ecma_parser_grammar.specs.language.Goals.{Class, expression, assignment}
-use Rattle.swc_ecma_parser_grammar.specs.Reads.{SmallDeclaratorRule, plain_rule, initialized_rule, ReadsItems, SmallTargetRule, no_target_rule, target_rule, SmallStmtRule, variables_rule, using_rule}
+use Rattle.swc_ecma_parser_grammar.specs.scaffold.Reads.{SmallDeclaratorRule, plain_rule, initialized_rule, ReadsItems, SmallTargetRule, no_target_rule, target_rule, SmallStmtRule, variables_rule, using_rule}
 use Rattle.swc_ecma_parser_grammar.specs.Walk as walks
 use Rattle.swc_ecma_parser_grammar.specs.Walk.{walk, env_of}
 use Rattle.swc_ecma_parser_grammar.specs.Notes.{statement_note, with_note}
@@ -45,7 +45,7 @@ use Rattle.swc_ecma_parser_reader.specs.Entry.{error_tokens}
 use Rattle.swc_ecma_parser_reader.proofs.Errors.{is_error}
 use Rattle.swc_ecma_parser_reader.proofs.Meets.{Meets, Refuses, meets_then, meets_if, wanted_meets, refuse_meets, Turned, loop_answers, saw}
 use Rattle.swc_ecma_parser_reader.proofs.Between.{Sound, SoundTree, SoundStep, no_faults, same, same-fewer, sound_then, sound_more, sound_moved, sound_here, sound_as, sound_after, sound_coded, within_sound}
-use Rattle.swc_ecma_parser_grammar.specs.Using.{misused, each_misused, using_faults, is_await_using_declaration}
+use Rattle.swc_ecma_parser_grammar.specs.scaffold.Using.{misused, each_misused, using_faults, is_await_using_declaration}
 use Rattle.swc_ecma_parser_grammar.proofs.Using.{using_stands}
 use Rattle.swc_ecma_parser_grammar.proofs.AwaitUsing.{declares_behind_await}
 

@@ -26,9 +26,9 @@ use Rattle.swc_ecma_parser_model.specs.Directive.{is_use_strict}
 use Rattle.swc_ecma_parser_grammar.specs.declared.position.Position.{Position}
 use Rattle.swc_ecma_parser_grammar.specs.Looks.{kind_at, sees, same_kind, span_at, spanned}
 use Rattle.swc_ecma_parser_grammar.specs.Names.{Code}
-use Rattle.swc_ecma_parser_grammar.specs.Reads.{ReadsItems}
-use Rattle.swc_ecma_parser_grammar.specs.ReadsSupported.{ReadsStmt, ReadsTop}
-use Rattle.swc_ecma_parser_grammar.specs.Entries.{ReadsScript, ReadsShebang, some_shebang, no_shebang, script_code, small_items_await}
+use Rattle.swc_ecma_parser_grammar.specs.scaffold.Reads.{ReadsItems}
+use Rattle.swc_ecma_parser_grammar.specs.scaffold.ReadsSupported.{ReadsStmt, ReadsTop}
+use Rattle.swc_ecma_parser_grammar.specs.scaffold.Entries.{ReadsScript, ReadsShebang, some_shebang, no_shebang, script_code, small_items_await}
 use Rattle.swc_ecma_parser_grammar.specs.Walk as walks
 use Rattle.swc_ecma_parser_grammar.specs.Walk.{walk, env_of}
 use Rattle.swc_ecma_parser_grammar.specs.language.Items.{directed, directs_on, top_item}

@@ -17,7 +17,7 @@ use Rattle.swc_ecma_parser_grammar.specs.Names.{Code, is_identifier, is_reserved
 use Rattle.swc_ecma_parser_grammar.specs.Ends.{Ends}
 use Rattle.swc_ecma_parser_grammar.specs.Follows.{token_is, first_is, word_at, is_let_declaration, may_begin_head}
 use Rattle.swc_ecma_parser_reader.specs.Words.{begins_async_of}
-use Rattle.swc_ecma_parser_grammar.specs.Using.{stands_in_head}
+use Rattle.swc_ecma_parser_grammar.specs.scaffold.Using.{stands_in_head}
 use Rattle.swc_ecma_parser_grammar.specs.language.Declarations.{is_using_declaration}
 use Rattle.swc_ecma_parser_grammar.specs.language.Goals.{expr_goal, expression}
 use Rattle.swc_ecma_parser_grammar.specs.language.Reads.{Reads}

@@ -7,7 +7,7 @@ ghost use Rattle.swc_ecma_parser_error.specs.Kind.{fault_of, kind_of, IsOutOfMem
 ghost use Rattle.swc_ecma_parser_grammar.specs.Follows as follows;
 ghost use Rattle.swc_ecma_parser_grammar.specs.Looks as looks;
 ghost use Rattle.swc_ecma_parser_grammar.specs.Names as names;
-ghost use Rattle.swc_ecma_parser_grammar.specs.Using as resources;
+ghost use Rattle.swc_ecma_parser_grammar.specs.scaffold.Using as resources;
 ghost use Rattle.swc_ecma_parser_grammar.specs.language.Begins as begins;
 ghost use Rattle.swc_ecma_parser_grammar.specs.language.Declarations as declarations;
 ghost use Rattle.swc_ecma_parser_model.specs.Tree.{Tree};

@@ -259,7 +259,7 @@ impl<O: Origin, I: Tokens> Source for Call<O, I> {
         self.word_at("using") && self.next_is_identifier() && !self.next_had_line_break()
     }
 
-    #[tactic(auto, unfolding(swc_ecma_parser_grammar::specs::Using::may_declare_using))]
+    #[tactic(auto, unfolding(swc_ecma_parser_grammar::specs::scaffold::Using::may_declare_using))]
     fn may_declare_using(&self) -> bool {
         self.explicit_resource_management()
             && self.word_at("using")

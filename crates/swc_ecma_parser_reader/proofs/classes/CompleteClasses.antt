@@ -22,8 +22,8 @@ use Rattle.swc_ecma_parser_grammar.specs.Looks.{kind_at, first_kind, sees, same_
 use Rattle.swc_ecma_parser_grammar.specs.Names.{Code, is_reserved, token_is_identifier, first_is_identifier, name_at, identifier_at, is_identifier}
 use Rattle.swc_ecma_parser_grammar.specs.Notes.{notes}
 use Rattle.swc_ecma_parser_grammar.specs.Own.{second_constructor}
-use Rattle.swc_ecma_parser_grammar.specs.Supported.{supported_in, all_supported_in}
-use Rattle.swc_ecma_parser_grammar.specs.ReadsSupported.{ReadsMember, ReadsNamedClass}
+use Rattle.swc_ecma_parser_grammar.specs.scaffold.Supported.{supported_in, all_supported_in}
+use Rattle.swc_ecma_parser_grammar.specs.scaffold.ReadsSupported.{ReadsMember, ReadsNamedClass}
 use Rattle.swc_ecma_parser_grammar.specs.Walk.{env_of, walk, walk_members}
 use Rattle.swc_ecma_parser_grammar.specs.language.Classes.{ClassRule, HeritageRule, no_heritage, heritage_rule}
 use Rattle.swc_ecma_parser_grammar.specs.language.Contexts.{in_class, with_in}

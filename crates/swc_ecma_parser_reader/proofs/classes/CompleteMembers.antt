@@ -17,9 +17,9 @@ use Rattle.swc_ecma_parser_grammar.specs.Follows.{word_at}
 use Rattle.swc_ecma_parser_grammar.specs.Own.{only, misplaced_directive}
 use Rattle.swc_ecma_parser_grammar.specs.Parameters.{parameters as parameter_trees}
 use Rattle.swc_ecma_parser_grammar.specs.Notes.{notes, method_notes}
-use Rattle.swc_ecma_parser_grammar.specs.Reads.{ReadsBraced, ReadsBlock, ReadsParts}
-use Rattle.swc_ecma_parser_grammar.specs.ReadsSupported.{ReadsStmt, ReadsParams, ReadsMember}
-use Rattle.swc_ecma_parser_grammar.specs.Supported.{supported_in, is_supported_key_in, is_supported_property_in, is_supported_method_in, has_no_note}
+use Rattle.swc_ecma_parser_grammar.specs.scaffold.Reads.{ReadsBraced, ReadsBlock, ReadsParts}
+use Rattle.swc_ecma_parser_grammar.specs.scaffold.ReadsSupported.{ReadsStmt, ReadsParams, ReadsMember}
+use Rattle.swc_ecma_parser_grammar.specs.scaffold.Supported.{supported_in, is_supported_key_in, is_supported_property_in, is_supported_method_in, has_no_note}
 use Rattle.swc_ecma_parser_grammar.specs.Walk.{Env, env_of, walk, walks, walk_body, walk_method, env_in_parameters, env_in_body}
 use Rattle.swc_ecma_parser_grammar.specs.language.Classes as classes
 use Rattle.swc_ecma_parser_grammar.specs.language.Classes.{DecoratorsRule, ends_key, is_static_word, is_accessor_word, behind_modifier, has_accessor, MemberKeyRule, method_member, field_member, FieldValueRule, no_value, a_value, CoreRule, constructor_rule, method_rule, field_rule, static_block_rule, empty_rule, member_rule}

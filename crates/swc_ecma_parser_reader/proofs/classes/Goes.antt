@@ -17,7 +17,7 @@ use Rattle.swc_ecma_parser_model.specs.Tree.{Tree}
 use Rattle.swc_ecma_parser_grammar.specs.Looks.{kind_at, sees, same_kind}
 use Rattle.swc_ecma_parser_grammar.specs.Names.{Code}
 use Rattle.swc_ecma_parser_grammar.specs.Follows.{not_async, async_word, Star, no_star, star}
-use Rattle.swc_ecma_parser_grammar.specs.ReadsSupported.{ReadsMember}
+use Rattle.swc_ecma_parser_grammar.specs.scaffold.ReadsSupported.{ReadsMember}
 use Rattle.swc_ecma_parser_grammar.specs.language.Goals.{Goal}
 use Rattle.swc_ecma_parser_grammar.specs.language.Parts as parts
 use Rattle.swc_ecma_parser_grammar.specs.language.Parts.{KeyRule, ReadsToken}

@@ -17,9 +17,9 @@ use Rattle.swc_ecma_parser_grammar.specs.Follows.{word_at}
 use Rattle.swc_ecma_parser_grammar.specs.Own.{only, misplaced_directive}
 use Rattle.swc_ecma_parser_grammar.specs.Notes.{notes, method_notes}
 use Rattle.swc_ecma_parser_grammar.specs.Parameters.{parameters}
-use Rattle.swc_ecma_parser_grammar.specs.Reads.{ReadsBraced, ReadsBlock}
-use Rattle.swc_ecma_parser_grammar.specs.ReadsSupported.{ReadsClass, ReadsStmt, ReadsParams, ReadsDecorated, ReadsMember}
-use Rattle.swc_ecma_parser_grammar.specs.Supported.{supported_in, all_supported_in, is_supported_key_in, is_supported_property_in, is_supported_method_in, has_no_note, is_clean}
+use Rattle.swc_ecma_parser_grammar.specs.scaffold.Reads.{ReadsBraced, ReadsBlock}
+use Rattle.swc_ecma_parser_grammar.specs.scaffold.ReadsSupported.{ReadsClass, ReadsStmt, ReadsParams, ReadsDecorated, ReadsMember}
+use Rattle.swc_ecma_parser_grammar.specs.scaffold.Supported.{supported_in, all_supported_in, is_supported_key_in, is_supported_property_in, is_supported_method_in, has_no_note, is_clean}
 use Rattle.swc_ecma_parser_grammar.specs.Walk as walks
 use Rattle.swc_ecma_parser_grammar.specs.Walk.{Env, walk, env_of}
 use Rattle.swc_ecma_parser_grammar.specs.language.Classes.{DecoratorsRule, CoreRule, constructor_rule, method_rule, field_rule, static_block_rule, MemberKeyRule, FieldValueRule, MemberRule, no_value, a_value, empty_rule, member_rule, is_static_word, is_accessor_word, is_accessor_key, behind_static as behind_static_word, has_accessor, behind_accessor, behind_modifier, method_member, field_member}

@@ -7,12 +7,12 @@ use Rattle.swc_ecma_parser_token.specs.declared.kind.TokenKind.TheVariants as ki
 use Rattle.swc_ecma_parser_input.specs.Place.{Place}
 use Rattle.swc_ecma_parser_model.specs.Tree.{Tree}
 use Rattle.swc_ecma_parser_grammar.specs.declared.position.Position.{Position}
-use Rattle.swc_ecma_parser_grammar.specs.Decorated.{declared_class, declared_function}
+use Rattle.swc_ecma_parser_grammar.specs.scaffold.Decorated.{declared_class, declared_function}
 use Rattle.swc_ecma_parser_grammar.specs.Follows.{is_async_function, begins_import_expression, AsyncWord, not_async, async_word}
 use Rattle.swc_ecma_parser_grammar.specs.Looks.{kind_at, sees, same_kind}
 use Rattle.swc_ecma_parser_grammar.specs.Names.{Code}
-use Rattle.swc_ecma_parser_grammar.specs.Reads.{SmallStmtRule, class_rule, function_rule}
-use Rattle.swc_ecma_parser_grammar.specs.ReadsSupported.{ReadsStmt, ReadsClass, ReadsPat, ReadsTarget, ReadsParams, ReadsNamedClass, ReadsDeclared}
+use Rattle.swc_ecma_parser_grammar.specs.scaffold.Reads.{SmallStmtRule, class_rule, function_rule}
+use Rattle.swc_ecma_parser_grammar.specs.scaffold.ReadsSupported.{ReadsStmt, ReadsClass, ReadsPat, ReadsTarget, ReadsParams, ReadsNamedClass, ReadsDeclared}
 use Rattle.swc_ecma_parser_grammar.specs.language.Items.{nested_item}
 use Rattle.swc_ecma_parser_grammar.specs.language.Goals.{Class, left_side}
 use Rattle.swc_ecma_parser_reader.specs.DecoratedStatements.{begins_declared}

@@ -7,7 +7,7 @@ use Rattle.swc_ecma_parser_model.specs.Tree as tree
 use Rattle.swc_ecma_parser_model.specs.Tree.{Tree}
 use Rattle.swc_ecma_parser_model.specs.Forms.{span_of}
 use Rattle.swc_ecma_parser_grammar.specs.declared.position.Position.{Position}
-use Rattle.swc_ecma_parser_grammar.specs.Decorated.{class_behind, function_behind, decorated_by}
+use Rattle.swc_ecma_parser_grammar.specs.scaffold.Decorated.{class_behind, function_behind, decorated_by}
 use Rattle.swc_ecma_parser_grammar.specs.Follows.{is_async_function, not_async}
 use Rattle.swc_ecma_parser_grammar.specs.Looks.{kind_at, span_at}
 use Rattle.swc_ecma_parser_grammar.specs.Parameters.{parameters}

@@ -12,7 +12,7 @@ use Rattle.swc_ecma_parser_grammar.specs.Looks.{kind_at, breaks_at, sees, same_k
 use Rattle.swc_ecma_parser_grammar.specs.Names.{Code, name_at}
 use Rattle.swc_ecma_parser_grammar.specs.Notes.{notes}
 use Rattle.swc_ecma_parser_grammar.specs.Own.{misplaced_directive}
-use Rattle.swc_ecma_parser_grammar.specs.Supported.{supported_in, all_supported_in}
+use Rattle.swc_ecma_parser_grammar.specs.scaffold.Supported.{supported_in, all_supported_in}
 use Rattle.swc_ecma_parser_grammar.specs.Walk.{env_of, env_in_body, walk, walks}
 use Rattle.swc_ecma_parser_grammar.specs.language.PatternItems.{PatternItemRule}
 use Rattle.swc_ecma_parser_grammar.specs.language.Contexts.{in_arrow, with_in}

@@ -29,8 +29,8 @@ use Rattle.swc_ecma_parser_grammar.specs.Looks.{kind_at, first_kind, breaks_at, 
 use Rattle.swc_ecma_parser_grammar.specs.Names.{Code, is_reserved, is_name, token_is_identifier, first_is_identifier, name_at, identifier_at, is_identifier}
 use Rattle.swc_ecma_parser_grammar.specs.Follows as follows
 use Rattle.swc_ecma_parser_grammar.specs.Follows.{continues_left_side, word_at, is_async_function}
-use Rattle.swc_ecma_parser_grammar.specs.Supported.{supported_in}
-use Rattle.swc_ecma_parser_grammar.specs.ReadsSupported.{ReadsClass}
+use Rattle.swc_ecma_parser_grammar.specs.scaffold.Supported.{supported_in}
+use Rattle.swc_ecma_parser_grammar.specs.scaffold.ReadsSupported.{ReadsClass}
 use Rattle.swc_ecma_parser_grammar.specs.language.Goals.{Goal, Purpose, binding, expr_goal, pattern_goal, element_goal, expression, assignment}
 use Rattle.swc_ecma_parser_grammar.proofs.StatementBegins.{word_place}
 use Rattle.swc_ecma_parser_grammar.proofs.ExpressionBegins.{await_stands}

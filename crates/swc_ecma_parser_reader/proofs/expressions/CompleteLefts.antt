@@ -22,7 +22,7 @@ use Rattle.swc_ecma_parser_grammar.specs.Notes.{notes}
 use Rattle.swc_ecma_parser_grammar.specs.language.Contexts.{with_in}
 use Rattle.swc_ecma_parser_grammar.specs.language.Noted.{has_meta}
 use Rattle.swc_ecma_parser_grammar.specs.Walk.{Env, env_of, walk}
-use Rattle.swc_ecma_parser_grammar.specs.Supported.{supported_in, is_supported_property_in}
+use Rattle.swc_ecma_parser_grammar.specs.scaffold.Supported.{supported_in, is_supported_property_in}
 use Rattle.swc_ecma_parser_grammar.specs.language.Goals.{Goal, Class, expression, callee, expr_goal, callee_goal}
 use Rattle.swc_ecma_parser_grammar.specs.language.Parts.{ReadsName, AccessRule, is_private, ArgumentsRule, ReadsToken}
 use Rattle.swc_ecma_parser_grammar.specs.language.LeftSides as sides

@@ -18,8 +18,8 @@ use Rattle.swc_ecma_parser_model.specs.Targets.{as_pattern}
 use Rattle.swc_ecma_parser_grammar.specs.Looks.{kind_at, breaks_at, sees, same_kind, span_at, spanned}
 use Rattle.swc_ecma_parser_grammar.specs.Names.{Code, identifier_at}
 use Rattle.swc_ecma_parser_grammar.specs.Follows.{word_at}
-use Rattle.swc_ecma_parser_grammar.specs.Supported.{supported_in, all_supported_in}
-use Rattle.swc_ecma_parser_grammar.specs.ReadsSupported.{ReadsClass}
+use Rattle.swc_ecma_parser_grammar.specs.scaffold.Supported.{supported_in, all_supported_in}
+use Rattle.swc_ecma_parser_grammar.specs.scaffold.ReadsSupported.{ReadsClass}
 use Rattle.swc_ecma_parser_grammar.specs.language.Goals.{Goal, Class, expression, assignment, operator, unary, left_side, callee, expr_goal}
 use Rattle.swc_ecma_parser_grammar.specs.language.Operators.{binary_operator, assign_operator}
 use Rattle.swc_ecma_parser_grammar.specs.language.Continues.{binds, continues_operand, continues_conditional, continues_assignment, continues_head, is_arrow_head, continues_yield}

@@ -9,8 +9,8 @@ use Rattle.swc_ecma_parser_model.specs.Tree.{Tree, listed, trees}
 use Rattle.swc_ecma_parser_grammar.specs.Looks.{kind_at, breaks_at, sees, span_at, spanned}
 use Rattle.swc_ecma_parser_grammar.specs.Names.{Code, name_at}
 use Rattle.swc_ecma_parser_grammar.specs.Follows.{AsyncWord, not_async, async_word}
-use Rattle.swc_ecma_parser_grammar.specs.Supported.{supported_in, all_supported_in}
-use Rattle.swc_ecma_parser_grammar.specs.ReadsSupported.{ReadsClass}
+use Rattle.swc_ecma_parser_grammar.specs.scaffold.Supported.{supported_in, all_supported_in}
+use Rattle.swc_ecma_parser_grammar.specs.scaffold.ReadsSupported.{ReadsClass}
 use Rattle.swc_ecma_parser_grammar.specs.language.Contexts.{in_arrow}
 use Rattle.swc_ecma_parser_grammar.specs.language.Goals.{Class, assignment}
 use Rattle.swc_ecma_parser_grammar.specs.language.Expressions.{ArrowHeadRule, name_head, ArrowBodyRule, expression_body, AssignmentRule, arrow_rule}

@@ -22,8 +22,8 @@ use Rattle.swc_ecma_parser_grammar.specs.Looks.{first_kind, kind_at, sees, same_
 use Rattle.swc_ecma_parser_grammar.specs.Names.{Code, is_name, name_at}
 use Rattle.swc_ecma_parser_grammar.specs.Follows.{token_is, first_is, word_at, is_async_function, continues_left_side}
 use Rattle.swc_ecma_parser_grammar.specs.Notes.{notes}
-use Rattle.swc_ecma_parser_grammar.specs.Supported.{supported_in, is_supported_property_in, all_supported_in}
-use Rattle.swc_ecma_parser_grammar.specs.ReadsSupported.{ReadsClass, ReadsPat}
+use Rattle.swc_ecma_parser_grammar.specs.scaffold.Supported.{supported_in, is_supported_property_in, all_supported_in}
+use Rattle.swc_ecma_parser_grammar.specs.scaffold.ReadsSupported.{ReadsClass, ReadsPat}
 use Rattle.swc_ecma_parser_grammar.specs.language.Expressions.{ArrowBodyRule}
 use Rattle.swc_ecma_parser_grammar.specs.language.Goals.{Goal, Class, expression, assignment, left_side, callee, expr_goal, callee_goal}
 use Rattle.swc_ecma_parser_grammar.specs.language.Lists.{ReadsListed, LastComma, no_comma, last_comma}

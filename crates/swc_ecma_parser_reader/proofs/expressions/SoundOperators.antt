@@ -15,8 +15,8 @@ use Rattle.swc_ecma_parser_model.specs.Forms.{is_simple_target}
 use Rattle.swc_ecma_parser_grammar.specs.Looks.{kind_at, breaks_at, sees, same_kind, span_at, spanned}
 use Rattle.swc_ecma_parser_grammar.specs.Names.{Code}
 use Rattle.swc_ecma_parser_grammar.specs.Follows.{continues_left_side}
-use Rattle.swc_ecma_parser_grammar.specs.Supported.{supported_in}
-use Rattle.swc_ecma_parser_grammar.specs.ReadsSupported.{ReadsClass}
+use Rattle.swc_ecma_parser_grammar.specs.scaffold.Supported.{supported_in}
+use Rattle.swc_ecma_parser_grammar.specs.scaffold.ReadsSupported.{ReadsClass}
 use Rattle.swc_ecma_parser_grammar.specs.language.LeftSides.{OperandRule}
 use Rattle.swc_ecma_parser_grammar.specs.language.Goals.{Goal, Class, operator, unary, expr_goal}
 use Rattle.swc_ecma_parser_grammar.specs.language.Begins.{awaits}

@@ -15,7 +15,7 @@ use Rattle.swc_ecma_parser_model.specs.Targets.{leaf, left_pattern, simple_targe
 use Rattle.swc_ecma_parser_grammar.specs.Looks.{kind_at, sees, same_kind, spanned}
 use Rattle.swc_ecma_parser_grammar.specs.Names.{Code}
 use Rattle.swc_ecma_parser_grammar.specs.Follows.{continues_left_side}
-use Rattle.swc_ecma_parser_grammar.specs.Supported.{supported_in}
+use Rattle.swc_ecma_parser_grammar.specs.scaffold.Supported.{supported_in}
 use Rattle.swc_ecma_parser_grammar.specs.language.Contexts.{with_in}
 use Rattle.swc_ecma_parser_grammar.specs.language.Goals.{Goal, assignment, assigning, expr_goal}
 use Rattle.swc_ecma_parser_grammar.specs.language.Begins.{awaits}

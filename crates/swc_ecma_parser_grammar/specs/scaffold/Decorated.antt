@@ -9,7 +9,7 @@ use Rattle.swc_ecma_parser_grammar.specs.declared.position.Position.{Position}
 use Rattle.swc_ecma_parser_grammar.specs.Looks.{span_at}
 use Rattle.swc_ecma_parser_grammar.specs.Names.{Code}
 use Rattle.swc_ecma_parser_grammar.specs.Follows.{is_async_function}
-use Rattle.swc_ecma_parser_grammar.specs.Reads.{ReadsFunction}
+use Rattle.swc_ecma_parser_grammar.specs.scaffold.Reads.{ReadsFunction}
 
 -- A class and a function with the decorators that stand before them: the class begins where it is told, the function leaves them out.
 abbrev pub class_behind : (start : Span) → (decorators : List Tree) → Tree → Tree

@@ -17,7 +17,7 @@ use Rattle.swc_ecma_parser_grammar.specs.Names.{Code, is_name}
 use Rattle.swc_ecma_parser_grammar.specs.Ends.{Ends, OptionalEnds, ends_at}
 use Rattle.swc_ecma_parser_grammar.specs.Follows.{word_at, may_begin_expression_statement, begins_import_expression, may_begin_head, is_async_of, AwaitWord, AsyncWord, Star, is_async_function}
 use Rattle.swc_ecma_parser_grammar.specs.Variables.{begins_variables, is_var, needs_no_initializer}
-use Rattle.swc_ecma_parser_grammar.specs.Using.{may_declare_using, awaits_using, using_faults}
+use Rattle.swc_ecma_parser_grammar.specs.scaffold.Using.{may_declare_using, awaits_using, using_faults}
 use Rattle.swc_ecma_parser_grammar.specs.Parameters.{parameters}
 use Rattle.swc_ecma_parser_grammar.specs.language.Goals.{Class, expression, assignment}
 use Rattle.swc_ecma_parser_grammar.specs.language.Contexts.{named_by, in_parameters, in_body, in_loop, in_breakable, in_with, with_in, without_in, head_code}
