@@ -14,7 +14,7 @@ use Rattle.swc_ecma_parser_grammar.specs.language.Goals.{Goal, Purpose, binding,
 use Rattle.swc_ecma_parser_grammar.specs.language.Begins.{awaits}
 use Rattle.swc_ecma_parser_grammar.specs.language.Lists.{ReadsListed, Elements}
 use Rattle.swc_ecma_parser_grammar.specs.language.Parts.{ReadsName, KeyRule}
-use Rattle.swc_ecma_parser_grammar.specs.language.LeftSides.{LeftSideRule}
+use Rattle.swc_ecma_parser_grammar.specs.language.LeftSides.{OperandRule}
 
 -- a property of an object pattern: the rest is the last, and a name or a target
 pub data PatternPropertyRule (In : Goal → Type 0) (p : Purpose) (k : Code) (x : Tree) (c d : Place) : Type 0 where

@@ -14,6 +14,7 @@ use Rattle.swc_ecma_parser_grammar.specs.Looks.{sees, breaks_at}
 use Rattle.swc_ecma_parser_grammar.specs.Names.{Code, identifier_at}
 use Rattle.swc_ecma_parser_grammar.specs.Follows.{word_at}
 use Rattle.swc_ecma_parser_grammar.specs.Own.{only}
+use Rattle.swc_ecma_parser_grammar.specs.language.Declarations.{is_using_declaration}
 
 -- behind `await` on its line, at the top level too
 unfoldable pub is_await_using_declaration : Position → Code → Place → Bool
