@@ -1,3 +1,4 @@
+-- The language: what has to be believed, with the files that these import. None of them is of the scaffold.
 pub mod Goals
 pub mod Contexts
 pub mod Operators

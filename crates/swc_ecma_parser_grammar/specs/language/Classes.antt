@@ -31,6 +31,24 @@ pub data DecoratorsRule (In : Goal → Type 0) (k : Code) (x : Tree) (c d : Plac
 
 -- ---- what stands before the key of a member
 
+-- Each of these words is a key too. Which it is, the token behind it says, and whether that stands on a new line:
+--
+--   word           next token        on a new line   the word is
+--   static         ( = ; }           or not          the key
+--                  any other         or not          a modifier, before { that of a static block
+--   accessor       ( = ; }           or not          the key
+--                  any other         yes             the key of a field that ends there
+--                  any other         no              a modifier with the setting, and else the key
+--   get, set       ( = ; }           or not          the key
+--                  *                 yes             the key of a field that ends there
+--                  any other         or not          the beginning of an accessor
+--   async          ( = ; }           or not          the key
+--                  any other         yes             the key of a field that ends there
+--                  any other         no              a modifier of a method
+--
+-- They stand in this order, each once, and behind the modifier `accessor` each of the others is a key. The first two are told by
+-- the rules below, the others by those of methods (`MethodHead`) and of fields (`FieldValueRule`, `Ends`), of which one alone fits.
+
 -- `static` and `accessor` are keys before these
 unfoldable pub ends_key : Place → Bool
 ends_key c = sees kind.LParen c || (sees kind.Assign c || (sees kind.RBrace c || sees kind.Semi c))

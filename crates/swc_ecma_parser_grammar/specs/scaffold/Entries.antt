@@ -1,4 +1,4 @@
--- What a whole list of tokens spells: ECMA-262, section 16.1.
+-- Scripts in the small relation: ECMA-262, section 16.1.
 use Rattle.std.specs.Prelude.{◌≡◌, ℕ, Bool, true, false, ◌||◌, List, [], ◌∷◌, Option, Some, None}
 use Rattle.swc_ecma_parser_common.specs.declared.span.Span.{Span}
 use Rattle.swc_ecma_parser_token.specs.declared.kind.TokenKind.TheVariants as kind

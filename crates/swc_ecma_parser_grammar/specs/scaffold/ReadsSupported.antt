@@ -1,4 +1,4 @@
--- The relation of the whole language on supported trees.
+-- The relation of the whole language on supported trees, and the small relation with its parts read so.
 use Rattle.std.specs.Prelude.{◌≡◌, ℕ, zero, suc, true, false, ◌||◌, List, []}
 use Rattle.swc_ecma_parser_token.specs.declared.kind.TokenKind.TheVariants as kind
 use Rattle.swc_ecma_parser_input.specs.Place.{Place}

@@ -1,4 +1,5 @@
--- What is declared with `using`: the proposal on explicit resource management, which adds it to ECMA-262, section 14.3.
+-- How the reader tells where `using` declares, and what of a declaration is a fault: the proposal on explicit resource management,
+-- which adds it to ECMA-262, section 14.3.
 use Rattle.std.specs.Prelude.{Bool, false, not, ◌&&◌, ◌||◌, List, [], ◌∷◌, ◌++◌, codes}
 use Rattle.swc_ecma_parser_common.specs.declared.span.Span.{Span}
 use Rattle.swc_ecma_parser_error.specs.Kind as kind
