@@ -10,7 +10,6 @@ use Rattle.swc_ecma_parser_grammar.proofs.SupportedBegins.{word_begins, name_beg
 use Rattle.swc_ecma_parser_grammar.specs.Own.{labelled_function, duplicates, misplaced_directive, head_faults}
 use Rattle.swc_ecma_parser_grammar.specs.scaffold.Reads.{labeled_rule, with_rule, class_rule, function_rule, ReadsFunction, ReadsFunctionExpr, ReadsParts, OwnNameRule, no_own_name_rule, own_name_rule, ReadsBraced, SmallInitRule, SmallLeftRule, SmallOfLeftRule, SmallPartRule, no_part_rule, part_rule, for_rule, for_in_rule, for_of_rule, ReadsItems, break_rule, continue_rule, return_rule, SmallStmtRule, block_rule, empty_rule, debugger_rule, variables_rule, if_statement_rule, SmallCaseRule, case_clause_rule, default_clause_rule, ReadsCases, switch_rule, throw_rule, try_rule, while_rule, do_while_rule, expr_rule, import_rule, ReadsBlock, SmallCatchRule, no_catch_rule, catch_rule, catch_parameter_rule, SmallFinallyRule, no_finally_rule, finally_rule, ReadsHead, SmallIfRule, if_rule, no_else_rule, else_rule, else_if_rule, using_rule, SmallDeclaratorRule}
 use Rattle.swc_ecma_parser_grammar.specs.Names.{is_name, first_is_identifier, identifier_at, Code}
-use Rattle.swc_ecma_parser_grammar.specs.language.PatternItems.{PatternItemRule}
 use Rattle.swc_ecma_parser_grammar.specs.language.Declarations.{is_using_declaration}
 use Rattle.swc_ecma_parser_grammar.specs.language.Lists.{ReadsSeparated}
 use Rattle.swc_ecma_parser_grammar.specs.language.Parts.{ReadsToken}
@@ -38,7 +37,7 @@ use Rattle.swc_ecma_parser_grammar.specs.Looks.{kind_at, sees, same_kind, span_a
 use Rattle.swc_ecma_parser_grammar.specs.Ends.{OptionalEnds}
 use Rattle.swc_ecma_parser_grammar.specs.scaffold.ReadsSupported.{ReadsClass, ReadsPat, ReadsTarget, ReadsStmt, ReadsParams, ReadsDecorated, ReadsMember, ReadsNamedClass}
 use Rattle.swc_ecma_parser_grammar.specs.language.Contexts.{in_loop, in_breakable, in_with, named_by, in_parameters, in_body, in_arrow, with_in}
-use Rattle.swc_ecma_parser_grammar.specs.language.Goals.{Goal, Purpose, binding, expression, assignment, pattern_goal}
+use Rattle.swc_ecma_parser_grammar.specs.language.Goals.{binding, expression, assignment, pattern_goal}
 use Rattle.swc_ecma_parser_grammar.specs.Notes.{notes, with_note}
 use Rattle.swc_ecma_parser_grammar.specs.language.Noted.{has_meta}
 use Rattle.swc_ecma_parser_reader.specs.Notes.{Notes, ◌⊕◌, notes_of, all_notes_of, held}
@@ -74,13 +73,10 @@ use Rattle.swc_ecma_parser_grammar.proofs.MethodParts.{parts_narrow}
 use Rattle.swc_ecma_parser_grammar.proofs.Unnoted.{clean_is}
 use Rattle.swc_ecma_parser_grammar.proofs.Widens.{parameters_same}
 use Rattle.swc_ecma_parser_grammar.specs.scaffold.Supported.{supported_in, is_supported_key_in, has_no_note}
-use Rattle.swc_ecma_parser_grammar.specs.language.PatternItems as pattern_items
-use Rattle.swc_ecma_parser_grammar.specs.language.Functions.{ParametersRule}
-use Rattle.swc_ecma_parser_grammar.specs.language.Patterns as patterns
-use Rattle.swc_ecma_parser_grammar.specs.language.Patterns.{PatternRule, PatternElementRule}
 use Rattle.swc_ecma_parser_grammar.specs.language.Reads as language
 use Rattle.swc_ecma_parser_reader.proofs.Loops.{stmt_shorter, clauses_done, clauses_more}
 use Rattle.swc_ecma_parser_reader.proofs.Chains.{if_last, if_more}
+use Rattle.swc_ecma_parser_reader.proofs.PlainParameters.{parameter_plain}
 use Rattle.swc_ecma_parser_reader.proofs.CompleteParts.{behind_setting, break_reads, clause_ends, close_reads, closes_at, code_stays, condition_reads, continue_reads, debugger_reads, empty_reads, expect_reads, expr_stmt_reads, head_reads, import_stmt_reads, items_read, name_no_function, name_no_class, no_brace, no_label_here, optional_end_reads, return_reads, statement_calm, throw_reads, variables_reads, note_with_reads, code_behind, using_reads}
 use Rattle.swc_ecma_parser_grammar.proofs.Naming.{name_is_free}
 use Rattle.swc_ecma_parser_grammar.specs.scaffold.Using.{is_await_using_declaration}
@@ -671,28 +667,6 @@ module _ (n : ℕ) (below : Below n) (reads : (at : Position) (k : Code) (x : Tr
       (and_no at.include_decl _ (no_using_here n k (with_in k) e c m d r.0 g))
       ∙ rw (no_label_here n below k w.labels e c m r l (statement_calm k w.labels e m x d (spanned c d) g j q), b) (expr_stmt_reads n below e m k x c d r l i g j w f h q)
   by_rules at k x c d n' (import_rule e m b r g j) w f h q = rw (import_stands c b, b) (import_stmt_reads n below e m k x c d b r g j w f h q)
-
--- ---- the parameter of a setter
-
--- a pattern is no parameter that holds one
-pattern_plain : {In : Goal → Type 0} {purpose : Purpose} (k : Code) (p : Tree) (c d : Place) → PatternRule In purpose k p c d → is_plain_param p ≡ is_binding_name p
-pattern_plain k p c d (patterns.binding_name_rule text s i r e) = ap is_plain_param e ∙ ap is_binding_name (sym e)
-pattern_plain k p c d (patterns.target_name_rule text s i a r e) = ap is_plain_param e ∙ ap is_binding_name (sym e)
-pattern_plain k p c d (patterns.target_rule y i r t u e) = ap is_plain_param e ∙ ap is_binding_name (sym e)
-pattern_plain k p c d (patterns.array_rule xs m i r j g e) = ap is_plain_param e ∙ ap is_binding_name (sym e)
-pattern_plain k p c d (patterns.object_rule xs m i r j g e) = ap is_plain_param e ∙ ap is_binding_name (sym e)
-
-element_plain : {In : Goal → Type 0} {purpose : Purpose} (k : Code) (p : Tree) (c d : Place) → PatternElementRule In purpose k p c d → is_plain_param p ≡ is_binding_name p
-element_plain k p c d (patterns.bare_rule r e) = pattern_plain k p c d r
-element_plain k p c d (patterns.initialized_rule y z m r i v e) = ap is_plain_param e ∙ ap is_binding_name (sym e)
-
-item_plain : (n : ℕ) (k : Code) (p : Tree) (c d : Place) → PatternItemRule (language.Reads n) binding k p c d → is_plain_param p ≡ is_binding_name p
-item_plain zero k p c d (pattern_items.element_rule r) = absurd r
-item_plain (suc n) k p c d (pattern_items.element_rule r) = element_plain k p c d r
-item_plain n k p c d (pattern_items.rest_rule y o r e) = ap is_plain_param e ∙ ap is_binding_name (sym e)
-
-parameter_plain : {k : Code} {c d : Place} (n : ℕ) (p : Tree) → ParametersRule (language.Reads n) k (p ∷ []) c d → is_plain_param p ≡ is_binding_name p
-parameter_plain {k = k} {c = c} n p r = let (m, one, l) = r.reads_patterns in item_plain n (with_in k) p (after c) m one
 
 -- what is tested in module code
 in_module : (m b : Bool) → (not m || b) ≡ true → m ≡ true → b ≡ true
