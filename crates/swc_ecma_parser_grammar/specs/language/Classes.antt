@@ -46,8 +46,8 @@ pub data DecoratorsRule (In : Goal → Type 0) (k : Code) (x : Tree) (c d : Plac
 --                  any other         yes             the key of a field that ends there
 --                  any other         no              a modifier of a method
 --
--- They stand in this order, each once, and behind the modifier `accessor` each of the others is a key. The first two are told by
--- the rules below, the others by those of methods (`MethodHead`) and of fields (`FieldValueRule`, `Ends`), of which one alone fits.
+-- `static` stands first, behind it `accessor` or one of `get`, `set` and `async`, and any further word is a key. The first two are told
+-- by the rules below, the others by those of methods (`MethodHead`) and of fields (`FieldValueRule`, `Ends`), of which one alone fits.
 
 -- `static` and `accessor` are keys before these
 unfoldable pub ends_key : Place → Bool
