@@ -22,13 +22,13 @@ use Rattle.swc_ecma_parser_grammar.specs.Ends.{Ends}
 use Rattle.swc_ecma_parser_grammar.specs.Follows.{AwaitWord}
 use Rattle.swc_ecma_parser_grammar.specs.scaffold.Using.{misused, each_misused, using_faults}
 use Rattle.swc_ecma_parser_grammar.specs.scaffold.Reads.{SmallDeclaratorRule, plain_rule, initialized_rule, ReadsItems, SmallStmtRule, block_rule, empty_rule, debugger_rule, variables_rule, using_rule, if_statement_rule, SmallTargetRule, no_target_rule, target_rule, SmallReturnedRule, no_operand_rule, operand_rule, break_rule, continue_rule, return_rule, labeled_rule, HeadVariables, SmallInitRule, no_init_rule, init_variables_rule, init_expression_rule, SmallLeftRule, declared_rule, left_target_rule, for_in_rule, for_of_rule, SmallPartRule, no_part_rule, part_rule, for_rule, SmallCaseRule, case_clause_rule, default_clause_rule, ReadsCases, switch_rule, throw_rule, try_rule, with_rule, while_rule, do_while_rule, expr_rule, import_rule, ReadsBlock, SmallCatchRule, no_catch_rule, catch_rule, catch_parameter_rule, SmallFinallyRule, no_finally_rule, finally_rule, ReadsHead, SmallIfRule, if_rule, SmallElseRule, no_else_rule, else_rule, else_if_rule, ReadsBraced, ReadsFunction, class_rule, function_rule, SmallOfLeftRule, of_left_rule, of_using_rule, of_await_rule}
-use Rattle.swc_ecma_parser_grammar.specs.scaffold.Entries.{ReadsScript, ReadsShebang, some_shebang, no_shebang, script_code, small_items_await, small_script_awaits}
+use Rattle.swc_ecma_parser_grammar.specs.scaffold.Entries.{ReadsScript, ReadsShebang, some_shebang, no_shebang, small_items_await, small_script_awaits}
 use Rattle.swc_ecma_parser_grammar.specs.scaffold.Decorated.{decorated_by, DeclaredRule, declared_class, declared_function, SmallDecoratedRule, EitherRule, plain_statement, decorated_statement}
 use Rattle.swc_ecma_parser_grammar.specs.scaffold.Supported.{supported_in, all_supported_in}
 use Rattle.swc_ecma_parser_grammar.specs.scaffold.ReadsSupported.{ReadsClass, ReadsPat, ReadsTarget, ReadsStmt, ReadsTop, ReadsParams, ReadsNamedClass, ReadsDecorators, ReadsDeclared}
 use Rattle.swc_ecma_parser_grammar.specs.language.Declarations.{is_using_declaration}
 use Rattle.swc_ecma_parser_grammar.specs.language.Goals.{expression, assignment, expr_goal, stmt_goal}
-use Rattle.swc_ecma_parser_grammar.specs.language.Contexts.{in_loop, in_breakable, in_with, without_in, with_in, head_code}
+use Rattle.swc_ecma_parser_grammar.specs.language.Contexts.{in_loop, in_breakable, in_with, without_in, with_in, head_code, script_code}
 use Rattle.swc_ecma_parser_grammar.specs.language.Patterns as patterns
 use Rattle.swc_ecma_parser_grammar.specs.language.ForHeads as heads
 use Rattle.swc_ecma_parser_grammar.specs.language.Classes as classes

@@ -10,8 +10,9 @@ use Rattle.swc_ecma_parser_grammar.specs.Looks.{kind_at, sees}
 use Rattle.swc_ecma_parser_grammar.specs.Names.{Code}
 use Rattle.swc_ecma_parser_grammar.specs.scaffold.Reads.{ReadsItems}
 use Rattle.swc_ecma_parser_grammar.specs.scaffold.ReadsSupported.{ReadsTop}
-use Rattle.swc_ecma_parser_grammar.specs.scaffold.Entries.{ReadsScript, script_code, small_items_await, small_script_awaits}
+use Rattle.swc_ecma_parser_grammar.specs.scaffold.Entries.{ReadsScript, small_items_await, small_script_awaits}
 use Rattle.swc_ecma_parser_grammar.specs.Walk.{env_of, walk, walks}
+use Rattle.swc_ecma_parser_grammar.specs.language.Contexts.{script_code}
 use Rattle.swc_ecma_parser_grammar.specs.language.Items.{directed, directs_on, top_item}
 use Rattle.swc_ecma_parser_grammar.specs.language.Statements.{may_begin_at_top}
 use Rattle.swc_ecma_parser_reader.specs.Notes.{Notes, ◌⊕◌, notes_of, notes_with, all_notes_with}

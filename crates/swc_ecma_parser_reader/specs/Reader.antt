@@ -20,9 +20,8 @@ use Rattle.swc_ecma_parser_grammar.specs.Follows.{word_at, may_begin_expression_
 use Rattle.swc_ecma_parser_grammar.specs.Variables.{is_const, needs_no_initializer}
 use Rattle.swc_ecma_parser_grammar.specs.Own.{only, labelled_function, duplicates, head_faults}
 use Rattle.swc_ecma_parser_grammar.specs.scaffold.Using.{may_declare_using, awaits_using, declares_behind, stands_in_head}
-use Rattle.swc_ecma_parser_grammar.specs.scaffold.Entries.{script_code}
 use Rattle.swc_ecma_parser_grammar.specs.language.Declarations.{is_using_declaration}
-use Rattle.swc_ecma_parser_grammar.specs.language.Contexts.{in_loop, in_breakable, in_with, without_in, with_in, head_code}
+use Rattle.swc_ecma_parser_grammar.specs.language.Contexts.{in_loop, in_breakable, in_with, without_in, with_in, head_code, script_code}
 use Rattle.swc_ecma_parser_grammar.specs.language.Goals.{Class, expression, assignment, left_side}
 use Rattle.swc_ecma_parser_grammar.specs.language.Items.{sub_statement, labelled_item, nested_item, top_item}
 use Rattle.swc_ecma_parser_reader.specs.Words.{begins_async_of}

@@ -83,6 +83,10 @@ in_loop k = record k { flags = record k.flags { is_break_allowed = true; is_cont
 abbrev pub in_breakable : Code → Code
 in_breakable k = record k { flags = record k.flags { is_break_allowed = true } }
 
+-- a script is no module code
+abbrev pub script_code : Code → Code
+script_code k = record k { flags = record k.flags { «module» = false } }
+
 -- an import or an export, and what stands behind it
 abbrev pub in_module : Code → Code
 in_module k = record k { flags = record k.flags { «module» = true; strict = true } }

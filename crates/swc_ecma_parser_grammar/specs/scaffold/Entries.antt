@@ -3,21 +3,16 @@ use Rattle.std.specs.Prelude.{◌≡◌, ℕ, Bool, true, false, ◌||◌, List,
 use Rattle.swc_ecma_parser_common.specs.declared.span.Span.{Span}
 use Rattle.swc_ecma_parser_token.specs.declared.kind.TokenKind.TheVariants as kind
 use Rattle.swc_ecma_parser_token.specs.declared.token.Token.TheVariants as token
-use Rattle.swc_ecma_parser_token.specs.declared.token.TokenAndSpan.{TokenAndSpan}
-use Rattle.swc_ecma_parser_token.specs.Kind.{token_kind}
 use Rattle.swc_ecma_parser_input.specs.Place.{Place}
 use Rattle.swc_ecma_parser_model.specs.Tree as tree
 use Rattle.swc_ecma_parser_model.specs.Tree.{Tree, Text, listed}
-use Rattle.swc_ecma_parser_grammar.specs.Looks.{kind_at, sees, same_kind, spanned}
+use Rattle.swc_ecma_parser_grammar.specs.Looks.{kind_at, sees, spanned}
 use Rattle.swc_ecma_parser_grammar.specs.Names.{Code}
 use Rattle.swc_ecma_parser_grammar.specs.scaffold.Reads.{ReadsItems}
+use Rattle.swc_ecma_parser_grammar.specs.language.Contexts.{script_code}
 use Rattle.swc_ecma_parser_grammar.specs.language.Items.{directed, directs_on, top_item}
 use Rattle.swc_ecma_parser_grammar.specs.language.Parts.{ReadsToken}
 use Rattle.swc_ecma_parser_grammar.specs.scaffold.ReadsSupported.{ReadsTop}
-
--- a script is no module code
-abbrev pub script_code : Code → Code
-script_code k = record k { flags = record k.flags { «module» = false } }
 
 -- a first line that begins with `#!`: section 12.5
 pub data ReadsShebang (c d : Place) : Option Text → Type 0 where
@@ -42,8 +37,3 @@ pub record ReadsScript (n : ℕ) (k : Code) (x : Tree) (c d : Place) : Type 0 wh
 -- whether one of its own statements begins with `await`
 abbrev pub small_script_awaits : (n : ℕ) (k : Code) (x : Tree) (c d : Place) → ReadsScript n k x c d → Bool
 small_script_awaits n k x c d r = small_items_await (λ j. ReadsTop n j top_item) (script_code k) true r.items r.first d r.reads_items
-
--- no error token stands in the list
-abbrev pub has_error_token : List TokenAndSpan → Bool
-has_error_token [] = false
-has_error_token (t ∷ ts) = same_kind (token_kind t.token) kind.Error || has_error_token ts

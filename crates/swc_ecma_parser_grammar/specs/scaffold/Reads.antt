@@ -1,6 +1,6 @@
 -- The small relation: of statements alone, one rule for each form. How their expressions, patterns, parameters and classes are read is
 -- given to the rules, and it is as in the language. The theorems on the reader's statements are stated with these rules, and so they
--- remain, though no promise names them: on supported trees the small relation and the language are one (`proofs/Widens.antt`,
+-- remain, though no promise of the parser names them: on supported trees the small relation and the language are one (`proofs/Widens.antt`,
 -- `proofs/Narrows.antt`). What has a name in the language is named `Small` here.
 use Rattle.std.specs.Prelude.{◌≡◌, Bool, true, false, ◌&&◌, ◌||◌, List, [], ◌∷◌, codes}
 use Rattle.swc_ecma_parser_common.specs.declared.span.Span.{Span}
