@@ -47,13 +47,3 @@ pub fn nodes(alloc: Global, tree: &str) -> Result<String, AllocError> {
     }
     Ok(out)
 }
-
-#[test]
-fn nodes_are_found(rt: HostRuntime) -> Result<(), AllocError> {
-    let tree =
-        "A { span: Span { lo: BytePos(0), hi: BytePos(9) }, all: [B(C(D { span: Span { lo: BytePos(2), hi: BytePos(3) }, \
-        sym: Atom { text: \"x\" } }))] }";
-    let found = nodes(rt.alloc(), tree)?;
-    assert_eq!(rt; found.as_str(), "\nA 0..9\nB 2..3\nC 2..3\nD 2..3 x");
-    Ok(())
-}
