@@ -2,10 +2,10 @@
 //! times over each such list.
 
 use ecma_texts::answers::{Answer, discard, lacks_memory, refusal};
-use ecma_texts::asked::{Asked, ENTRIES, Entry};
-use ecma_texts::row::{asked, is_of_tokens, read, text};
+use ecma_row_format::asked::{Asked, ENTRIES, Entry};
+use ecma_row_format::row::{asked, is_of_tokens, read, text};
 use ecma_texts::sources::{error_at, let_go, listed, tokens};
-use ecma_texts::tally::Tally;
+use ecma_row_format::tally::Tally;
 use serde_json::Value;
 use std::alloc::{AllocError, Global};
 use swc_ecma_parser::ast::{ModuleItem, Program, Stmt};

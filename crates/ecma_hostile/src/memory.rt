@@ -5,10 +5,10 @@
 use ecma_texts::answers::{
     Answer, Found, ask_all, call, discard, lacks_memory, nothing, refusal, write_answer,
 };
-use ecma_texts::asked::{Asked, ENTRIES, Entry};
-use ecma_texts::row::{asked, is_of_tokens, read as read_row, text};
+use ecma_row_format::asked::{Asked, ENTRIES, Entry};
+use ecma_row_format::row::{asked, is_of_tokens, read as read_row, text};
 use ecma_texts::sources::{input, let_go, lexer, listed, read, tokens};
-use ecma_texts::tally::Tally;
+use ecma_row_format::tally::Tally;
 use serde_json::Value;
 use std::alloc::{AllocError, Global};
 use swc_ecma_parser::Parser;

@@ -2,9 +2,9 @@
 
 ghost use Rattle.std.specs.Prelude.{◌≡◌};
 
-use crate::check::lines_agree;
-use ecma_texts::asked::Asked;
-use ecma_texts::faults::{write_fault, write_faults};
+use ecma_row_format::asked::Asked;
+use ecma_row_format::faults::{write_fault, write_faults};
+use ecma_row_format::lines::lines_agree;
 use ecma_texts::sources::{let_go, lexer, listed, tokens};
 use serde_json::Value;
 use std::alloc::{AllocError, Global};

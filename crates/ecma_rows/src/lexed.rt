@@ -1,8 +1,7 @@
 //! The tokens of a text, in lines. A token is `KIND LOW..HIGH`, behind `LF` where a line break stands before it, with its text behind;
 //! an error token goes by the kind of its error.
 
-use crate::check::lines_agree;
-use ecma_texts::answers::END;
+use ecma_row_format::lines::{END, lines_agree};
 use ecma_texts::sources::{input, let_go};
 use serde_json::Value;
 use std::alloc::{AllocError, Global};

@@ -1,7 +1,8 @@
 //! Within how many levels a row's list is read.
 
-use ecma_texts::asked::Asked;
-use ecma_texts::row::number;
+use ecma_row_format::asked::Asked;
+use ecma_row_format::lines::is_clean;
+use ecma_row_format::row::number;
 use ecma_texts::sources::{let_go, listed, read, tokens};
 use serde_json::Value;
 use std::alloc::{AllocError, Global};
@@ -25,11 +26,6 @@ fn lines_within(
     };
     let found = read(alloc, listed(alloc, tokens, asked), asked)?;
     Ok(found.lines)
-}
-
-/// Whether no fault and no refusal stands in these lines.
-pub fn is_clean(lines: &str) -> bool {
-    !lines.lines().any(|line| line.starts_with("fault ") || line.starts_with("refused "))
 }
 
 /// How many tokens a row has.

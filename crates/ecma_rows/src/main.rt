@@ -6,11 +6,9 @@ mod check;
 mod expression;
 mod lexed;
 mod limits;
-mod nodes;
-mod parts;
 
 use ecma_hostile::{broken, memory};
-use ecma_texts::tally::Tally;
+use ecma_row_format::tally::Tally;
 use std::process::ExitCode;
 use std::rt::{Env, Files};
 use std::{env, fs, io};

@@ -1,17 +1,15 @@
 //! What a parser answers, and the lines that say so.
 
-use crate::asked::{Asked, Entry};
-use crate::faults::{write_fault, write_faults};
 use ecma_report::{Whole, lines_of_statement};
+use ecma_row_format::asked::{Asked, Entry};
+use ecma_row_format::faults::{write_fault, write_faults};
+use ecma_row_format::lines::END;
 use std::alloc::{AllocError, Global};
 use std::fmt::Debug;
 use swc_ecma_parser::Parser;
 use swc_ecma_parser::ast::{Module, ModuleItem, Program, Script, Stmt};
 use swc_ecma_parser::error::{Error, PResult, SyntaxError};
 use swc_ecma_parser::input::Tokens;
-
-/// What stands behind the lines of an answer.
-pub const END: &str = ".\n";
 
 /// The answer of one of the entries.
 pub enum Answer {

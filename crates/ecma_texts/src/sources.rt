@@ -1,9 +1,9 @@
 //! The sources that a text is read from: its lexer, one that keeps what is drawn, and a list of what was kept.
 
 use crate::answers::{Found, ask_all, nothing};
-use crate::asked::Asked;
-use crate::faults::write_faults;
-use crate::row::{list, text_of};
+use ecma_row_format::asked::Asked;
+use ecma_row_format::faults::write_faults;
+use ecma_row_format::row::{list, text_of};
 use serde_json::Value;
 use std::alloc::{AllocError, Global};
 use swc_ecma_parser::Parser;

@@ -1,8 +1,8 @@
 //! Faults in lines: `LOW..HIGH KIND: TEXT`, and in parentheses behind it what the kind holds and its text does not say.
 
 use std::alloc::AllocError;
-use swc_ecma_parser::common::{Atom, Span};
-use swc_ecma_parser::error::{Error, Labelled, SyntaxError};
+use swc_ecma_parser_common::{Atom, Span};
+use swc_ecma_parser_error::{Error, Labelled, SyntaxError};
 
 /// Writes a name with what a kind holds.
 fn write_name(out: &mut String, name: &str, text: &Atom) -> Result<(), AllocError> {

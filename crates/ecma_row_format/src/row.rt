@@ -3,7 +3,7 @@
 use crate::asked::{Asked, Code, Entry, turn_on};
 use serde_json::Value;
 use std::alloc::{AllocError, Global};
-use swc_ecma_parser::input::EsSyntax;
+use swc_ecma_parser_input::EsSyntax;
 
 /// The list under a name; an empty one where there is none.
 pub fn list<'a>(row: &'a Value, name: &str) -> &'a [Value] {

@@ -1,6 +1,6 @@
 //! What is asked of a parser.
 
-use swc_ecma_parser::input::{Context, EsSyntax};
+use swc_ecma_parser_input::{Context, EsSyntax};
 
 /// One of the parser's entries.
 #[derive(Clone, Copy, Debug, PartialEq, Eq)]
