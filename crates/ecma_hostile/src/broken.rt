@@ -312,7 +312,22 @@ fn try_entries(
     Ok(holds)
 }
 
-/// Breaks a list at each place in each way.
+/// Breaks a list between two parts in each way.
+fn break_between(
+    alloc: Global,
+    out: &mut String,
+    tally: &mut Tally,
+    front: &[TokenAndSpan],
+    rest: &[TokenAndSpan],
+    asked: Asked,
+) -> Result<(), AllocError> {
+    for how in BREAKS {
+        tally.count(try_entries(alloc, out, front, rest, how, asked)?);
+    }
+    Ok(())
+}
+
+/// Breaks a list at each place.
 fn break_list(
     alloc: Global,
     out: &mut String,
@@ -321,9 +336,8 @@ fn break_list(
     asked: Asked,
 ) -> Result<(), AllocError> {
     for place in 0..=tokens.len() {
-        let (front, rest) = tokens.split_at(place);
-        for how in BREAKS {
-            tally.count(try_entries(alloc, out, front, rest, how, asked)?);
+        if let Some((front, rest)) = tokens.split_at_checked(place) {
+            break_between(alloc, out, tally, front, rest, asked)?;
         }
     }
     Ok(())
