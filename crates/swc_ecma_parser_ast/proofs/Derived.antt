@@ -310,7 +310,7 @@ derived_assign_op o_assign_op.OrAssign o_assign_op.OrAssign = refl
 derived_assign_op o_assign_op.NullishAssign o_assign_op.NullishAssign = refl
 derived_assign_op _ _ = refl
 
-derived_binary_op : (k l : BinaryOp) → i_binary_op.ghosts.eq k l ≡ alike (put_binary k) (put_binary l)
+pub derived_binary_op : (k l : BinaryOp) → i_binary_op.ghosts.eq k l ≡ alike (put_binary k) (put_binary l)
 derived_binary_op o_binary_op.EqEq o_binary_op.EqEq = refl
 derived_binary_op o_binary_op.NotEq o_binary_op.NotEq = refl
 derived_binary_op o_binary_op.EqEqEq o_binary_op.EqEqEq = refl

@@ -3,6 +3,7 @@ pub mod DerivedItem
 pub mod Differ
 pub mod Apart
 pub mod Alike
+pub mod Links
 pub mod AlikeItem
 pub mod Measured
 pub mod Directive

@@ -70,7 +70,7 @@ both : {l m n : ℕ} → l ≤ n → m ≤ n → max l m ≤ n
 both h k = omega (arith, h, k)
 
 -- what is marked is no smaller
-marked_size : (b : Bool) (t : Tree) → tree_size t ≤ tree_size (marked b t)
+pub marked_size : (b : Bool) (t : Tree) → tree_size t ≤ tree_size (marked b t)
 marked_size true t = omega arith
 marked_size false t = omega arith
 

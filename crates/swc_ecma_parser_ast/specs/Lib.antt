@@ -1,3 +1,4 @@
+pub mod Chain
 pub mod Parts
 pub mod View
 pub mod Nodes

@@ -4,6 +4,7 @@
 mod boxed;
 mod branch;
 mod call;
+mod chain;
 mod class;
 mod decl;
 mod discard;

@@ -1,15 +1,17 @@
 //! `Node` holds what is on a way from a tree back to a tree: a boxed expression, or a list of statements.
 //! A handle such as `ExprBox` says which of them a node holds.
 
-ghost use Rattle.std.specs.Prelude.{◌≡◌, false, IfOk, MatchOption, map};
+ghost use Rattle.std.specs.Prelude.{◌≡◌, false, IfOk, IfSome, MatchOption, Some, map};
 ghost use Rattle.swc_ecma_parser_model.specs.Tree.{listed};
 ghost use Rattle.swc_ecma_parser_model.specs.Kinds.{is_expr, is_pat, is_stmt, is_list};
 ghost use Rattle.swc_ecma_parser_ast.specs.View.{view_expr, view_pat, view_stmt};
 ghost use Rattle.swc_ecma_parser_ast.specs.Nodes.{view_any};
+ghost use Rattle.swc_ecma_parser_ast.specs.Chain as chain;
 ghost use Rattle.swc_ecma_parser_ast.specs.Equal as equal;
 
 use crate::branch::IfStmt;
 use crate::call::{CallExpr, Callee, ExprOrSpread, MemberExpr, MemberProp};
+use crate::chain::{are_alike_exprs, are_alike_stmts, expr_rest, stmt_rest};
 use crate::expr::{BinExpr, Expr};
 use crate::pat::Pat;
 use crate::stmt::Stmt;
@@ -20,25 +22,25 @@ use swc_ecma_parser_common::{BytePos, Span, Spanned};
 /// A boxed expression.
 #[derive(Debug, PartialEq, Eq, Drop)]
 pub struct ExprBox<N = Node> {
-    node: N,
+    pub(crate) node: N,
 }
 
 /// A boxed pattern.
 #[derive(Debug, PartialEq, Eq, Drop)]
 pub struct PatBox<N = Node> {
-    node: N,
+    pub(crate) node: N,
 }
 
 /// A boxed statement.
 #[derive(Debug, PartialEq, Eq, Drop)]
 pub struct StmtBox<N = Node> {
-    node: N,
+    pub(crate) node: N,
 }
 
 /// A list of statements.
 #[derive(Debug, PartialEq, Eq, Drop)]
 pub struct StmtList<N = Node> {
-    node: N,
+    pub(crate) node: N,
 }
 
 /// What a node may hold.
@@ -52,6 +54,9 @@ pub enum Any {
 }
 
 /// A part of a tree, of any kind. Contracts see it as the model's tree, which is never one that is left out.
+///
+/// A chain on the left (`a + a + ..`, `a.a.a..`, `f()()..`) or of `else if` may be longer than any limit on levels. It is compared
+/// and let go in a loop.
 #[cycle(ast)]
 #[derive(Debug)]
 pub struct Node {
@@ -133,6 +138,19 @@ impl Drop for Node {
                 },
                 Any::Stmts(stmts) => return discard_stmts(Box::into_inner(stmts)),
             }
+        }
+    }
+}
+
+impl Any {
+    /// The part on which a chain goes on, if this is a link of one.
+    fn rest(&self) -> Option<&Node>
+        ensures { IfSome result (λ n. chain.rest_of_any self.now ≡ Some n.now) }
+    {
+        match self {
+            Any::Expr(x) => expr_rest(x),
+            Any::Stmt(x) => stmt_rest(x),
+            _ => None,
         }
     }
 }
@@ -230,9 +248,40 @@ impl PartialEq for Node {
 
     ghost laws = { same_held_laws };
 
+    /// Two chains are compared link by link, in a loop.
     #[cycle(ast)]
     fn eq(&self, other: &Node) -> bool {
-        self.inner == other.inner
+        let mut left = self;
+        let mut right = other;
+        while let Some(left_rest) = left.inner.rest() {
+            let Some(right_rest) = right.inner.rest() else {
+                break;
+            };
+            if !are_alike_links(&left.inner, &right.inner) {
+                return false;
+            }
+            left = left_rest;
+            right = right_rest;
+        }
+        left.inner == right.inner
+    }
+}
+
+/// Whether two links of chains are of one kind, and alike but for the parts on which they go on.
+#[cycle(ast)]
+fn are_alike_links(a: &Any, b: &Any) -> bool
+    ensures { result ≡ chain.alike_links a.now b.now }
+{
+    match a {
+        Any::Expr(a) => match b {
+            Any::Expr(b) => are_alike_exprs(a, b),
+            _ => false,
+        },
+        Any::Stmt(a) => match b {
+            Any::Stmt(b) => are_alike_stmts(a, b),
+            _ => false,
+        },
+        _ => false,
     }
 }
 

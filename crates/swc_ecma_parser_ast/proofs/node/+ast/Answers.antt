@@ -1,4 +1,7 @@
 use Rattle.std.proofs.Common.{sym, map, ◌∙◌, ◌+◌, arith, rules}
+use Rattle.swc_ecma_parser_ast.specs.Falls.{le_any}
+use Rattle.swc_ecma_parser_model.specs.Held.{same_held}
+use Rattle.swc_ecma_parser_ast.proofs.Links.{below, differ, falls, go_on}
 use Rattle.swc_ecma_parser_ast.specs.declared.node.Node.TheShapes.{weighed-Any-Expr-0, weighed-Any-Pat-0, weighed-Any-Stmt-0, weighed-Any-Stmts-0}
 use Rattle.swc_ecma_parser_ast.specs.declared.node.Node.TheView as node
 use Rattle.swc_ecma_parser_model.specs.Tree.{trees}
@@ -99,3 +102,52 @@ AnyPartialEq::eq-returns-in-Pat-other-4 t c =
 pub AnyPartialEq::eq-returns-in-Stmt-other-4 : goal.AnyPartialEq::eq-returns-in-Stmt-other-4
 AnyPartialEq::eq-returns-in-Stmt-other-4 t c =
     rw (c.in-Stmts.is, c.in-Stmt-other-4.is) (sym (list_stmt (trees (map view_stmt c.in-Stmts.a.value.items)) c.in-Stmt-other-4.field-0.value))
+
+pub are_alike_links-are_alike_exprs-requires : goal.are_alike_links-are_alike_exprs-requires
+are_alike_links-are_alike_exprs-requires t c κs =
+    let h = rw (c.in-Expr.is, c.in-Expr-b.is) at c.decreases in
+    let p = doubled weighed-Any-Expr-0 (λ y. node.size y + 1) c.in-Expr.a in
+    let q = doubled weighed-Any-Expr-0 (λ y. node.size y + 1) c.in-Expr-b.b in
+    (((omega arith, (omega arith, tt)), tt), search rules)
+
+pub are_alike_links-are_alike_stmts-requires : goal.are_alike_links-are_alike_stmts-requires
+are_alike_links-are_alike_stmts-requires t c κs =
+    let h = rw (c.in-Stmt.is, c.in-Stmt-b.is) at c.decreases in
+    let p = doubled weighed-Any-Stmt-0 (λ y. node.size y + 1) c.in-Stmt.a in
+    let q = doubled weighed-Any-Stmt-0 (λ y. node.size y + 1) c.in-Stmt-b.b in
+    (((omega arith, (omega arith, tt)), tt), search rules)
+
+pub NodePartialEq::eq-are_alike_links-requires : goal.NodePartialEq::eq-are_alike_links-requires
+NodePartialEq::eq-are_alike_links-requires t c =
+    let b = below c.left.inside.inner c.right.inside.inner _ _ c.left.view_is c.right.view_is in
+    (omega (arith, b, c.loop-left_rest.invariant.in_left, c.loop-left_rest.invariant.in_right, c.decreases), tt)
+
+pub NodePartialEq::eq-returns-then-not-are_alike_links : goal.NodePartialEq::eq-returns-then-not-are_alike_links
+NodePartialEq::eq-returns-then-not-are_alike_links t c =
+    differ c.left.inside.inner c.right.inside.inner _ _ _ _ c.left.view_is c.right.view_is c.in-Some.ensures c.in-Some-rest.ensures
+    (sym c.are_alike_links.ensures ∙ c.if-not-are_alike_links.true)
+    ∙ c.loop-left_rest.invariant.alike
+
+pub NodePartialEq::eq-loop-left_rest-preserved : goal.NodePartialEq::eq-loop-left_rest-preserved
+NodePartialEq::eq-loop-left_rest-preserved t c =
+    let l = falls c.left.inside.inner _ _ c.left.view_is c.in-Some.ensures in
+    let r = falls c.right.inside.inner _ _ c.right.view_is c.in-Some-rest.ensures in
+    record {
+      alike =
+          go_on c.left.inside.inner c.right.inside.inner _ _ _ _ c.left.view_is c.right.view_is c.in-Some.ensures c.in-Some-rest.ensures
+          (sym c.are_alike_links.ensures ∙ c.if-not-are_alike_links.false)
+          ∙ c.loop-left_rest.invariant.alike;
+      in_left = omega (arith, l, c.loop-left_rest.invariant.in_left);
+      in_right = omega (arith, r, c.loop-left_rest.invariant.in_right);
+    }
+
+pub NodePartialEq::eq-loop-left_rest-smaller : goal.NodePartialEq::eq-loop-left_rest-smaller
+NodePartialEq::eq-loop-left_rest-smaller t c = falls c.left.inside.inner _ _ c.left.view_is c.in-Some.ensures
+
+pub NodePartialEq::eq-eq-requires : goal.NodePartialEq::eq-eq-requires
+NodePartialEq::eq-eq-requires t c =
+    let b = below c.left.inside.inner c.right-2.inside.inner _ _ c.left.view_is c.right-2.view_is in
+    (omega (arith, b, c.loop-left_rest.invariant.in_left, c.loop-left_rest.invariant.in_right, c.decreases), tt)
+
+pub NodePartialEq::eq-returns : goal.NodePartialEq::eq-returns
+NodePartialEq::eq-returns t c = c.eq.ensures ∙ (λ i. same_held (c.left.view_is i) (c.right-2.view_is i)) ∙ c.loop-left_rest.invariant.alike

@@ -1,0 +1,88 @@
+//! Links of chains: on the left (`a + a + ..`, `a.a.a..`, `f()()..`), or of `else if`. No limit on levels bounds a chain, so it is
+//! gone along in a loop, one link at a time.
+
+ghost use Rattle.std.specs.Prelude.{◌≡◌, IfSome, Some};
+ghost use Rattle.swc_ecma_parser_ast.specs.Chain as chain;
+
+use crate::branch::IfStmt;
+use crate::call::{CallExpr, Callee, MemberExpr};
+use crate::expr::{BinExpr, Expr};
+use crate::stmt::Stmt;
+
+/// The part on which a chain goes on, if this is a link of one.
+pub(crate) fn expr_rest<N>(expr: &Expr<N>) -> Option<&N>
+    ensures { IfSome result (λ n. chain.rest_of_expr expr.now ≡ Some n.now) }
+{
+    match expr {
+        Expr::Bin(x) => Some(&x.left.node),
+        Expr::Member(x) => Some(&x.obj.node),
+        Expr::Call(x) => match &x.callee {
+            Callee::Expr(callee) => Some(&callee.node),
+            _ => None,
+        },
+        _ => None,
+    }
+}
+
+/// As `expr_rest`.
+pub(crate) fn stmt_rest<N>(stmt: &Stmt<N>) -> Option<&N>
+    ensures { IfSome result (λ n. chain.rest_of_stmt stmt.now ≡ Some n.now) }
+{
+    match stmt {
+        Stmt::If(x) => match &x.alt {
+            Some(alt) => Some(&alt.node),
+            None => None,
+        },
+        _ => None,
+    }
+}
+
+/// Whether two expressions are links of one kind, alike but for the parts on which they go on.
+pub(crate) fn are_alike_exprs<N: PartialEq>(a: &Box<Expr<N>>, b: &Box<Expr<N>>) -> bool
+    ensures { result ≡ chain.alike_exprs N.eq a.now.value b.now.value }
+{
+    match (&**a, &**b) {
+        (Expr::Bin(x), Expr::Bin(y)) => are_alike_bins(x, y),
+        (Expr::Member(x), Expr::Member(y)) => are_alike_members(x, y),
+        (Expr::Call(x), Expr::Call(y)) => are_alike_calls(x, y),
+        _ => false,
+    }
+}
+
+/// As `are_alike_exprs`.
+pub(crate) fn are_alike_stmts<N: PartialEq>(a: &Box<Stmt<N>>, b: &Box<Stmt<N>>) -> bool
+    ensures { result ≡ chain.alike_stmts N.eq a.now.value b.now.value }
+{
+    match (&**a, &**b) {
+        (Stmt::If(x), Stmt::If(y)) => are_alike_ifs(x, y),
+        _ => false,
+    }
+}
+
+/// Whether two operators are alike but for what stands left of them.
+fn are_alike_bins<N: PartialEq>(a: &BinExpr<N>, b: &BinExpr<N>) -> bool
+    ensures { result ≡ chain.alike_bins N.eq a.now b.now }
+{
+    a.span == b.span && a.op == b.op && a.right == b.right
+}
+
+/// Whether two members are alike but for what they are members of.
+fn are_alike_members<N: PartialEq>(a: &MemberExpr<N>, b: &MemberExpr<N>) -> bool
+    ensures { result ≡ chain.alike_members N.eq a.now b.now }
+{
+    a.span == b.span && a.prop == b.prop
+}
+
+/// Whether two calls are alike but for what they call.
+fn are_alike_calls<N: PartialEq>(a: &CallExpr<N>, b: &CallExpr<N>) -> bool
+    ensures { result ≡ chain.alike_calls N.eq a.now b.now }
+{
+    a.span == b.span && a.args == b.args
+}
+
+/// Whether two `if` are alike but for what stands behind `else`.
+fn are_alike_ifs<N: PartialEq>(a: &IfStmt<N>, b: &IfStmt<N>) -> bool
+    ensures { result ≡ chain.alike_ifs N.eq a.now b.now }
+{
+    a.span == b.span && a.test == b.test && a.cons == b.cons
+}
