@@ -67,19 +67,18 @@ impl<T: EqIgnoreSpan> EqIgnoreSpan for Vec<T> {
     ghost like = { λ a b. pointwise T.like a.items b.items };
 
     fn eq_ignore_span(&self, other: &Vec<T>) -> bool {
-        if self.len() != other.len() {
-            return false;
-        }
         let mut left = self.iter();
         let mut right = other.iter();
-        while let Some(a) = left.next() {
-            let Some(b) = right.next() else {
-                return false;
-            };
-            if !a.eq_ignore_span(b) {
-                return false;
+        loop {
+            match (left.next(), right.next()) {
+                (None, None) => return true,
+                (Some(a), Some(b)) => {
+                    if !a.eq_ignore_span(b) {
+                        return false;
+                    }
+                }
+                _ => return false,
             }
         }
-        true
     }
 }
