@@ -6,6 +6,9 @@ mod boxed;
 mod directive;
 mod output;
 mod parameters;
+mod patterns;
+mod places;
+mod statements;
 
 pub use directive::{FromStmt, IsDirective};
 pub use output::OutputType;
