@@ -1,7 +1,5 @@
 //! Patterns and parameters of functions and constructors.
 
-ghost use Rattle.std.specs.Prelude.{◌≡◌};
-
 use crate::parameters::Parameter;
 use swc_ecma_parser_ast::{Param, ParamOrTsParamProp, Pat};
 
@@ -24,7 +22,10 @@ impl Parameter for Param {
     ghost parameter = { view_param };
 
     fn is_plain(&self) -> bool {
-        self.pat.is_plain()
+        match &self.pat {
+            Pat::Ident(_name) => true,
+            _ => false,
+        }
     }
 }
 

@@ -152,8 +152,9 @@ impl OutputType<Ast> for ExportDefaultDecl {
         ident: Option<Ident>,
         function: Box<Function>,
     ) -> Result<ExportDefaultDecl, SyntaxError> {
+        let inner = function.span;
         let decl = DefaultDecl::Fn(FnExpr {
-            span: function.span,
+            span: inner,
             ident,
             function,
         });
@@ -166,8 +167,9 @@ impl OutputType<Ast> for ExportDefaultDecl {
         ident: Option<Ident>,
         class: Box<Class>,
     ) -> Result<ExportDefaultDecl, SyntaxError> {
+        let inner = class.span;
         let decl = DefaultDecl::Class(ClassExpr {
-            span: class.span,
+            span: inner,
             ident,
             class,
         });

@@ -1,7 +1,5 @@
 //! Statements, their handles and items of modules, as what can stand in the place of a statement.
 
-ghost use Rattle.std.specs.Prelude.{◌≡◌, IfOk, IfErr};
-
 use crate::directive::{FromStmt, IsDirective};
 use std::alloc::Global;
 use swc_ecma_parser_ast::{ModuleItem, Stmt, StmtBox};
@@ -50,7 +48,10 @@ impl IsDirective for StmtBox {
 
 impl FromStmt<Ast> for StmtBox {
     fn from_stmt(alloc: Global, stmt: Stmt) -> PResult<StmtBox> {
-        Ok(StmtBox::new(alloc, stmt)?)
+        match StmtBox::new(alloc, stmt) {
+            Ok(handle) => Ok(handle),
+            Err(e) => Err(e.into()),
+        }
     }
 }
 
