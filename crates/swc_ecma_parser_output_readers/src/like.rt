@@ -26,12 +26,7 @@ pub trait StmtLikeParser<T: Trees, Y: FromStmt<T>>: Source {
     ghost item: { ℕ → Position → Reader Tree };
 
     /// An import or export, or what has decorators before it.
-    fn handle_import_export(
-        &mut self,
-        t: &MakerOf<T>,
-        limit: usize,
-        at: Position,
-    ) -> PResult<Y>
+    fn handle_import_export(&mut self, t: &MakerOf<T>, limit: usize, at: Position) -> PResult<Y>
         requires { items.begins_item (Self.seen self.old).code (Self.seen self.old).at ≡ true }
         ensures { GivesAs Y.held (item limit at (Self.seen self.old)) result (Self.seen self.new) };
 
