@@ -7,4 +7,4 @@ pub returns-clause-figures : goal.returns-clause-figures
 returns-clause-figures g c = some_text c.report_on.result c.as_str.result.now c.report_on.ensures.figures
 
 pub returns-clause-bytes : goal.returns-clause-bytes
-returns-clause-bytes g c = enough c.report_on.result c.as_str.result.now c.args.command.bytes c.report_on.ensures.figures (search rules)
+returns-clause-bytes g c = enough c.report_on.result c.as_str.result.now _ c.report_on.ensures.figures (search rules)
