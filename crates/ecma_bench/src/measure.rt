@@ -93,7 +93,7 @@ fn report_on<'a, R: Files + CpuClock + AllocGlobal>(
     command: Command<'a>,
     text: &str,
 ) -> Result<Report<'a>, Fault>
-    ensures command { IfOk result (λ report. report.command ≡ command) }
+    ensures command { IfOk result (λ report. report.command ≡ command.entry) }
     ensures figures { IfOk result (figures.Tells text.now) }
 {
     let lexing = lexing_of(rt, text)?;
@@ -114,8 +114,8 @@ pub fn measure<'a, R: Files + CpuClock + AllocGlobal>(
     rt: &R,
     command: Command<'a>,
 ) -> Result<Report<'a>, Fault>
-    ensures command { IfOk result (λ report. report.command ≡ command) }
-    ensures bytes { IfOk result (λ report. least_of command.source ≤ report.bytes) }
+    ensures command { IfOk result (λ report. report.command ≡ command.entry) }
+    ensures bytes { IfOk result (λ report. least_of command.entry.source ≤ report.bytes) }
     ensures figures { IfOk result (λ report. (text : List ℕ) × figures.Tells text report) }
 {
     let text = text_of(rt, command.source)?;

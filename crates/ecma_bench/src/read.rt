@@ -27,7 +27,7 @@ fn text_of_file<R: Files + AllocGlobal>(rt: &R, name: &str) -> Result<String, Fa
 
 /// The text that is asked for.
 pub fn text_of<R: Files + AllocGlobal>(rt: &R, source: Source<'_>) -> Result<String, Fault>
-    ensures { IfOk result (λ text. least_of source ≤ string_len text) }
+    ensures { IfOk result (λ text. least_of source.entry ≤ string_len text) }
 {
     match source {
         Source::Made { shape, bytes } => Ok(shape.text(rt.alloc(), bytes)?),
