@@ -77,8 +77,8 @@ module _ (text : List ℕ) (s t u : State) (b : s ≡ start_of text) (i : IsEnte
   labels : u.scope.labels ≡ []
   labels = ap (λ o. o.labels) i.scope ∙ ap (λ o. o.scope.labels) b
 
-  faults : u.faults ≡ []
-  faults = settled (unmarked s) u i (ap (λ o. o.notes.held_back) b) ∙ ap (λ o. o.faults) b
+  none_before : u.faults ≡ []
+  none_before = settled (unmarked s) u i (ap (λ o. o.notes.held_back) b) ∙ ap (λ o. o.faults) b
 
   there : (x : Tree) (d : Place) → programs.Spells 1000 programs.«module» outside [] x (first_place text) d → programs.Spells 1000 programs.«module» u.code u.scope.labels x u.at d
   there x d p =
@@ -95,8 +95,8 @@ module _ (text : List ℕ) (s t u : State) (b : s ≡ start_of text) (i : IsEnte
   decided_module : (r : Result (Program Held) Error) → DecidesModule view_program 1000 u r t → Decided (SpellsModule text) r t.faults
   unfolding SpellsModule
   decided_module (Ok y) h = (
-    λ n. (t.at, back (view_program y) t.at ((h tt (view_program y) t.at).0 (refl, refl, n ∙ sym faults))),
-    λ x p. let (same, at_end, none) = (h tt x p.0).1 (there x p.0 p.1) in (sym same, none ∙ faults),
+    λ n. (t.at, back (view_program y) t.at ((h tt (view_program y) t.at).0 (refl, refl, n ∙ sym none_before))),
+    λ x p. let (same, at_end, none) = (h tt x p.0).1 (there x p.0 p.1) in (sym same, none ∙ none_before),
   )
   decided_module (Err e) h = λ m x p. (h m x p.0).1 (there x p.0 p.1)
 

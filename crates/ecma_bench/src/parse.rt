@@ -95,8 +95,14 @@ fn read<I: Tokens>(parser: &mut Parser<I>, goal: Goal) -> PResult<Program>
         × DecidesModule view_program parser.old.limit u result parser.new.state }
 {
     match goal {
-        Goal::Script => Ok(Program::Script(parser.parse_script()?)),
-        Goal::Module => Ok(Program::Module(parser.parse_module()?)),
+        Goal::Script => match parser.parse_script() {
+            Ok(script) => Ok(Program::Script(script)),
+            Err(error) => Err(error),
+        },
+        Goal::Module => match parser.parse_module() {
+            Ok(module) => Ok(Program::Module(module)),
+            Err(error) => Err(error),
+        },
     }
 }
 

@@ -15,7 +15,7 @@ returns-clause-clean c =
     ∙ begins _ _ c.args.text.now _ c.default.ensures c.in_ok-input.ensures.start c.in_ok-input.ensures.text in
     let decided : Decided (SpellsAs c.args.goal c.args.text.now) c.read-answer.result t.faults = decided_as c.args.goal c.args.text.now s t _ c.read-answer.result at_text
     c.new-parser.ensures.limit c.read-answer.ensures.script c.read-answer.ensures.«module» in
-    clean_is_read _ c.read-answer.result c.as_slice.result.now t.faults decided (ap faults_of c.as_slice.ensures.value ∙ c.take_errors-faults.ensures.errors) c.clean.result c.clean.ensures.clean
+    clean_is_read (SpellsAs c.args.goal c.args.text.now) c.read-answer.result c.as_slice.result.now t.faults decided (ap faults_of c.as_slice.ensures.value ∙ c.take_errors-faults.ensures.errors) c.clean.result c.clean.ensures.clean
 
 pub returns-clause-spelled : goal.returns-clause-spelled
 returns-clause-spelled c =
@@ -26,5 +26,5 @@ returns-clause-spelled c =
     ∙ begins _ _ c.args.text.now _ c.default.ensures c.in_ok-input.ensures.start c.in_ok-input.ensures.text in
     let decided : Decided (SpellsAs c.args.goal c.args.text.now) c.read-answer.result t.faults = decided_as c.args.goal c.args.text.now s t _ c.read-answer.result at_text
     c.new-parser.ensures.limit c.read-answer.ensures.script c.read-answer.ensures.«module» in
-    read_is_clean _ c.read-answer.result c.as_slice.result.now t.faults decided (ap faults_of c.as_slice.ensures.value ∙ c.take_errors-faults.ensures.errors) c.clean.result
+    read_is_clean (SpellsAs c.args.goal c.args.text.now) c.read-answer.result c.as_slice.result.now t.faults decided (ap faults_of c.as_slice.ensures.value ∙ c.take_errors-faults.ensures.errors) c.clean.result
     c.clean.ensures.tree c.clean.ensures.refused
