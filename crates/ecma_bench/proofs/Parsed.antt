@@ -16,7 +16,7 @@ use Rattle.swc_ecma_parser_model.specs.Held.{Held}
 use Rattle.swc_ecma_parser_model.specs.Tree.{Tree}
 use Rattle.swc_ecma_parser_ast.specs.declared.script.Script.{Script}
 use Rattle.swc_ecma_parser_ast.specs.View.{view_script}
-use Rattle.swc_ecma_parser_grammar.specs.Entries.{script_code}
+use Rattle.swc_ecma_parser_grammar.specs.language.Contexts.{script_code}
 use Rattle.swc_ecma_parser_grammar.specs.language.Programs as programs
 use Rattle.swc_ecma_parser_grammar.specs.language.Programs.{ReadsEntry}
 use Rattle.swc_ecma_parser_grammar.specs.Walk.{walk, env_of}

@@ -2,7 +2,7 @@
 use Rattle.std.proofs.Common.{◌≡◌, ◌<◌, Bool, false, List, [], ◌∷◌, ◌++◌, length, Ok, sym, ap, ◌∙◌}
 use Rattle.swc_ecma_parser_input.specs.Place.{Place}
 use Rattle.swc_ecma_parser_model.specs.Tree.{Tree}
-use Rattle.swc_ecma_parser_grammar.specs.Reads.{directed, directs_on}
+use Rattle.swc_ecma_parser_grammar.specs.language.Items.{directed, directs_on}
 use Rattle.swc_ecma_parser_reader.specs.State.{State, Reader, coded, loop}
 use Rattle.swc_ecma_parser_reader.specs.Reader.{directs, items_turn}
 use Rattle.swc_ecma_parser_reader.proofs.Loops.{directs_push, items_more}

@@ -4,7 +4,7 @@ ghost use Rattle.std.specs.Prelude.{◌≡◌, true, false, map, IfOk, IfErr};
 ghost use Rattle.swc_ecma_parser_error.specs.Kind as kinds;
 ghost use Rattle.swc_ecma_parser_error.specs.Kind.{kind_of, IsOutOfMemory};
 ghost use Rattle.swc_ecma_parser_bodies.specs.Bodies.{ends_of, directs_of};
-ghost use Rattle.swc_ecma_parser_grammar.specs.Reads.{directed, directs_on, nested_item};
+ghost use Rattle.swc_ecma_parser_grammar.specs.language.Items.{directed, directs_on, nested_item};
 ghost use Rattle.swc_ecma_parser_inner.specs.Nests.{Nests};
 ghost use Rattle.swc_ecma_parser_reader.specs.Reader as rules;
 ghost use Rattle.swc_ecma_parser_reader.specs.State as reader;

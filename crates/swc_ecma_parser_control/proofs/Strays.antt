@@ -1,6 +1,6 @@
 -- A catch and a finally that are dropped lose nothing.
 use Rattle.std.proofs.Common.{ℕ}
-use Rattle.swc_ecma_parser_grammar.specs.Reads.{nested_item}
+use Rattle.swc_ecma_parser_grammar.specs.language.Items.{nested_item}
 use Rattle.swc_ecma_parser_reader.specs.Reader.{stmt, pattern, handler, finalizer}
 use Rattle.swc_ecma_parser_reader.proofs.Behind.{Passes}
 use Rattle.swc_ecma_parser_reader.proofs.Keeps.{stmt_keeps, pattern_keeps, handler_keeps, finalizer_keeps}

@@ -5,7 +5,7 @@ ghost use Rattle.swc_ecma_parser_classes.specs.Named.{class_expr_of};
 ghost use Rattle.swc_ecma_parser_core.specs.Covering as covering;
 ghost use Rattle.swc_ecma_parser_grammar.specs.Follows as follows;
 ghost use Rattle.swc_ecma_parser_grammar.specs.Looks as looks;
-ghost use Rattle.swc_ecma_parser_grammar.specs.Reads.{nested_item};
+ghost use Rattle.swc_ecma_parser_grammar.specs.language.Items.{nested_item};
 ghost use Rattle.swc_ecma_parser_grammar.specs.language.Goals.{expression as expression_class, left_side};
 ghost use Rattle.swc_ecma_parser_model.specs.declared.leaves.VarDeclKind.TheVariants as decl;
 ghost use Rattle.swc_ecma_parser_token.specs.declared.kind.TokenKind.TheVariants as kind;

@@ -1,7 +1,7 @@
 //! Scripts: ECMA-262, section 16.1.
 
 ghost use Rattle.std.specs.Prelude.{◌≡◌, true, [], map, IsOk};
-ghost use Rattle.swc_ecma_parser_grammar.specs.Reads.{top_item};
+ghost use Rattle.swc_ecma_parser_grammar.specs.language.Items.{top_item};
 ghost use Rattle.swc_ecma_parser_reader.specs.Reader as rules;
 ghost use Rattle.swc_ecma_parser_reader.specs.State.{Gives, GivesAs};
 

@@ -16,7 +16,7 @@ use Rattle.swc_ecma_parser_grammar.specs.language.Reads.{Reads}
 use Rattle.swc_ecma_parser_grammar.proofs.language.progress.Steps.{Onward, stays, goes, one}
 use Rattle.swc_ecma_parser_grammar.proofs.language.progress.Statements.{progress}
 use Rattle.swc_ecma_parser_grammar.proofs.Tests.{and_both}
-use Rattle.swc_ecma_parser_grammar.specs.Supported.{supported}
+use Rattle.swc_ecma_parser_grammar.specs.scaffold.Supported.{supported}
 use Rattle.swc_ecma_parser_module_reader.specs.Supported.{supported_item, all_supported_items, supported_module, supported_program}
 use Rattle.swc_ecma_parser_exactness.specs.Supports.{Whole, WholeGoal, Ordered, needs_order, any_needs_order, needs_order_in, supported_entry, ordered_entry, ReadEntryIsSupported, ReadProgramIsSupported}
 use Rattle.swc_ecma_parser_exactness.proofs.Wholes.{list_whole}

@@ -22,7 +22,7 @@ use Rattle.swc_ecma_parser_grammar.specs.language.Laws.{Advances, begin, end}
 use Rattle.swc_ecma_parser_grammar.proofs.Tests.{and_both}
 use Rattle.swc_ecma_parser_grammar.proofs.language.progress.Steps.{any_token_to}
 use Rattle.swc_ecma_parser_grammar.proofs.language.progress.Expressions as progress
-use Rattle.swc_ecma_parser_grammar.specs.Supported.{all_supported}
+use Rattle.swc_ecma_parser_grammar.specs.scaffold.Supported.{all_supported}
 use Rattle.swc_ecma_parser_module_reader.specs.Supported.{on_one_side, supported_beside, supported_decorated}
 use Rattle.swc_ecma_parser_module_reader.specs.Decorated.{none_before}
 use Rattle.swc_ecma_parser_exactness.specs.Supports.{WholeGoal, Ordered, is_astride}

@@ -9,12 +9,11 @@ use Rattle.swc_ecma_parser_model.specs.Tree.{Tree, listed}
 use Rattle.swc_ecma_parser_grammar.specs.Looks.{span_at, spanned}
 use Rattle.swc_ecma_parser_grammar.specs.Names.{Code}
 use Rattle.swc_ecma_parser_grammar.specs.Parameters.{parameters}
-use Rattle.swc_ecma_parser_grammar.specs.Reads.{with_in}
+use Rattle.swc_ecma_parser_grammar.specs.language.PatternItems.{PatternItemRule}
 use Rattle.swc_ecma_parser_grammar.specs.language.Goals.{Goal, Class, Purpose, binding, expression, assignment, operator, unary, left_side, callee, expr_goal, callee_goal, pattern_goal, element_goal}
-use Rattle.swc_ecma_parser_grammar.specs.language.Contexts.{in_arrow}
+use Rattle.swc_ecma_parser_grammar.specs.language.Contexts.{in_arrow, with_in}
 use Rattle.swc_ecma_parser_grammar.specs.language.Operators.{precedence}
 use Rattle.swc_ecma_parser_grammar.specs.language.Parts.{ElementRule}
-use Rattle.swc_ecma_parser_grammar.specs.language.Functions.{PatternItemRule}
 use Rattle.swc_ecma_parser_grammar.specs.language.Objects as objects
 use Rattle.swc_ecma_parser_grammar.specs.language.Objects.{PropertyRule}
 use Rattle.swc_ecma_parser_grammar.specs.language.LeftSides as left
@@ -26,7 +25,7 @@ use Rattle.swc_ecma_parser_grammar.specs.language.Expressions.{UnaryRule, Binary
 use Rattle.swc_ecma_parser_grammar.specs.language.Decorators as decorators
 use Rattle.swc_ecma_parser_grammar.specs.language.Decorators.{ChainRule, GroupRule, DecoratedRule}
 use Rattle.swc_ecma_parser_grammar.proofs.Tests.{and_both}
-use Rattle.swc_ecma_parser_grammar.specs.Supported.{supported}
+use Rattle.swc_ecma_parser_grammar.specs.scaffold.Supported.{supported}
 use Rattle.swc_ecma_parser_exactness.specs.Supports.{Whole, WholeGoal}
 use Rattle.swc_ecma_parser_exactness.proofs.Wholes.{as_form, both, three, WholeKey, EachWhole, each_as, list_whole, parameters_whole, listed_whole, separated_whole, elements_whole}
 use Rattle.swc_ecma_parser_exactness.proofs.Parts.{name_supported, WholeParts, key_whole, access_whole, element_whole, arguments_whole, block_whole, pattern_item_whole, patterns_whole, function_parts, function_whole, class_whole}

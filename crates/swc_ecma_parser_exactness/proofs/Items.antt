@@ -7,9 +7,8 @@ use Rattle.swc_ecma_parser_model.specs.Tree.{Tree, listed}
 use Rattle.swc_ecma_parser_grammar.specs.Looks.{spanned}
 use Rattle.swc_ecma_parser_grammar.specs.Names.{Code}
 use Rattle.swc_ecma_parser_grammar.specs.Parameters.{parameters}
-use Rattle.swc_ecma_parser_grammar.specs.Reads.{with_in}
 use Rattle.swc_ecma_parser_grammar.specs.language.Goals.{Goal, assignment, expr_goal, attributes_goal}
-use Rattle.swc_ecma_parser_grammar.specs.language.Contexts.{in_module}
+use Rattle.swc_ecma_parser_grammar.specs.language.Contexts.{in_module, with_in}
 use Rattle.swc_ecma_parser_grammar.specs.language.Items.{top_item}
 use Rattle.swc_ecma_parser_grammar.specs.language.ModuleParts as parts
 use Rattle.swc_ecma_parser_grammar.specs.language.ModuleParts.{AttributesRule}
@@ -21,7 +20,7 @@ use Rattle.swc_ecma_parser_grammar.specs.language.ModuleItems as items
 use Rattle.swc_ecma_parser_grammar.specs.language.ModuleItems.{ItemRule}
 use Rattle.swc_ecma_parser_grammar.specs.language.Laws.{Advances, begin, end}
 use Rattle.swc_ecma_parser_grammar.proofs.Tests.{and_both}
-use Rattle.swc_ecma_parser_grammar.specs.Supported.{supported}
+use Rattle.swc_ecma_parser_grammar.specs.scaffold.Supported.{supported}
 use Rattle.swc_ecma_parser_module_reader.specs.Supported.{supported_item}
 use Rattle.swc_ecma_parser_exactness.specs.Supports.{Whole, WholeGoal, Ordered, is_astride, needs_order}
 use Rattle.swc_ecma_parser_exactness.proofs.Wholes.{list_whole}

@@ -10,18 +10,19 @@ use Rattle.swc_ecma_parser_grammar.specs.declared.position.Position.{Position}
 use Rattle.swc_ecma_parser_grammar.specs.Looks.{spanned}
 use Rattle.swc_ecma_parser_grammar.specs.Names.{Code}
 use Rattle.swc_ecma_parser_grammar.specs.Parameters.{parameters}
-use Rattle.swc_ecma_parser_grammar.specs.Reads.{with_in}
+use Rattle.swc_ecma_parser_grammar.specs.language.PatternItems.{PatternItemRule}
+use Rattle.swc_ecma_parser_grammar.specs.language.Contexts.{with_in}
 use Rattle.swc_ecma_parser_grammar.specs.language.Goals.{Goal, Purpose, binding, expression, assignment, left_side, expr_goal, pattern_goal, element_goal, stmt_goal, member_goal, decorator_goal}
 use Rattle.swc_ecma_parser_grammar.specs.language.Contexts as contexts
 use Rattle.swc_ecma_parser_grammar.specs.language.Parts as parts
 use Rattle.swc_ecma_parser_grammar.specs.language.Parts.{OptionalName, KeyRule, AccessRule, ElementRule, ArgumentsRule, is_private}
 use Rattle.swc_ecma_parser_grammar.specs.language.Items.{nested_item, directed, directs_on, ItemsRule, BlockRule}
-use Rattle.swc_ecma_parser_grammar.specs.language.Functions as functions
-use Rattle.swc_ecma_parser_grammar.specs.language.Functions.{PatternItemRule, ParametersRule, FunctionParts, FunctionRule}
+use Rattle.swc_ecma_parser_grammar.specs.language.PatternItems as pattern_items
+use Rattle.swc_ecma_parser_grammar.specs.language.Functions.{ParametersRule, FunctionParts, FunctionRule}
 use Rattle.swc_ecma_parser_grammar.specs.language.Classes as classes
 use Rattle.swc_ecma_parser_grammar.specs.language.Classes.{DecoratorRule, DecoratorsRule, MemberKeyRule, method_member, field_member, FieldValueRule, CoreRule, MemberRule, HeritageRule, ClassRule}
 use Rattle.swc_ecma_parser_grammar.proofs.Tests.{and_both}
-use Rattle.swc_ecma_parser_grammar.specs.Supported.{supported, is_supported_key_in, is_supported_property_in, is_supported_method_in}
+use Rattle.swc_ecma_parser_grammar.specs.scaffold.Supported.{supported, is_supported_key_in, is_supported_property_in, is_supported_method_in}
 use Rattle.swc_ecma_parser_exactness.specs.Supports.{Whole, WholeGoal}
 use Rattle.swc_ecma_parser_exactness.proofs.Wholes.{as_form, three, WholeKey, WholeProperty, key_as, property_as, EachWhole, list_whole, parameters_whole, each_whole, listed_whole}
 
@@ -117,8 +118,8 @@ module _ (In : Goal → Type 0) (small : (g : Goal) → In g → WholeGoal g) wh
   -- ---- functions
 
   pub pattern_item_whole : (p : Purpose) (k : Code) (x : Tree) (c d : Place) → PatternItemRule In p k x c d → Whole x
-  pattern_item_whole p k x c d (functions.element_rule r) = small (element_goal p k x c d) r
-  pattern_item_whole p k x c d (functions.rest_rule y h r e) = as_form x (tree.rest_pat (spanned c d) y) e (small (pattern_goal p k y (after c) d) r)
+  pattern_item_whole p k x c d (pattern_items.element_rule r) = small (element_goal p k x c d) r
+  pattern_item_whole p k x c d (pattern_items.rest_rule y h r e) = as_form x (tree.rest_pat (spanned c d) y) e (small (pattern_goal p k y (after c) d) r)
 
   pub patterns_whole : {k : Code} {ps : List Tree} {c d : Place} → ParametersRule In k ps c d → EachWhole ps
   patterns_whole {k = k} {ps = ps} {c = c} r =

@@ -9,8 +9,7 @@ use Rattle.swc_ecma_parser_token.specs.declared.token.TokenAndSpan.{TokenAndSpan
 use Rattle.swc_ecma_parser_token.specs.Kind.{token_kind}
 use Rattle.swc_ecma_parser_model.specs.Kinds.{is_module_decl}
 use Rattle.swc_ecma_parser_model.specs.Tree.{Tree}
-use Rattle.swc_ecma_parser_grammar.specs.Entries.{has_error_token}
-use Rattle.swc_ecma_parser_grammar.specs.Looks.{same_kind}
+use Rattle.swc_ecma_parser_grammar.specs.Looks.{same_kind, has_error_token}
 use Rattle.swc_ecma_parser_grammar.specs.Notes.{as_note}
 use Rattle.swc_ecma_parser_grammar.specs.Walk.{is_tabled, is_dropping, tabled, drops, walk, env_of}
 use Rattle.swc_ecma_parser_grammar.specs.language.Programs.{is_module_program}

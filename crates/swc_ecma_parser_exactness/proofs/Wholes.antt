@@ -5,10 +5,9 @@ use Rattle.swc_ecma_parser_input.specs.Place.{Place, after}
 use Rattle.swc_ecma_parser_model.specs.Tree as tree
 use Rattle.swc_ecma_parser_model.specs.Tree.{Tree, trees, listed}
 use Rattle.swc_ecma_parser_grammar.specs.Parameters.{parameter, parameters}
-use Rattle.swc_ecma_parser_grammar.specs.Reads.{ReadsSeparated}
-use Rattle.swc_ecma_parser_grammar.specs.language.Lists.{ReadsEach, ReadsListed, Elements, no_elements, hole, last_element, more_elements}
+use Rattle.swc_ecma_parser_grammar.specs.language.Lists.{ReadsEach, ReadsListed, Elements, no_elements, hole, last_element, more_elements, ReadsSeparated}
 use Rattle.swc_ecma_parser_grammar.proofs.Tests.{and_both}
-use Rattle.swc_ecma_parser_grammar.specs.Supported.{supported, all_supported, is_supported_key_in, is_supported_property_in}
+use Rattle.swc_ecma_parser_grammar.specs.scaffold.Supported.{supported, all_supported, is_supported_key_in, is_supported_property_in}
 use Rattle.swc_ecma_parser_exactness.specs.Supports.{Whole}
 
 -- ---- trees

@@ -6,8 +6,7 @@ use Rattle.swc_ecma_parser_error.specs.declared.error.Error.{Error}
 use Rattle.swc_ecma_parser_token.specs.declared.kind.TokenKind.TheVariants as kind
 use Rattle.swc_ecma_parser_input.specs.Place.{Place}
 use Rattle.swc_ecma_parser_model.specs.Tree.{Tree}
-use Rattle.swc_ecma_parser_grammar.specs.Looks.{sees}
-use Rattle.swc_ecma_parser_grammar.specs.Entries.{has_error_token}
+use Rattle.swc_ecma_parser_grammar.specs.Looks.{sees, has_error_token}
 use Rattle.swc_ecma_parser_grammar.specs.language.Programs as programs
 use Rattle.swc_ecma_parser_grammar.specs.language.Programs.{ReadsEntry, script_awaits}
 use Rattle.swc_ecma_parser_reader.specs.Entry.{script_walk, script_left, statement_entry, statement_walk, statement_left}

@@ -10,7 +10,7 @@ use Rattle.swc_ecma_parser_grammar.specs.language.Goals.{Goal, expr_goal, callee
 use Rattle.swc_ecma_parser_grammar.specs.language.Programs as programs
 use Rattle.swc_ecma_parser_grammar.specs.language.Programs.{Entry, EntryRule, entry_code, ModuleRule}
 use Rattle.swc_ecma_parser_grammar.specs.language.Reads.{Reads}
-use Rattle.swc_ecma_parser_grammar.specs.Supported.{supported}
+use Rattle.swc_ecma_parser_grammar.specs.scaffold.Supported.{supported}
 use Rattle.swc_ecma_parser_module_reader.specs.Supported.{on_one_side, supported_item, supported_module, supported_program, is_led}
 
 abbrev pub Whole : Tree → Type 0

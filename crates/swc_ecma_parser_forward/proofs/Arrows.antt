@@ -10,8 +10,7 @@ use Rattle.swc_ecma_parser_model.specs.Tree as tree
 use Rattle.swc_ecma_parser_model.specs.Tree.{Tree, trees, listed}
 use Rattle.swc_ecma_parser_grammar.specs.Looks.{breaks_at, sees, span_at}
 use Rattle.swc_ecma_parser_grammar.specs.Own.{misplaced_directive}
-use Rattle.swc_ecma_parser_grammar.specs.Reads.{with_in}
-use Rattle.swc_ecma_parser_grammar.specs.language.Contexts.{in_arrow}
+use Rattle.swc_ecma_parser_grammar.specs.language.Contexts.{in_arrow, with_in}
 use Rattle.swc_ecma_parser_grammar.specs.language.Goals.{Class, assignment}
 use Rattle.swc_ecma_parser_grammar.proofs.Tests.{and_yes}
 use Rattle.swc_ecma_parser_reader.specs.Arrows.{Parts, Group, closed_parts, parted, has_parts, may_stand_alone, closed_group, parameter_or, parameter, rest_list, parameters_of, arrow_body, arrow_from, named_arrow, rest_part, part_turn, group_parts, group, behind_group, grouped}

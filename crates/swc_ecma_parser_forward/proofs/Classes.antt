@@ -15,9 +15,8 @@ use Rattle.swc_ecma_parser_grammar.specs.Looks.{sees, span_at}
 use Rattle.swc_ecma_parser_grammar.specs.Names.{name_at}
 use Rattle.swc_ecma_parser_grammar.specs.Own.{only, second_constructor, misplaced_directive}
 use Rattle.swc_ecma_parser_grammar.specs.Parameters as formal
-use Rattle.swc_ecma_parser_grammar.specs.Reads.{with_in}
 use Rattle.swc_ecma_parser_grammar.specs.language.Classes.{is_static_word, is_accessor_word}
-use Rattle.swc_ecma_parser_grammar.specs.language.Contexts.{in_class, in_static_block, in_parameters}
+use Rattle.swc_ecma_parser_grammar.specs.language.Contexts.{in_class, in_static_block, in_parameters, with_in}
 use Rattle.swc_ecma_parser_grammar.specs.language.Goals.{Class, assignment}
 use Rattle.swc_ecma_parser_reader.specs.Bodies.{closes, close, braced, named, misdirected, function_body}
 use Rattle.swc_ecma_parser_reader.specs.Decorators.{Leading, found_before, leading, has_any, misplaced}

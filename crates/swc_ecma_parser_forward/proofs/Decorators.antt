@@ -9,9 +9,9 @@ use Rattle.swc_ecma_parser_model.specs.Forms.{span_of}
 use Rattle.swc_ecma_parser_model.specs.Tree as tree
 use Rattle.swc_ecma_parser_model.specs.Tree.{Tree, trees}
 use Rattle.swc_ecma_parser_grammar.specs.declared.position.Position.{Position}
-use Rattle.swc_ecma_parser_grammar.specs.Decorated.{class_behind, function_behind, decorated_by}
+use Rattle.swc_ecma_parser_grammar.specs.scaffold.Decorated.{class_behind, function_behind, decorated_by}
 use Rattle.swc_ecma_parser_grammar.specs.Looks.{sees, span_at}
-use Rattle.swc_ecma_parser_grammar.specs.Reads.{with_in}
+use Rattle.swc_ecma_parser_grammar.specs.language.Contexts.{with_in}
 use Rattle.swc_ecma_parser_grammar.specs.language.Goals.{Class}
 use Rattle.swc_ecma_parser_grammar.proofs.Tests.{and_yes}
 use Rattle.swc_ecma_parser_reader.specs.DecoratedStatements.{begins_declared, declared_behind, exported_behind, other_behind, stmt_behind, decorated_stmt, either_stmt}

@@ -12,8 +12,7 @@ use Rattle.swc_ecma_parser_grammar.specs.Looks.{sees, span_at, spanned}
 use Rattle.swc_ecma_parser_grammar.specs.Names.{name_at}
 use Rattle.swc_ecma_parser_grammar.specs.Own.{misplaced_directive}
 use Rattle.swc_ecma_parser_grammar.specs.Parameters as formal
-use Rattle.swc_ecma_parser_grammar.specs.Reads.{with_in}
-use Rattle.swc_ecma_parser_grammar.specs.language.Contexts.{named_by, in_parameters, in_body, in_arrow}
+use Rattle.swc_ecma_parser_grammar.specs.language.Contexts.{named_by, in_parameters, in_body, in_arrow, with_in}
 use Rattle.swc_ecma_parser_grammar.proofs.Tests.{and_yes}
 use Rattle.swc_ecma_parser_reader.specs.Bodies.{close, items_turn, items, block_from, block, braced, misdirected, named, function_word, own_name, no_parameter, one_parameter, function_body, function_parts, function_decl, function_expr, getter, setter, plain_method, arrow_block, closes}
 use Rattle.swc_ecma_parser_forward.specs.Forward.{forward}

@@ -11,15 +11,15 @@ use Rattle.swc_ecma_parser_model.specs.declared.leaves.VarDeclKind.TheVariants a
 use Rattle.swc_ecma_parser_model.specs.Tree as tree
 use Rattle.swc_ecma_parser_model.specs.Tree.{Tree, listed}
 use Rattle.swc_ecma_parser_grammar.specs.declared.position.Position.{Position}
-use Rattle.swc_ecma_parser_grammar.specs.Follows.{word_at, is_let_declaration, begins_async_of}
+use Rattle.swc_ecma_parser_grammar.specs.Follows.{word_at, is_let_declaration}
 use Rattle.swc_ecma_parser_grammar.specs.Looks.{sees, span_at, spanned}
 use Rattle.swc_ecma_parser_grammar.specs.Names.{Code}
 use Rattle.swc_ecma_parser_grammar.specs.Own.{head_faults}
-use Rattle.swc_ecma_parser_grammar.specs.Reads.{with_in, head_code}
-use Rattle.swc_ecma_parser_grammar.specs.Using.{is_await_using_declaration, may_declare_using, awaits_using, declares_behind, stands_in_head}
+use Rattle.swc_ecma_parser_grammar.specs.scaffold.Using.{is_await_using_declaration, may_declare_using, awaits_using, declares_behind, stands_in_head}
 use Rattle.swc_ecma_parser_grammar.specs.Variables.{is_const, needs_no_initializer}
-use Rattle.swc_ecma_parser_grammar.specs.language.Contexts.{in_loop, without_in}
+use Rattle.swc_ecma_parser_grammar.specs.language.Contexts.{in_loop, without_in, with_in, head_code}
 use Rattle.swc_ecma_parser_grammar.specs.language.Goals.{Class, expression, assignment}
+use Rattle.swc_ecma_parser_reader.specs.Words.{begins_async_of}
 use Rattle.swc_ecma_parser_reader.specs.Expressions.{Cover}
 use Rattle.swc_ecma_parser_forward.specs.Forward.{forward}
 use Rattle.swc_ecma_parser_reader.specs.Reader.{missing_initializer, uninitialized, ends_declarators, missing_at, no_declarator, initialized, declarator, declarators_turn, declarators, declaration_end, variables, misusing, using_from, using_stmt, await_using_stmt, await_using_or, Opening, Nothing, Variables, Resource, Named, Expression, unfollowed, as_init, as_left, undeclared, head_variables, using_head, named_head, await_or_expression, async_head, head_expression, await_head, async_or_expression, head_target, opening, head_part, await_here, unless_awaited, misdeclared, for_parts, for_in, for_of, for_behind, for_stmt, begins_await_head}

@@ -15,11 +15,10 @@ use Rattle.swc_ecma_parser_grammar.specs.declared.position.Position.{Position}
 use Rattle.swc_ecma_parser_grammar.specs.Ends.{ends_at}
 use Rattle.swc_ecma_parser_grammar.specs.Follows.{may_begin_expression_statement, begins_import_expression, is_let_declaration, is_async_function}
 use Rattle.swc_ecma_parser_grammar.specs.Looks.{kind_at, breaks_at, sees, span_at, spanned}
-use Rattle.swc_ecma_parser_grammar.specs.Reads.{with_in, nested_item}
-use Rattle.swc_ecma_parser_grammar.specs.Using.{is_using_declaration}
-use Rattle.swc_ecma_parser_grammar.specs.language.Contexts.{in_loop, in_breakable, in_with}
+use Rattle.swc_ecma_parser_grammar.specs.language.Declarations.{is_using_declaration}
+use Rattle.swc_ecma_parser_grammar.specs.language.Contexts.{in_loop, in_breakable, in_with, with_in}
 use Rattle.swc_ecma_parser_grammar.specs.language.Goals.{Class, expression, left_side}
-use Rattle.swc_ecma_parser_grammar.specs.language.Items.{sub_statement, labelled_item}
+use Rattle.swc_ecma_parser_grammar.specs.language.Items.{sub_statement, labelled_item, nested_item}
 use Rattle.swc_ecma_parser_reader.specs.Expressions.{Cover}
 use Rattle.swc_ecma_parser_forward.specs.Forward.{forward}
 use Rattle.swc_ecma_parser_reader.specs.Reader.{target, unbroken, break_stmt, uncontinued, continue_stmt, misplaced, operand, returned, return_stmt, lacks_end, operators_on, stmt_end, empty, debugger, declarators, variables, note_with, note_statement, no_label, expr_stmt, expr_stmt_at, optional_end, import_stmt_at, thrown, throw, head, while_stmt, with_stmt, do_while, Link, goes_on, condition, alternative, link_from, link, links, if_stmt, begins_label, relabels, labelled_body, labeled_stmt, other_stmt, begins_clause, closes_clause, clause_from, default_clause, case_clause, clause, clauses_turn, clauses, switch_stmt, begins_at, is_handled, handled, bound, parameter, finalizer, caught, handler, try_stmt, stray, items, braced, function_decl, function_stmt, const_stmt, let_stmt, using_or_other, async_or_other, stmt_by, stmt_level}

@@ -7,10 +7,10 @@ use Rattle.swc_ecma_parser_error.specs.Kind.{Fault, IsOutOfMemory}
 use Rattle.swc_ecma_parser_model.specs.Tree as tree
 use Rattle.swc_ecma_parser_model.specs.Tree.{Tree, listed}
 use Rattle.swc_ecma_parser_model.specs.Forms.{has_plain_params}
-use Rattle.swc_ecma_parser_grammar.specs.Decorated.{function_behind}
+use Rattle.swc_ecma_parser_grammar.specs.scaffold.Decorated.{function_behind}
 use Rattle.swc_ecma_parser_grammar.specs.Own.{misplaced_directive}
 use Rattle.swc_ecma_parser_grammar.specs.Parameters.{parameters}
-use Rattle.swc_ecma_parser_grammar.specs.Reads.{nested_item}
+use Rattle.swc_ecma_parser_grammar.specs.language.Items.{nested_item}
 use Rattle.swc_ecma_parser_grammar.specs.language.Contexts.{in_parameters}
 use Rattle.swc_ecma_parser_reader.specs.Dressed.{function_parts_with}
 use Rattle.swc_ecma_parser_reader.specs.Reader as rules

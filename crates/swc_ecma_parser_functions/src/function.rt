@@ -5,7 +5,7 @@ ghost use Rattle.swc_ecma_parser_error.specs.Kind.{IsOutOfMemory};
 ghost use Rattle.swc_ecma_parser_functions.specs.Late.{late};
 ghost use Rattle.swc_ecma_parser_grammar.specs.Own as own;
 ghost use Rattle.swc_ecma_parser_grammar.specs.Parameters.{parameter};
-ghost use Rattle.swc_ecma_parser_grammar.specs.Reads.{nested_item};
+ghost use Rattle.swc_ecma_parser_grammar.specs.language.Items.{nested_item};
 ghost use Rattle.swc_ecma_parser_grammar.specs.language.Contexts as contexts;
 ghost use Rattle.swc_ecma_parser_inner.specs.Keys.{word_of};
 ghost use Rattle.swc_ecma_parser_inner.specs.Nests.{Nests};

@@ -10,10 +10,10 @@ use Rattle.swc_ecma_parser_model.specs.Tree.{Tree}
 use Rattle.swc_ecma_parser_model.specs.Kinds.{is_block}
 use Rattle.swc_ecma_parser_grammar.specs.Names.{Code}
 use Rattle.swc_ecma_parser_grammar.specs.Notes.{notes}
-use Rattle.swc_ecma_parser_grammar.specs.Reads.{with_in, ReadsBraced}
-use Rattle.swc_ecma_parser_grammar.specs.ReadsSupported.{ReadsStmt, ReadsClass}
-use Rattle.swc_ecma_parser_grammar.specs.Supported.{supported_in, is_clean}
-use Rattle.swc_ecma_parser_grammar.specs.language.Contexts.{in_arrow}
+use Rattle.swc_ecma_parser_grammar.specs.scaffold.Reads.{ReadsBraced}
+use Rattle.swc_ecma_parser_grammar.specs.scaffold.ReadsSupported.{ReadsStmt, ReadsClass}
+use Rattle.swc_ecma_parser_grammar.specs.scaffold.Supported.{supported_in, is_clean}
+use Rattle.swc_ecma_parser_grammar.specs.language.Contexts.{in_arrow, with_in}
 use Rattle.swc_ecma_parser_grammar.specs.language.Goals.{assignment, expr_goal}
 use Rattle.swc_ecma_parser_grammar.specs.language.Items.{BlockRule}
 use Rattle.swc_ecma_parser_grammar.specs.language.Reads.{Reads}

@@ -18,8 +18,8 @@ use Rattle.swc_ecma_parser_model.specs.Tree.{Tree, Text}
 use Rattle.swc_ecma_parser_grammar.specs.Looks.{kind_at, breaks_at, same_kind, spanned}
 use Rattle.swc_ecma_parser_grammar.specs.Names.{Code, identifier_at}
 use Rattle.swc_ecma_parser_grammar.specs.Follows.{token_is, word_at, continues_left_side}
-use Rattle.swc_ecma_parser_grammar.specs.Using.{awaits_using, declares_behind, stands_in_head}
-use Rattle.swc_ecma_parser_grammar.specs.Supported.{supported_in}
+use Rattle.swc_ecma_parser_grammar.specs.scaffold.Using.{awaits_using, declares_behind, stands_in_head}
+use Rattle.swc_ecma_parser_grammar.specs.scaffold.Supported.{supported_in}
 use Rattle.swc_ecma_parser_grammar.specs.language.Goals.{Goal, binding, expression, unary, expr_goal, pattern_goal, using_goal}
 use Rattle.swc_ecma_parser_grammar.specs.language.Contexts.{may_await, without_in}
 use Rattle.swc_ecma_parser_grammar.specs.language.Operators.{update_operator}

@@ -9,11 +9,12 @@ use Rattle.swc_ecma_parser_grammar.specs.Looks.{kind_at, breaks_at, sees, same_k
 use Rattle.swc_ecma_parser_grammar.specs.Names.{Code}
 use Rattle.swc_ecma_parser_grammar.specs.Ends.{Ends, by_semicolon, by_insertion, can_end}
 use Rattle.swc_ecma_parser_grammar.specs.Follows.{word_at}
-use Rattle.swc_ecma_parser_grammar.specs.Using.{is_using_declaration, is_await_using_declaration}
+use Rattle.swc_ecma_parser_grammar.specs.scaffold.Using.{is_await_using_declaration}
+use Rattle.swc_ecma_parser_grammar.specs.language.LeftSides.{OperandRule}
+use Rattle.swc_ecma_parser_grammar.specs.language.Declarations.{is_using_declaration}
 use Rattle.swc_ecma_parser_grammar.specs.language.Goals.{Goal, expr_goal, expression}
 use Rattle.swc_ecma_parser_grammar.specs.language.Operators.{unary_operator, update_operator}
 use Rattle.swc_ecma_parser_grammar.specs.language.Begins.{awaits, begins_unary}
-use Rattle.swc_ecma_parser_grammar.specs.language.Patterns.{OperandRule}
 use Rattle.swc_ecma_parser_grammar.specs.language.Expressions.{UnaryRule, operand_rule, unary_rule, prefix_rule, postfix_rule, await_rule, BinaryRule, AssignmentRule, assignment_rule, sequence_rule}
 use Rattle.swc_ecma_parser_grammar.specs.language.Reads.{Reads}
 use Rattle.swc_ecma_parser_grammar.proofs.ExpressionBegins.{kind_seen}

@@ -15,10 +15,10 @@ use Rattle.swc_ecma_parser_model.specs.Tree.{Tree, Text, listed}
 use Rattle.swc_ecma_parser_grammar.specs.Looks.{kind_at, breaks_at, same_kind, spanned}
 use Rattle.swc_ecma_parser_grammar.specs.Names.{Code}
 use Rattle.swc_ecma_parser_grammar.specs.Follows.{word_at, is_async_function, AsyncWord, not_async, async_word}
-use Rattle.swc_ecma_parser_grammar.specs.Reads.{with_in, ReadsToken}
+use Rattle.swc_ecma_parser_grammar.specs.language.Contexts.{with_in}
 use Rattle.swc_ecma_parser_grammar.specs.language.Goals.{Goal, expr_goal, expression}
 use Rattle.swc_ecma_parser_grammar.specs.language.Lists.{ReadsListed, Elements}
-use Rattle.swc_ecma_parser_grammar.specs.language.Parts.{ElementRule}
+use Rattle.swc_ecma_parser_grammar.specs.language.Parts.{ElementRule, ReadsToken}
 use Rattle.swc_ecma_parser_grammar.specs.language.Objects.{PropertyRule}
 use Rattle.swc_ecma_parser_grammar.specs.language.LeftSides.{PrimaryRule, name_rule, string_rule, true_rule, false_rule, null_rule, number_rule, big_int_rule, this_rule, array_rule, object_rule, function_rule, class_rule, paren_rule}
 

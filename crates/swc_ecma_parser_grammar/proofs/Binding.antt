@@ -9,12 +9,12 @@ use Rattle.swc_ecma_parser_model.specs.Forms.{is_rest}
 use Rattle.swc_ecma_parser_model.specs.Targets.{binds, all_bind, if_binds}
 use Rattle.swc_ecma_parser_grammar.specs.Looks.{kind_at, spanned}
 use Rattle.swc_ecma_parser_grammar.specs.Names.{Code}
-use Rattle.swc_ecma_parser_grammar.specs.Reads.{with_in}
-use Rattle.swc_ecma_parser_grammar.specs.Supported.{supported_in, all_supported_in, is_supported_key_in}
+use Rattle.swc_ecma_parser_grammar.specs.scaffold.Supported.{supported_in, all_supported_in, is_supported_key_in}
+use Rattle.swc_ecma_parser_grammar.specs.language.PatternItems.{PatternItemRule}
+use Rattle.swc_ecma_parser_grammar.specs.language.Contexts.{with_in}
 use Rattle.swc_ecma_parser_grammar.specs.language.Goals.{Goal, Purpose, binding, assigning, pattern_goal, element_goal}
 use Rattle.swc_ecma_parser_grammar.specs.language.Lists.{ReadsListed, LastComma, no_comma, last_comma, Elements, no_elements, hole, last_element, more_elements}
-use Rattle.swc_ecma_parser_grammar.specs.language.Functions as functions
-use Rattle.swc_ecma_parser_grammar.specs.language.Functions.{PatternItemRule}
+use Rattle.swc_ecma_parser_grammar.specs.language.PatternItems as pattern_items
 use Rattle.swc_ecma_parser_grammar.specs.language.Patterns as patterns
 use Rattle.swc_ecma_parser_grammar.specs.language.Patterns.{PatternPropertyRule, PatternRule, PatternElementRule}
 use Rattle.swc_ecma_parser_grammar.specs.language.Reads.{Reads}
@@ -109,8 +109,8 @@ Again In from to = (k : Code) (x : Tree) (c d : Place) → In (from k x c d) →
 
 module _ (In : Goal → Type 0) (pattern_small : Again In (pattern_goal assigning) (pattern_goal binding)) (element_small : Again In (element_goal assigning) (element_goal binding)) where
   item_rule_again : (k : Code) (x : Tree) (c d : Place) → PatternItemRule In assigning k x c d → binds x ≡ true → PatternItemRule In binding k x c d
-  item_rule_again k x c d (functions.element_rule r) h = functions.element_rule (element_small k x c d r h)
-  item_rule_again k x c d (functions.rest_rule y i r e) h = functions.rest_rule y i (pattern_small k y (after c) d r (binds_as x (tree.rest_pat (spanned c d) y) e h)) e
+  item_rule_again k x c d (pattern_items.element_rule r) h = pattern_items.element_rule (element_small k x c d r h)
+  item_rule_again k x c d (pattern_items.rest_rule y i r e) h = pattern_items.rest_rule y i (pattern_small k y (after c) d r (binds_as x (tree.rest_pat (spanned c d) y) e h)) e
 
   property_rule_again : (k : Code) (x : Tree) (c d : Place) → PatternPropertyRule In assigning k x c d → binds x ≡ true → PatternPropertyRule In binding k x c d
   property_rule_again k x c d (patterns.key_value_rule key value m r i s e) h =
@@ -153,10 +153,10 @@ Down In m from to = (k : Code) (x : Tree) (c d : Place) → In (from k x c d) �
 module _ (In : Goal → Type 0) (m : Bool) (pattern_small : Down In m (pattern_goal binding) (pattern_goal assigning)) (element_small : Down In m (element_goal binding) (element_goal assigning)) where
   item_rule_down : (k : Code) (x : Tree) (c d : Place) → PatternItemRule In binding k x c d → supported_in m x ≡ true → ends_name (kind_at d) ≡ true
       → PatternItemRule In assigning k x c d × (binds x ≡ true)
-  item_rule_down k x c d (functions.element_rule r) h l = let (s, b) = element_small k x c d r h l in (functions.element_rule s, b)
-  item_rule_down k x c d (functions.rest_rule y i r e) h l =
+  item_rule_down k x c d (pattern_items.element_rule r) h l = let (s, b) = element_small k x c d r h l in (pattern_items.element_rule s, b)
+  item_rule_down k x c d (pattern_items.rest_rule y i r e) h l =
       let (s, b) = pattern_small k y (after c) d r (supported_as m x (tree.rest_pat (spanned c d) y) e h) l in
-      (functions.rest_rule y i s e, binds_of x (tree.rest_pat (spanned c d) y) e b)
+      (pattern_items.rest_rule y i s e, binds_of x (tree.rest_pat (spanned c d) y) e b)
 
   property_rule_down : (k : Code) (x : Tree) (c d : Place) → PatternPropertyRule In binding k x c d → supported_in m x ≡ true → ends_name (kind_at d) ≡ true
       → PatternPropertyRule In assigning k x c d × (binds x ≡ true)
@@ -235,13 +235,13 @@ item_down n m k x c d r h l = item_rule_down (Reads n) m (down n m) (element_dow
 -- one parameter, and back
 pub parameter_down : (n : ℕ) (m : Bool) (k : Code) (x : Tree) (c d : Place) → PatternItemRule (Reads n) binding k x c d → supported_in m x ≡ true → ends_name (kind_at d) ≡ true
     → ArrowPartRule (Reads n) k x c d
-parameter_down n m k x c d (functions.element_rule r) h l =
+parameter_down n m k x c d (pattern_items.element_rule r) h l =
     let (s, b) = element_down n m k x c d r h l in part_rule s b (element_no_rest n binding k x c d r)
-parameter_down n m k x c d (functions.rest_rule y i r e) h l = rest_rule y i r e
+parameter_down n m k x c d (pattern_items.rest_rule y i r e) h l = rest_rule y i r e
 
 pub parameter_again : (n : ℕ) (k : Code) (x : Tree) (c d : Place) → ArrowPartRule (Reads n) k x c d → PatternItemRule (Reads n) binding k x c d
-parameter_again n k x c d (part_rule r b i) = functions.element_rule (element_again n k x c d r b)
-parameter_again n k x c d (rest_rule y i r e) = functions.rest_rule y i r e
+parameter_again n k x c d (part_rule r b i) = pattern_items.element_rule (element_again n k x c d r b)
+parameter_again n k x c d (rest_rule y i r e) = pattern_items.rest_rule y i r e
 
 -- all of them, and back
 pub parameters_down : (n : ℕ) (m commas : Bool) (k : Code) (ps : List Tree) (c d : Place) → ReadsListed commas (PatternItemRule (Reads n) binding k) ps c d

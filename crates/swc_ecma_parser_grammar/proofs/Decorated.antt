@@ -5,9 +5,9 @@ use Rattle.swc_ecma_parser_common.specs.declared.span.Span.{Span}
 use Rattle.swc_ecma_parser_error.specs.Kind.{Fault}
 use Rattle.swc_ecma_parser_model.specs.Tree as tree
 use Rattle.swc_ecma_parser_model.specs.Tree.{Tree, trees}
-use Rattle.swc_ecma_parser_grammar.specs.Decorated.{decorated_by}
+use Rattle.swc_ecma_parser_grammar.specs.scaffold.Decorated.{decorated_by}
 use Rattle.swc_ecma_parser_grammar.specs.Notes.{notes, all_notes}
-use Rattle.swc_ecma_parser_grammar.specs.Supported.{supported_in, all_supported_in}
+use Rattle.swc_ecma_parser_grammar.specs.scaffold.Supported.{supported_in, all_supported_in}
 use Rattle.swc_ecma_parser_grammar.proofs.SupportedIn.{parted}
 
 both_none : (es fs : List Fault) → es ≡ [] → fs ≡ [] → es ++ fs ≡ []

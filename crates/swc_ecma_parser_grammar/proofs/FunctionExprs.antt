@@ -12,9 +12,9 @@ use Rattle.swc_ecma_parser_grammar.specs.Looks.{kind_at, spanned}
 use Rattle.swc_ecma_parser_grammar.specs.Names.{Code}
 use Rattle.swc_ecma_parser_grammar.specs.Notes.{notes}
 use Rattle.swc_ecma_parser_grammar.specs.Parameters.{parameters}
-use Rattle.swc_ecma_parser_grammar.specs.Reads.{ReadsFunctionExpr, OwnNameRule, no_own_name_rule, own_name_rule}
-use Rattle.swc_ecma_parser_grammar.specs.ReadsSupported.{ReadsStmt, ReadsParams}
-use Rattle.swc_ecma_parser_grammar.specs.Supported.{supported_in, has_no_note, is_clean}
+use Rattle.swc_ecma_parser_grammar.specs.scaffold.Reads.{ReadsFunctionExpr, OwnNameRule, no_own_name_rule, own_name_rule}
+use Rattle.swc_ecma_parser_grammar.specs.scaffold.ReadsSupported.{ReadsStmt, ReadsParams}
+use Rattle.swc_ecma_parser_grammar.specs.scaffold.Supported.{supported_in, has_no_note, is_clean}
 use Rattle.swc_ecma_parser_grammar.specs.language.Contexts.{named_by}
 use Rattle.swc_ecma_parser_grammar.specs.language.Functions as functions
 use Rattle.swc_ecma_parser_grammar.specs.language.LeftSides as sides

@@ -20,8 +20,8 @@ use Rattle.swc_ecma_parser_model.specs.Tree.{Text}
 use Rattle.swc_ecma_parser_grammar.specs.Looks.{kind_at, breaks_at, sees, same_kind}
 use Rattle.swc_ecma_parser_grammar.specs.Names.{Code, is_name, token_is_identifier, first_is_identifier, identifier_at}
 use Rattle.swc_ecma_parser_grammar.specs.Follows.{word_at, first_is, token_is, is_async_function, continues_left_side}
-use Rattle.swc_ecma_parser_grammar.specs.Reads.{ReadsToken}
-use Rattle.swc_ecma_parser_grammar.specs.ReadsSupported.{ReadsClass}
+use Rattle.swc_ecma_parser_grammar.specs.scaffold.ReadsSupported.{ReadsClass}
+use Rattle.swc_ecma_parser_grammar.specs.language.Parts.{ReadsToken}
 use Rattle.swc_ecma_parser_grammar.specs.language.Begins.{awaits}
 use Rattle.swc_ecma_parser_grammar.specs.language.Continues.{continues_unary, continues_operand, continues_conditional, continues_head, continues_assignment}
 use Rattle.swc_ecma_parser_grammar.specs.language.Goals.{expression}

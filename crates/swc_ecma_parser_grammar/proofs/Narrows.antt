@@ -19,22 +19,22 @@ use Rattle.swc_ecma_parser_model.specs.Directive.{is_use_strict}
 use Rattle.swc_ecma_parser_grammar.specs.declared.position.Position.{Position}
 use Rattle.swc_ecma_parser_grammar.specs.Looks.{kind_at, sees, same_kind, spanned, breaks_at}
 use Rattle.swc_ecma_parser_grammar.specs.Names.{Code}
-use Rattle.swc_ecma_parser_grammar.specs.Reads.{with_in, directed, directs_on, nested_item, top_item, DeclaratorRule, plain_rule, initialized_rule, ReadsSeparated, ReadsItems, StmtRule, block_rule, empty_rule, debugger_rule, variables_rule, using_rule, if_statement_rule, TargetRule, no_target_rule, target_rule, OperandRule, no_operand_rule, operand_rule, break_rule, continue_rule, return_rule, case_clause_rule, default_clause_rule, ReadsCases, switch_rule, throw_rule, try_rule, with_rule, while_rule, do_while_rule, expr_rule, import_rule, ReadsBlock, CatchRule, no_catch_rule, catch_rule, catch_parameter_rule, FinallyRule, no_finally_rule, finally_rule, ReadsHead, IfRule, if_rule, ElseRule, no_else_rule, else_rule, else_if_rule, ReadsBraced, ReadsFunction, class_rule, function_rule, labeled_rule, head_code, HeadVariables, InitRule, no_init_rule, init_variables_rule, init_expression_rule, LeftRule, declared_rule, left_target_rule, for_in_rule, for_of_rule, PartRule, no_part_rule, part_rule, for_rule, OfLeftRule, of_left_rule, of_using_rule, of_await_rule}
-use Rattle.swc_ecma_parser_grammar.specs.Entries.{ReadsScript, ReadsShebang, some_shebang, no_shebang, script_code, items_await, script_awaits}
-use Rattle.swc_ecma_parser_grammar.specs.Using.{misused, each_misused}
+use Rattle.swc_ecma_parser_grammar.specs.scaffold.Reads.{SmallDeclaratorRule, plain_rule, initialized_rule, ReadsItems, SmallStmtRule, block_rule, empty_rule, debugger_rule, variables_rule, using_rule, if_statement_rule, SmallTargetRule, no_target_rule, target_rule, SmallReturnedRule, no_operand_rule, operand_rule, break_rule, continue_rule, return_rule, case_clause_rule, default_clause_rule, ReadsCases, switch_rule, throw_rule, try_rule, with_rule, while_rule, do_while_rule, expr_rule, import_rule, ReadsBlock, SmallCatchRule, no_catch_rule, catch_rule, catch_parameter_rule, SmallFinallyRule, no_finally_rule, finally_rule, ReadsHead, SmallIfRule, if_rule, SmallElseRule, no_else_rule, else_rule, else_if_rule, ReadsBraced, ReadsFunction, class_rule, function_rule, labeled_rule, HeadVariables, SmallInitRule, no_init_rule, init_variables_rule, init_expression_rule, SmallLeftRule, declared_rule, left_target_rule, for_in_rule, for_of_rule, SmallPartRule, no_part_rule, part_rule, for_rule, SmallOfLeftRule, of_left_rule, of_using_rule, of_await_rule}
+use Rattle.swc_ecma_parser_grammar.specs.scaffold.Entries.{ReadsScript, ReadsShebang, some_shebang, no_shebang, small_items_await, small_script_awaits}
+use Rattle.swc_ecma_parser_grammar.specs.scaffold.Using.{misused, each_misused}
 use Rattle.swc_ecma_parser_grammar.specs.Notes.{notes, all_notes, statement_note, with_note}
-use Rattle.swc_ecma_parser_grammar.specs.Decorated.{declared_class, declared_function, DecoratedRule, EitherRule, plain_statement, decorated_statement}
-use Rattle.swc_ecma_parser_grammar.specs.Supported.{supported, supported_in, all_supported_in}
-use Rattle.swc_ecma_parser_grammar.specs.ReadsSupported.{ReadsClass, ReadsPat, ReadsTarget, ReadsStmt, ReadsTop, ReadsParams, ReadsNamedClass, ReadsDecorators, ReadsDeclared}
+use Rattle.swc_ecma_parser_grammar.specs.scaffold.Decorated.{declared_class, declared_function, SmallDecoratedRule, EitherRule, plain_statement, decorated_statement}
+use Rattle.swc_ecma_parser_grammar.specs.scaffold.Supported.{supported, supported_in, all_supported_in}
+use Rattle.swc_ecma_parser_grammar.specs.scaffold.ReadsSupported.{ReadsClass, ReadsPat, ReadsTarget, ReadsStmt, ReadsTop, ReadsParams, ReadsNamedClass, ReadsDecorators, ReadsDeclared}
 use Rattle.swc_ecma_parser_grammar.specs.language.Goals.{assignment, stmt_goal}
-use Rattle.swc_ecma_parser_grammar.specs.language.Contexts.{in_loop, in_breakable, in_with}
+use Rattle.swc_ecma_parser_grammar.specs.language.Contexts.{in_loop, in_breakable, in_with, with_in, head_code, script_code}
 use Rattle.swc_ecma_parser_grammar.specs.language.ForHeads as heads
 use Rattle.swc_ecma_parser_grammar.specs.language.Classes as classes
 use Rattle.swc_ecma_parser_grammar.specs.language.Functions as functions
 use Rattle.swc_ecma_parser_grammar.specs.language.Parts as parts
 use Rattle.swc_ecma_parser_grammar.specs.language.Declarations as declarations
-use Rattle.swc_ecma_parser_grammar.specs.language.Items.{sub_statement, labelled_item, ItemsRule, BlockRule}
-use Rattle.swc_ecma_parser_grammar.specs.language.Lists.{ReadsEach}
+use Rattle.swc_ecma_parser_grammar.specs.language.Items.{sub_statement, labelled_item, ItemsRule, BlockRule, directed, directs_on, nested_item, top_item}
+use Rattle.swc_ecma_parser_grammar.specs.language.Lists.{ReadsEach, ReadsSeparated}
 use Rattle.swc_ecma_parser_grammar.specs.language.Statements as statements
 use Rattle.swc_ecma_parser_grammar.specs.language.Statements.{is_default, at_most_one_default}
 use Rattle.swc_ecma_parser_grammar.specs.language.Reads.{Reads}
@@ -53,7 +53,7 @@ use Rattle.swc_ecma_parser_grammar.proofs.language.Asked.{or_left, or_right}
 -- ---- declarators
 
 declarator_narrows : (n : ℕ) (k : Code) (loop : Bool) (word : VarDeclKind) (x : Tree) (c d : Place) → declarations.DeclaratorRule (Reads n) k loop word x c d → supported_in k.flags.module x ≡ true
-    → DeclaratorRule (ReadsClass n assignment) (ReadsPat n) k loop word x c d
+    → SmallDeclaratorRule (ReadsClass n assignment) (ReadsPat n) k loop word x c d
 declarator_narrows n k loop word x c d (declarations.plain_rule name r a b e) h =
     let g = and_yes (supported_in k.flags.module name) _ (supported_as _ x (tree.declarator (spanned c d) name tree.absent) e h) in plain_rule name (r, g.0) a b e
 declarator_narrows n k loop word x c d (declarations.initialized_rule name init m r a s e) h =
@@ -68,18 +68,18 @@ module _ (b : Bool) (Rule Other : Tree → Place → Place → Type 0) (narrow :
   separated_narrow (x ∷ y ∷ ys) c d (m, r, e, rs) h = let g = and_yes (supported_in b x) _ h in (m, narrow x c m r g.0, e, separated_narrow (y ∷ ys) (after m) d rs g.1)
 
 declarators_narrow : (n : ℕ) (k : Code) (loop : Bool) (word : VarDeclKind) (xs : List Tree) (c d : Place) → ReadsSeparated (declarations.DeclaratorRule (Reads n) k loop word) xs c d
-    → all_supported_in k.flags.module (trees xs) ≡ true → ReadsSeparated (DeclaratorRule (ReadsClass n assignment) (ReadsPat n) k loop word) xs c d
+    → all_supported_in k.flags.module (trees xs) ≡ true → ReadsSeparated (SmallDeclaratorRule (ReadsClass n assignment) (ReadsPat n) k loop word) xs c d
 declarators_narrow n k loop word =
-    separated_narrow k.flags.module (declarations.DeclaratorRule (Reads n) k loop word) (DeclaratorRule (ReadsClass n assignment) (ReadsPat n) k loop word) (declarator_narrows n k loop word)
+    separated_narrow k.flags.module (declarations.DeclaratorRule (Reads n) k loop word) (SmallDeclaratorRule (ReadsClass n assignment) (ReadsPat n) k loop word) (declarator_narrows n k loop word)
 
 -- ---- statements
 
-target_narrows : {k : Code} {x : Tree} {c d : Place} → statements.TargetRule k x c d → supported_in k.flags.module x ≡ true → TargetRule k x c d
+target_narrows : {k : Code} {x : Tree} {c d : Place} → statements.TargetRule k x c d → supported_in k.flags.module x ≡ true → SmallTargetRule k x c d
 target_narrows (statements.no_target_rule i g e) h = no_target_rule i g e
 target_narrows {k = k} {x = x} {c = c} {d = d} (statements.target_rule text s i r e) h =
     target_rule r.word s i r.reads_word (name_is_name k text s c d r) (e ∙ ap (tree.ident s) r.is_text)
 
-operand_narrows : (n : ℕ) {k : Code} {x : Tree} {c d : Place} → statements.OperandRule (Reads n) k x c d → supported_in k.flags.module x ≡ true → OperandRule (ReadsClass n) k x c d
+operand_narrows : (n : ℕ) {k : Code} {x : Tree} {c d : Place} → statements.ReturnedRule (Reads n) k x c d → supported_in k.flags.module x ≡ true → SmallReturnedRule (ReadsClass n) k x c d
 operand_narrows n (statements.no_operand_rule i g e) h = no_operand_rule i g e
 operand_narrows n (statements.operand_rule i r) h = operand_rule i (r, h)
 
@@ -87,7 +87,7 @@ operand_narrows n (statements.operand_rule i r) h = operand_rule i (r, h)
 
 module _ (n : ℕ) (k : Code) where
   using_declarator_narrows : (x : Tree) (c d : Place) → declarations.UsingDeclaratorRule (Reads n) k x c d → supported_in k.flags.module x ≡ true
-      → DeclaratorRule (ReadsClass n assignment) (ReadsPat n) (with_in k) false decl.Var x c d
+      → SmallDeclaratorRule (ReadsClass n assignment) (ReadsPat n) (with_in k) false decl.Var x c d
   using_declarator_narrows x c d r h =
       let g = and_yes (supported_in k.flags.module r.name) _ (supported_as _ x (tree.declarator (spanned c d) r.name r.init) r.is h) in
       initialized_rule r.name r.init r.equals (bound n k r.name c r.equals r.is_name r.reads_name, g.0) r.assigns (r.reads_init, g.1) r.is
@@ -101,11 +101,11 @@ module _ (n : ℕ) (k : Code) where
   declarators_used s (x ∷ y ∷ ys) c d (m, r, e, rs) = ap (λ fs. fs ++ each_misused s (y ∷ ys)) (declarator_used s x c m r) ∙ declarators_used s (y ∷ ys) (after m) d rs
 
   using_narrows : (at : Position) (x : Tree) (c d : Place) → declarations.UsingRule (Reads n) k at x c d → supported_in k.flags.module x ≡ true
-      → StmtRule (ReadsStmt n) (ReadsClass n) (ReadsPat n) (ReadsTarget n) (ReadsParams n) (ReadsNamedClass n) k at x c d
+      → SmallStmtRule (ReadsStmt n) (ReadsClass n) (ReadsPat n) (ReadsTarget n) (ReadsParams n) (ReadsNamedClass n) k at x c d
   using_narrows at x c d r h =
       let f = supported_as _ x (tree.using (spanned c d) r.is_await (listed r.declarators)) r.is h in
       using_rule r.is_await r.declarators r.word r.behind r.has_place r.reads_await r.on_line r.begins
-      (separated_narrow k.flags.module (declarations.UsingDeclaratorRule (Reads n) k) (DeclaratorRule (ReadsClass n assignment) (ReadsPat n) (with_in k) false decl.Var) using_declarator_narrows r.declarators (after r.word) r.behind r.reads f)
+      (separated_narrow k.flags.module (declarations.UsingDeclaratorRule (Reads n) k) (SmallDeclaratorRule (ReadsClass n assignment) (ReadsPat n) (with_in k) false decl.Var) using_declarator_narrows r.declarators (after r.word) r.behind r.reads f)
       (so_set k.setting.explicit_resource_management (spanned c r.behind) r.declarators r.is_read (declarators_used (spanned c r.behind) r.declarators (after r.word) r.behind r.reads)) r.ends r.is
 
 -- ---- the head of a `for`
@@ -120,17 +120,17 @@ head_variables_narrow n {k = k} {x = x} {c = c} {d = d} r h = record {
   is = r.is;
 }
 
-init_narrows : (n : ℕ) {k : Code} {x : Tree} {c d : Place} → heads.InitRule (Reads n) k x c d → supported_in k.flags.module x ≡ true → InitRule (ReadsClass n) (ReadsPat n) k x c d
+init_narrows : (n : ℕ) {k : Code} {x : Tree} {c d : Place} → heads.InitRule (Reads n) k x c d → supported_in k.flags.module x ≡ true → SmallInitRule (ReadsClass n) (ReadsPat n) k x c d
 init_narrows n {c = c} (heads.no_init_rule i g e) h = no_init_rule (saw c kind.Semi i) g e
 init_narrows n (heads.init_variables_rule r) h = init_variables_rule (head_variables_narrow n r h)
 init_narrows n (heads.init_expression_rule i r) h = init_expression_rule i (r, h)
 
-left_narrows : (n : ℕ) {k : Code} {x : Tree} {c d : Place} → heads.LeftRule (Reads n) k x c d → supported_in k.flags.module x ≡ true → LeftRule (ReadsClass n) (ReadsPat n) (ReadsTarget n) k x c d
+left_narrows : (n : ℕ) {k : Code} {x : Tree} {c d : Place} → heads.LeftRule (Reads n) k x c d → supported_in k.flags.module x ≡ true → SmallLeftRule (ReadsClass n) (ReadsPat n) (ReadsTarget n) k x c d
 left_narrows n (heads.declared_rule r) h = declared_rule (head_variables_narrow n r h)
 left_narrows n (heads.target_rule i r) h = left_target_rule i (r, h)
 
 of_left_narrows : (n : ℕ) (is_await : Bool) {k : Code} {x : Tree} {c d : Place} → heads.OfLeftRule (Reads n) k is_await x c d → supported_in k.flags.module x ≡ true
-    → OfLeftRule (ReadsClass n) (ReadsPat n) (ReadsTarget n) k is_await x c d
+    → SmallOfLeftRule (ReadsClass n) (ReadsPat n) (ReadsTarget n) k is_await x c d
 of_left_narrows n is_await (heads.of_left_rule r i) h = of_left_rule (left_narrows n r h) i
 of_left_narrows n is_await {k = k} {x = x} {c = c} {d = d} (heads.of_using_rule i (heads.using_head_rule y r e)) h =
     let f = e ∙ ap (λ z. tree.using (spanned c d) false (listed (z ∷ []))) r.is in
@@ -144,7 +144,7 @@ of_left_narrows n is_await {k = k} {x = x} {c = c} {d = d} (heads.of_using_rule 
     (supported_as k.flags.module x (tree.using (spanned c d) true (listed (tree.declarator (spanned (after (after c)) d) q.name tree.absent ∷ []))) f h) in
     of_await_rule q.words q.name (after (after c)) i (q.reads_words, q.supports) q.are_words l q.no_of (q.reads_name, (and_yes (supported_in k.flags.module q.name) true g.0).0) q.is_name f
 
-part_narrows : (n : ℕ) {k : Code} {x : Tree} {c d : Place} → heads.PartRule (Reads n) k x c d → supported_in k.flags.module x ≡ true → PartRule (ReadsClass n) k x c d
+part_narrows : (n : ℕ) {k : Code} {x : Tree} {c d : Place} → heads.PartRule (Reads n) k x c d → supported_in k.flags.module x ≡ true → SmallPartRule (ReadsClass n) k x c d
 part_narrows n (heads.no_part_rule g e) h = no_part_rule g e
 part_narrows n (heads.part_rule r) h = part_rule (r, h)
 
@@ -190,7 +190,7 @@ module _ (n : ℕ) (at : Position) (Item : Code → Tree → Place → Place →
 
   -- and where one of them begins with `await` is as it was
   items_await_as : (k : Code) (directives : Bool) (xs : List Tree) (c d : Place) (o : Quiet k (all_notes (trees xs))) (r : ItemsRule (Reads n) k directives at xs c d)
-      (h : all_supported_in k.flags.module (trees xs) ≡ true) → items_await Item k directives xs c d (items_narrow k directives xs c d o r h) ≡ programs.items_await (Reads n) k directives at xs c d r
+      (h : all_supported_in k.flags.module (trees xs) ≡ true) → small_items_await Item k directives xs c d (items_narrow k directives xs c d o r h) ≡ programs.items_await (Reads n) k directives at xs c d r
   unfolding items_narrow
   items_await_as k directives [] c d o r h = refl
   items_await_as k directives (x ∷ xs) c d o (m, r, rs) h = ap (λ b. sees kind.Await c || b) (items_await_as (directed k directives x) (directs_on directives x) xs m d _ rs _)
@@ -258,7 +258,7 @@ module _ (n : ℕ) (narrow : (k : Code) (at : Position) (x : Tree) (c d : Place)
         cases_narrow k (b || sees kind.Default c) xs m d (quiet_last k (notes x) _ o) rs v.1 f.1,
       )
 
-  catch_narrows : {k : Code} {x : Tree} {c d : Place} → Quiet k (notes x) → statements.CatchRule (Reads n) k x c d → supported_in k.flags.module x ≡ true → CatchRule (ReadsStmt n) (ReadsPat n) k x c d
+  catch_narrows : {k : Code} {x : Tree} {c d : Place} → Quiet k (notes x) → statements.CatchRule (Reads n) k x c d → supported_in k.flags.module x ≡ true → SmallCatchRule (ReadsStmt n) (ReadsPat n) k x c d
   catch_narrows o (statements.no_catch_rule i j e) h = no_catch_rule i j e
   catch_narrows {k = k} {x = x} {c = c} {d = d} o (statements.catch_rule body i r e) h =
       catch_rule body i (block_narrows (quiet_as k x (tree.catch (spanned c d) tree.absent body) e o) r (supported_as _ x (tree.catch (spanned c d) tree.absent body) e h)) e
@@ -267,12 +267,12 @@ module _ (n : ℕ) (narrow : (k : Code) (at : Position) (x : Tree) (c d : Place)
       let q = quiet_last k (notes p) (notes body) (quiet_as k x (tree.catch (spanned c d) p body) e o) in
       catch_parameter_rule p body m i j (r, g.0) l (block_narrows q s g.1) e
 
-  finally_narrows : {k : Code} {x : Tree} {c d : Place} → Quiet k (notes x) → statements.FinallyRule (Reads n) k x c d → supported_in k.flags.module x ≡ true → FinallyRule (ReadsStmt n) k x c d
+  finally_narrows : {k : Code} {x : Tree} {c d : Place} → Quiet k (notes x) → statements.FinallyRule (Reads n) k x c d → supported_in k.flags.module x ≡ true → SmallFinallyRule (ReadsStmt n) k x c d
   finally_narrows o (statements.no_finally_rule i j e) h = no_finally_rule i j e
   finally_narrows o (statements.finally_rule i r) h = finally_rule i (block_narrows o r h)
 
   mutual
-    if_narrows : {k : Code} {x : Tree} {c d : Place} → Quiet k (notes x) → statements.IfRule (Reads n) k x c d → supported_in k.flags.module x ≡ true → IfRule (ReadsStmt n) (ReadsClass n) k x c d
+    if_narrows : {k : Code} {x : Tree} {c d : Place} → Quiet k (notes x) → statements.IfRule (Reads n) k x c d → supported_in k.flags.module x ≡ true → SmallIfRule (ReadsStmt n) (ReadsClass n) k x c d
     if_narrows {k = k} {x = x} {c = c} {d = d} o (statements.if_rule test cons alt m i j r s t e) h =
         let g = and_yes (supported_in k.flags.module test) _ (supported_as _ x (tree.if_stmt (spanned c d) test cons alt) e h) in
         let f = and_yes (supported_in k.flags.module cons) _ g.1 in
@@ -280,7 +280,7 @@ module _ (n : ℕ) (narrow : (k : Code) (at : Position) (x : Tree) (c d : Place)
         if_rule test cons alt m i j (head_narrows r g.0) (narrow k sub_statement cons m i (quiet_last k (notes test) (notes cons) (quiet_first k (notes test ++ notes cons) (notes alt) q)) s f.0)
         (else_narrows (quiet_last k (notes test ++ notes cons) (notes alt) q) t f.1) e
 
-    else_narrows : {k : Code} {x : Tree} {c d : Place} → Quiet k (notes x) → statements.ElseRule (Reads n) k x c d → supported_in k.flags.module x ≡ true → ElseRule (ReadsStmt n) (ReadsClass n) k x c d
+    else_narrows : {k : Code} {x : Tree} {c d : Place} → Quiet k (notes x) → statements.ElseRule (Reads n) k x c d → supported_in k.flags.module x ≡ true → SmallElseRule (ReadsStmt n) (ReadsClass n) k x c d
     else_narrows o (statements.no_else_rule i j e) h = no_else_rule i j e
     else_narrows {k = k} {x = x} {c = c} {d = d} o (statements.else_rule i j s) h = else_rule i j (narrow k sub_statement x (after c) d o s h)
     else_narrows o (statements.else_if_rule i r) h = else_if_rule i (if_narrows o r h)
@@ -313,8 +313,8 @@ module _ (n : ℕ) (narrow : (k : Code) (at : Position) (x : Tree) (c d : Place)
       }
 
   abbrev Narrowed : Code → Position → Tree → Place → Place → Type 0
-  Narrowed k at x c d = EitherRule (StmtRule (ReadsStmt n) (ReadsClass n) (ReadsPat n) (ReadsTarget n) (ReadsParams n) (ReadsNamedClass n) k at x c d)
-      (DecoratedRule (ReadsDecorators n) (ReadsDeclared n) k at x c d)
+  Narrowed k at x c d = EitherRule (SmallStmtRule (ReadsStmt n) (ReadsClass n) (ReadsPat n) (ReadsTarget n) (ReadsParams n) (ReadsNamedClass n) k at x c d)
+      (SmallDecoratedRule (ReadsDecorators n) (ReadsDeclared n) k at x c d)
 
   -- with a name, and behind decorators or none
   function_narrows : (k : Code) (at : Position) (a name x y : Tree) (c m d : Place) → Quiet k (notes y) → classes.DecoratorsRule (Reads n) k a c m → at.include_decl || is_async_function m ≡ true
@@ -394,7 +394,7 @@ module _ (n : ℕ) (narrow : (k : Code) (at : Position) (x : Tree) (c d : Place)
   abbrev FormNarrowed : (k : Code) (at : Position) (x : Tree) (c d : Place) → statements.FormRule (Reads n) k at x c d → Type 0
   FormNarrowed k at x c d (statements.class_rule a name y m i r s b e) = Narrowed k at x c d
   FormNarrowed k at x c d (statements.function_rule a name y m r i s b e) = Narrowed k at x c d
-  FormNarrowed k at x c d _ = StmtRule (ReadsStmt n) (ReadsClass n) (ReadsPat n) (ReadsTarget n) (ReadsParams n) (ReadsNamedClass n) k at x c d
+  FormNarrowed k at x c d _ = SmallStmtRule (ReadsStmt n) (ReadsClass n) (ReadsPat n) (ReadsTarget n) (ReadsParams n) (ReadsNamedClass n) k at x c d
 
   form_narrows : (k : Code) (at : Position) (x : Tree) (c d : Place) → Quiet k (notes x) → (r : statements.FormRule (Reads n) k at x c d) → supported_in k.flags.module x ≡ true
       → FormNarrowed k at x c d r
@@ -499,7 +499,7 @@ script_narrows n k x c d (r, notes) h = record {
 
 -- it makes a module of itself where the whole language says so
 pub script_awaits_as : (n : ℕ) (k : Code) (x : Tree) (c d : Place) (r : ReadsEntry n programs.script k x c d) (h : supported x ≡ true)
-    → script_awaits n k x c d (script_narrows n k x c d r h) ≡ programs.script_awaits n k x c d r
+    → small_script_awaits n k x c d (script_narrows n k x c d r h) ≡ programs.script_awaits n k x c d r
 unfolding script_narrows
 script_awaits_as n k x c d (r, notes) h = items_await_as n top_item (λ j. ReadsTop n j top_item) (λ j y a b q s g. top_narrows n j top_item y a b q s g) (script_code k) true r.items r.first d
     never_module r.reads_items (supported_as _ x (tree.script (spanned c d) (listed r.items) r.shebang) r.is h)

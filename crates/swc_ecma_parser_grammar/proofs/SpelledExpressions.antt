@@ -11,9 +11,8 @@ use Rattle.swc_ecma_parser_model.specs.declared.operators.BinaryOp.TheVariants a
 use Rattle.swc_ecma_parser_model.specs.Tree as tree
 use Rattle.swc_ecma_parser_model.specs.Tree.{Tree, Text, listed}
 use Rattle.swc_ecma_parser_grammar.specs.Names.{Code}
-use Rattle.swc_ecma_parser_grammar.specs.Reads.{with_in}
 use Rattle.swc_ecma_parser_grammar.specs.language.Goals.{expr_goal, expression, assignment}
-use Rattle.swc_ecma_parser_grammar.specs.language.Contexts.{in_body}
+use Rattle.swc_ecma_parser_grammar.specs.language.Contexts.{in_body, with_in}
 use Rattle.swc_ecma_parser_grammar.specs.language.Lists.{no_comma, last_comma, last_element}
 use Rattle.swc_ecma_parser_grammar.specs.language.Parts.{plain_element, no_name, word_access}
 use Rattle.swc_ecma_parser_grammar.specs.language.Classes.{no_heritage}

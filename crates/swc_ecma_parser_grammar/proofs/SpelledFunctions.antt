@@ -11,13 +11,14 @@ use Rattle.swc_ecma_parser_model.specs.Tree.{Tree, listed}
 use Rattle.swc_ecma_parser_grammar.specs.Names.{Code}
 use Rattle.swc_ecma_parser_grammar.specs.Ends.{by_semicolon, by_insertion, ends_at}
 use Rattle.swc_ecma_parser_grammar.specs.Follows.{is_let_declaration, may_begin_expression_statement, no_star, star, not_async, async_word}
-use Rattle.swc_ecma_parser_grammar.specs.Reads.{with_in}
+use Rattle.swc_ecma_parser_grammar.specs.language.PatternItems.{element_rule}
+use Rattle.swc_ecma_parser_grammar.specs.language.Contexts.{with_in}
 use Rattle.swc_ecma_parser_grammar.specs.language.Goals.{expr_goal, expression, assignment, stmt_goal}
 use Rattle.swc_ecma_parser_grammar.specs.language.Items.{top_item}
 use Rattle.swc_ecma_parser_grammar.specs.language.Lists.{no_comma}
 use Rattle.swc_ecma_parser_grammar.specs.language.Parts as part
 use Rattle.swc_ecma_parser_grammar.specs.language.Parts.{no_name, plain_element, word_key}
-use Rattle.swc_ecma_parser_grammar.specs.language.Functions.{element_rule, method_head, getter_head}
+use Rattle.swc_ecma_parser_grammar.specs.language.Functions.{method_head, getter_head}
 use Rattle.swc_ecma_parser_grammar.specs.language.Classes.{decorator_rule, no_decorators, some_decorators, member_key, no_value, method_rule, field_rule, static_block_rule, member_rule, no_heritage, heritage_rule}
 use Rattle.swc_ecma_parser_grammar.specs.language.Objects as property
 use Rattle.swc_ecma_parser_grammar.specs.language.LeftSides.{number_rule, object_rule, class_rule, function_rule, paren_rule, primary_rule, call_rule}

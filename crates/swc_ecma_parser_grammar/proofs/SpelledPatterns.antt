@@ -8,11 +8,11 @@ use Rattle.swc_ecma_parser_input.specs.Place.{Place}
 use Rattle.swc_ecma_parser_model.specs.declared.operators.AssignOp.TheVariants as assign
 use Rattle.swc_ecma_parser_model.specs.Tree as tree
 use Rattle.swc_ecma_parser_model.specs.Tree.{Tree, listed}
-use Rattle.swc_ecma_parser_grammar.specs.Reads.{with_in}
+use Rattle.swc_ecma_parser_grammar.specs.language.PatternItems.{element_rule}
+use Rattle.swc_ecma_parser_grammar.specs.language.Contexts.{with_in}
 use Rattle.swc_ecma_parser_grammar.specs.language.Goals.{expr_goal, expression}
 use Rattle.swc_ecma_parser_grammar.specs.language.Lists.{no_comma}
 use Rattle.swc_ecma_parser_grammar.specs.language.Parts.{plain_element, word_access, word_key}
-use Rattle.swc_ecma_parser_grammar.specs.language.Functions.{element_rule}
 use Rattle.swc_ecma_parser_grammar.specs.language.LeftSides as left_side
 use Rattle.swc_ecma_parser_grammar.specs.language.LeftSides.{number_rule, paren_rule, primary_rule, member_rule, call_rule, import_call_rule}
 use Rattle.swc_ecma_parser_grammar.specs.language.Patterns.{key_value_rule, default_rule, array_rule, object_rule, bare_rule, initialized_rule}

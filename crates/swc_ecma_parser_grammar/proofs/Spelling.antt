@@ -17,15 +17,13 @@ use Rattle.swc_ecma_parser_grammar.specs.Looks.{kind_at, breaks_at, span_at, sam
 use Rattle.swc_ecma_parser_grammar.specs.Names.{Code, is_reserved, is_identifier, is_clean_name, identifier_at}
 use Rattle.swc_ecma_parser_grammar.specs.Ends.{can_end}
 use Rattle.swc_ecma_parser_grammar.specs.Follows.{word_at, is_async_function, continues_left_side}
-use Rattle.swc_ecma_parser_grammar.specs.Reads.{ReadsToken}
 use Rattle.swc_ecma_parser_grammar.specs.language.Goals.{Goal}
 use Rattle.swc_ecma_parser_grammar.specs.language.Contexts.{may_await}
 use Rattle.swc_ecma_parser_grammar.specs.language.Begins.{awaits, begins_unary, begins_expression}
 use Rattle.swc_ecma_parser_grammar.specs.language.Continues.{continues_callee, continues_unary, continues_operand, continues_head, continues_conditional, continues_assignment, continues_yield}
-use Rattle.swc_ecma_parser_grammar.specs.language.Parts.{ReadsName, ReadsWord}
+use Rattle.swc_ecma_parser_grammar.specs.language.Parts.{ReadsName, ReadsWord, ReadsToken}
 use Rattle.swc_ecma_parser_grammar.specs.language.Classes.{ends_key, is_static_word, is_accessor_word, is_accessor_key}
-use Rattle.swc_ecma_parser_grammar.specs.language.LeftSides.{primary_rule, name_rule}
-use Rattle.swc_ecma_parser_grammar.specs.language.Patterns.{OperandRule}
+use Rattle.swc_ecma_parser_grammar.specs.language.LeftSides.{primary_rule, name_rule, OperandRule}
 use Rattle.swc_ecma_parser_grammar.specs.language.Expressions.{BinaryRule, single_rule, operand_rule, AssignmentRule, operators_rule}
 
 -- ---- tokens

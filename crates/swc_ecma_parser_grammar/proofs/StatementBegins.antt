@@ -18,7 +18,6 @@ use Rattle.swc_ecma_parser_grammar.specs.declared.position.Position.{Position}
 use Rattle.swc_ecma_parser_grammar.specs.Looks.{first_kind, kind_at, breaks_at, sees, same_kind}
 use Rattle.swc_ecma_parser_grammar.specs.Names.{Code, is_reserved, is_identifier, token_is_identifier, first_is_identifier, identifier_at}
 use Rattle.swc_ecma_parser_grammar.specs.Follows.{token_is, first_is, word_at, is_async_function, is_let_declaration, may_begin_expression_statement, begins_import_expression, AwaitWord, no_await, await_word, AsyncWord, not_async, async_word}
-use Rattle.swc_ecma_parser_grammar.specs.Reads.{with_in}
 use Rattle.swc_ecma_parser_grammar.specs.language.Goals.{Goal, Class, expression, expr_goal, stmt_goal}
 use Rattle.swc_ecma_parser_grammar.specs.language.Begins.{begins_operand, begins_unary, begins_expression}
 use Rattle.swc_ecma_parser_grammar.specs.language.Parts.{ReadsName}
@@ -29,7 +28,7 @@ use Rattle.swc_ecma_parser_grammar.specs.Variables.{begins_variables}
 use Rattle.swc_ecma_parser_grammar.specs.language.Declarations.{is_using_declaration}
 use Rattle.swc_ecma_parser_grammar.specs.language.ForHeads.{InitRule, LeftRule, OfLeftRule}
 use Rattle.swc_ecma_parser_grammar.specs.language.Statements.{HeadRule, IfRule, if_rule, CaseRule, at_most_one_default, FormRule, class_rule, function_rule, variables_rule, using_rule, block_rule, empty_rule, debugger_rule, with_rule, return_rule, labeled_rule, break_rule, continue_rule, if_statement_rule, switch_rule, throw_rule, try_rule, while_rule, do_while_rule, for_rule, for_in_rule, for_of_rule, expr_rule, import_expr_rule}
-use Rattle.swc_ecma_parser_grammar.specs.language.Contexts.{in_breakable}
+use Rattle.swc_ecma_parser_grammar.specs.language.Contexts.{in_breakable, with_in}
 use Rattle.swc_ecma_parser_grammar.specs.language.Reads.{Reads}
 use Rattle.swc_ecma_parser_grammar.proofs.ExpressionBegins.{and_first, kind_seen, name_is_identifier, expressions_begin}
 

@@ -1,7 +1,7 @@
 -- What an entry reads for one statement: in module code too, where the rules of the first forms read nothing that is noted.
 use Rattle.swc_ecma_parser_grammar.proofs.Tests.{and_yes}
-use Rattle.swc_ecma_parser_grammar.specs.language.Functions.{PatternItemRule}
-use Rattle.swc_ecma_parser_grammar.specs.language.Lists.{ReadsListed}
+use Rattle.swc_ecma_parser_grammar.specs.language.PatternItems.{PatternItemRule}
+use Rattle.swc_ecma_parser_grammar.specs.language.Lists.{ReadsListed, ReadsSeparated}
 use Rattle.swc_ecma_parser_grammar.specs.Parameters.{parameters}
 use Rattle.std.proofs.Common.{◌≡◌, ℕ, zero, suc, Bool, true, false, true≢false, List, [], ◌∷◌, ◌++◌, refl, sym, ◌∙◌, ap}
 use Rattle.std.specs.Prelude.{◌&&◌, ◌||◌, if◌then◌else◌}
@@ -17,13 +17,13 @@ use Rattle.swc_ecma_parser_grammar.specs.declared.position.Position.{Position}
 use Rattle.swc_ecma_parser_grammar.specs.Looks.{sees, span_at}
 use Rattle.swc_ecma_parser_grammar.specs.Names.{Code}
 use Rattle.swc_ecma_parser_grammar.specs.Notes.{notes, all_notes, statement_note}
-use Rattle.swc_ecma_parser_grammar.specs.Reads.{with_in, directed, directs_on, nested_item, DeclaratorRule, plain_rule, initialized_rule, ReadsSeparated, ReadsItems, StmtRule, block_rule, empty_rule, debugger_rule, variables_rule, using_rule, if_statement_rule, TargetRule, no_target_rule, target_rule, OperandRule, no_operand_rule, operand_rule, break_rule, continue_rule, return_rule, labeled_rule, HeadVariables, InitRule, no_init_rule, init_variables_rule, init_expression_rule, LeftRule, declared_rule, left_target_rule, for_in_rule, for_of_rule, head_code, PartRule, no_part_rule, part_rule, for_rule, CaseRule, case_clause_rule, default_clause_rule, ReadsCases, switch_rule, throw_rule, try_rule, with_rule, while_rule, do_while_rule, expr_rule, import_rule, ReadsBlock, CatchRule, no_catch_rule, catch_rule, catch_parameter_rule, FinallyRule, no_finally_rule, finally_rule, ReadsHead, IfRule, if_rule, ElseRule, no_else_rule, else_rule, else_if_rule, ReadsBraced, ReadsFunction, class_rule, function_rule, OfLeftRule, of_left_rule, of_using_rule, of_await_rule}
-use Rattle.swc_ecma_parser_grammar.specs.Decorated.{declared_class, declared_function, DecoratedRule, EitherRule, plain_statement, decorated_statement}
-use Rattle.swc_ecma_parser_grammar.specs.Supported.{supported, supported_in, all_supported_in}
-use Rattle.swc_ecma_parser_grammar.specs.ReadsSupported.{ReadsClass, ReadsPat, ReadsTarget, ReadsStmt, ReadsTop, ReadsParams, ReadsNamedClass, ReadsDecorators, ReadsDeclared}
+use Rattle.swc_ecma_parser_grammar.specs.scaffold.Reads.{SmallDeclaratorRule, plain_rule, initialized_rule, ReadsItems, SmallStmtRule, block_rule, empty_rule, debugger_rule, variables_rule, using_rule, if_statement_rule, SmallTargetRule, no_target_rule, target_rule, SmallReturnedRule, no_operand_rule, operand_rule, break_rule, continue_rule, return_rule, labeled_rule, HeadVariables, SmallInitRule, no_init_rule, init_variables_rule, init_expression_rule, SmallLeftRule, declared_rule, left_target_rule, for_in_rule, for_of_rule, SmallPartRule, no_part_rule, part_rule, for_rule, SmallCaseRule, case_clause_rule, default_clause_rule, ReadsCases, switch_rule, throw_rule, try_rule, with_rule, while_rule, do_while_rule, expr_rule, import_rule, ReadsBlock, SmallCatchRule, no_catch_rule, catch_rule, catch_parameter_rule, SmallFinallyRule, no_finally_rule, finally_rule, ReadsHead, SmallIfRule, if_rule, SmallElseRule, no_else_rule, else_rule, else_if_rule, ReadsBraced, ReadsFunction, class_rule, function_rule, SmallOfLeftRule, of_left_rule, of_using_rule, of_await_rule}
+use Rattle.swc_ecma_parser_grammar.specs.scaffold.Decorated.{declared_class, declared_function, SmallDecoratedRule, EitherRule, plain_statement, decorated_statement}
+use Rattle.swc_ecma_parser_grammar.specs.scaffold.Supported.{supported, supported_in, all_supported_in}
+use Rattle.swc_ecma_parser_grammar.specs.scaffold.ReadsSupported.{ReadsClass, ReadsPat, ReadsTarget, ReadsStmt, ReadsTop, ReadsParams, ReadsNamedClass, ReadsDecorators, ReadsDeclared}
 use Rattle.swc_ecma_parser_grammar.specs.language.Goals.{binding, assigning, expression, assignment, stmt_goal}
-use Rattle.swc_ecma_parser_grammar.specs.language.Contexts.{in_module, in_loop, in_breakable}
-use Rattle.swc_ecma_parser_grammar.specs.language.Items.{sub_statement, labelled_item}
+use Rattle.swc_ecma_parser_grammar.specs.language.Contexts.{in_module, in_loop, in_breakable, with_in, head_code}
+use Rattle.swc_ecma_parser_grammar.specs.language.Items.{sub_statement, labelled_item, directed, directs_on, nested_item}
 use Rattle.swc_ecma_parser_grammar.specs.language.Reads.{Reads}
 use Rattle.swc_ecma_parser_grammar.specs.language.Programs.{is_module_program, is_module_code}
 use Rattle.swc_ecma_parser_grammar.proofs.Unnoted.{joined, expr_unnoted, pattern_unnoted, import_unnoted, parameter_unnoted, class_unnoted, decorators_unnoted}
@@ -34,44 +34,44 @@ use Rattle.swc_ecma_parser_grammar.proofs.Narrows.{top_narrows}
 
 -- ---- parts
 
-declarator_unnoted : (n : ℕ) (k : Code) (loop : Bool) (word : VarDeclKind) (x : Tree) (c d : Place) → k.flags.module ≡ true → DeclaratorRule (ReadsClass n assignment) (ReadsPat n) k loop word x c d → notes x ≡ []
+declarator_unnoted : (n : ℕ) (k : Code) (loop : Bool) (word : VarDeclKind) (x : Tree) (c d : Place) → k.flags.module ≡ true → SmallDeclaratorRule (ReadsClass n assignment) (ReadsPat n) k loop word x c d → notes x ≡ []
 declarator_unnoted n k loop word x c d o (plain_rule p r h b e) = ap notes e ∙ joined (notes p) [] (pattern_unnoted n binding (with_in k) p c d o r.0 r.1) refl
 declarator_unnoted n k loop word x c d o (initialized_rule p y m r h s e) =
     ap notes e ∙ joined (notes p) (notes y) (pattern_unnoted n binding (with_in k) p c m o r.0 r.1) (expr_unnoted n assignment k y (after m) d o s.0 s.1)
 
 declarators_unnoted : (n : ℕ) (k : Code) (loop : Bool) (word : VarDeclKind) (xs : List Tree) (c d : Place)
-    → k.flags.module ≡ true → ReadsSeparated (DeclaratorRule (ReadsClass n assignment) (ReadsPat n) k loop word) xs c d → all_notes (trees xs) ≡ []
+    → k.flags.module ≡ true → ReadsSeparated (SmallDeclaratorRule (ReadsClass n assignment) (ReadsPat n) k loop word) xs c d → all_notes (trees xs) ≡ []
 declarators_unnoted n k loop word [] c d o r = refl
 declarators_unnoted n k loop word (x ∷ []) c d o (r, e) = joined (notes x) [] (declarator_unnoted n k loop word x c d o r) refl
 declarators_unnoted n k loop word (x ∷ y ∷ ys) c d o (m, r, e, rs) =
     joined (notes x) _ (declarator_unnoted n k loop word x c m o r) (declarators_unnoted n k loop word (y ∷ ys) (after m) d o rs)
 
-target_unnoted : {k : Code} {x : Tree} {c d : Place} → TargetRule k x c d → notes x ≡ []
+target_unnoted : {k : Code} {x : Tree} {c d : Place} → SmallTargetRule k x c d → notes x ≡ []
 target_unnoted (no_target_rule h g e) = ap notes e
 target_unnoted (target_rule w s h r f e) = ap notes e
 
-operand_unnoted : (n : ℕ) {k : Code} {x : Tree} {c d : Place} → k.flags.module ≡ true → OperandRule (ReadsClass n) k x c d → notes x ≡ []
+operand_unnoted : (n : ℕ) {k : Code} {x : Tree} {c d : Place} → k.flags.module ≡ true → SmallReturnedRule (ReadsClass n) k x c d → notes x ≡ []
 operand_unnoted n o (no_operand_rule h g e) = ap notes e
 operand_unnoted n {k = k} {x = x} {c = c} {d = d} o (operand_rule h r) = expr_unnoted n expression (with_in k) x c d o r.0 r.1
 
 head_variables_unnoted : (n : ℕ) {k : Code} {x : Tree} {c d : Place} → k.flags.module ≡ true → HeadVariables (ReadsClass n) (ReadsPat n) k x c d → notes x ≡ []
 head_variables_unnoted n {k = k} {c = c} {d = d} o r = ap notes r.is ∙ declarators_unnoted n (head_code r.word k) true r.word r.declarators (after c) d (head_module r.word k ∙ o) r.reads
 
-init_unnoted : (n : ℕ) {k : Code} {x : Tree} {c d : Place} → k.flags.module ≡ true → InitRule (ReadsClass n) (ReadsPat n) k x c d → notes x ≡ []
+init_unnoted : (n : ℕ) {k : Code} {x : Tree} {c d : Place} → k.flags.module ≡ true → SmallInitRule (ReadsClass n) (ReadsPat n) k x c d → notes x ≡ []
 init_unnoted n o (no_init_rule h g e) = ap notes e
 init_unnoted n o (init_variables_rule r) = head_variables_unnoted n o r
 init_unnoted n {x = x} {c = c} {d = d} o (init_expression_rule h r) = expr_unnoted n expression _ x c d o r.0 r.1
 
-left_unnoted : (n : ℕ) {k : Code} {x : Tree} {c d : Place} → k.flags.module ≡ true → LeftRule (ReadsClass n) (ReadsPat n) (ReadsTarget n) k x c d → notes x ≡ []
+left_unnoted : (n : ℕ) {k : Code} {x : Tree} {c d : Place} → k.flags.module ≡ true → SmallLeftRule (ReadsClass n) (ReadsPat n) (ReadsTarget n) k x c d → notes x ≡ []
 left_unnoted n o (declared_rule r) = head_variables_unnoted n o r
 left_unnoted n {x = x} {c = c} {d = d} o (left_target_rule h r) = pattern_unnoted n assigning _ x c d o r.0 r.1
 
-of_left_unnoted : (n : ℕ) {w : Bool} {k : Code} {x : Tree} {c d : Place} → k.flags.module ≡ true → OfLeftRule (ReadsClass n) (ReadsPat n) (ReadsTarget n) k w x c d → notes x ≡ []
+of_left_unnoted : (n : ℕ) {w : Bool} {k : Code} {x : Tree} {c d : Place} → k.flags.module ≡ true → SmallOfLeftRule (ReadsClass n) (ReadsPat n) (ReadsTarget n) k w x c d → notes x ≡ []
 of_left_unnoted n o (of_left_rule r i) = left_unnoted n o r
 of_left_unnoted n {k = k} {c = c} {d = d} o (of_using_rule name h r i e) = ap notes e ∙ rw (pattern_unnoted n binding k name (after c) d o r.0 r.1) refl
 of_left_unnoted n {k = k} {d = d} o (of_await_rule y name m s r u l h q i e) = ap notes e ∙ rw (pattern_unnoted n binding k name m d o q.0 q.1) refl
 
-part_unnoted : (n : ℕ) {k : Code} {x : Tree} {c d : Place} → k.flags.module ≡ true → PartRule (ReadsClass n) k x c d → notes x ≡ []
+part_unnoted : (n : ℕ) {k : Code} {x : Tree} {c d : Place} → k.flags.module ≡ true → SmallPartRule (ReadsClass n) k x c d → notes x ≡ []
 part_unnoted n o (no_part_rule g e) = ap notes e
 part_unnoted n {k = k} {x = x} {c = c} {d = d} o (part_rule r) = expr_unnoted n expression (with_in k) x c d o r.0 r.1
 
@@ -108,7 +108,7 @@ module _ (n : ℕ) (small : (k : Code) (at : Position) (x : Tree) (c d : Place) 
   block_unnoted : {k : Code} {x : Tree} {c d : Place} → k.flags.module ≡ true → ReadsBlock (ReadsStmt n) k x c d → notes x ≡ []
   block_unnoted o r = braced_unnoted false o r
 
-  case_unnoted : {k : Code} {b : Bool} {x : Tree} {c d : Place} → k.flags.module ≡ true → CaseRule (ReadsStmt n) (ReadsClass n) k b x c d → notes x ≡ []
+  case_unnoted : {k : Code} {b : Bool} {x : Tree} {c d : Place} → k.flags.module ≡ true → SmallCaseRule (ReadsStmt n) (ReadsClass n) k b x c d → notes x ≡ []
   case_unnoted {k = k} {c = c} {d = d} o (case_clause_rule test xs m h r i s e) =
       ap notes e ∙ joined (notes test) _ (expr_unnoted n expression (with_in k) test (after c) m o r.0 r.1) (items_unnoted k false nested_item xs (after m) d o s)
   case_unnoted {k = k} {c = c} {d = d} o (default_clause_rule xs l h i s e) = ap notes e ∙ items_unnoted k false nested_item xs (after (after c)) d o s
@@ -117,22 +117,22 @@ module _ (n : ℕ) (small : (k : Code) (at : Position) (x : Tree) (c d : Place) 
   cases_unnoted k b [] c d o h = refl
   cases_unnoted k b (x ∷ xs) c d o (m, r, rs) = joined (notes x) _ (case_unnoted o r) (cases_unnoted k (b || sees kind.Default c) xs m d o rs)
 
-  catch_unnoted : {k : Code} {x : Tree} {c d : Place} → k.flags.module ≡ true → CatchRule (ReadsStmt n) (ReadsPat n) k x c d → notes x ≡ []
+  catch_unnoted : {k : Code} {x : Tree} {c d : Place} → k.flags.module ≡ true → SmallCatchRule (ReadsStmt n) (ReadsPat n) k x c d → notes x ≡ []
   catch_unnoted o (no_catch_rule h i e) = ap notes e
   catch_unnoted o (catch_rule body h r e) = ap notes e ∙ block_unnoted o r
   catch_unnoted {c = c} o (catch_parameter_rule p body m h i r j s e) =
       ap notes e ∙ joined (notes p) (notes body) (pattern_unnoted n binding _ p (after (after c)) m o r.0 r.1) (block_unnoted o s)
 
-  finally_unnoted : {k : Code} {x : Tree} {c d : Place} → k.flags.module ≡ true → FinallyRule (ReadsStmt n) k x c d → notes x ≡ []
+  finally_unnoted : {k : Code} {x : Tree} {c d : Place} → k.flags.module ≡ true → SmallFinallyRule (ReadsStmt n) k x c d → notes x ≡ []
   finally_unnoted o (no_finally_rule h i e) = ap notes e
   finally_unnoted o (finally_rule h r) = block_unnoted o r
 
   mutual
-    if_unnoted : {k : Code} {x : Tree} {c d : Place} → k.flags.module ≡ true → IfRule (ReadsStmt n) (ReadsClass n) k x c d → notes x ≡ []
+    if_unnoted : {k : Code} {x : Tree} {c d : Place} → k.flags.module ≡ true → SmallIfRule (ReadsStmt n) (ReadsClass n) k x c d → notes x ≡ []
     if_unnoted {k = k} o (if_rule test cons alt m i h r s t e) =
         ap notes e ∙ joined (notes test ++ notes cons) (notes alt) (joined (notes test) (notes cons) (head_unnoted n o r) (small k sub_statement cons m i o s)) (else_unnoted o t)
 
-    else_unnoted : {k : Code} {x : Tree} {c d : Place} → k.flags.module ≡ true → ElseRule (ReadsStmt n) (ReadsClass n) k x c d → notes x ≡ []
+    else_unnoted : {k : Code} {x : Tree} {c d : Place} → k.flags.module ≡ true → SmallElseRule (ReadsStmt n) (ReadsClass n) k x c d → notes x ≡ []
     else_unnoted o (no_else_rule h i e) = ap notes e
     else_unnoted {k = k} {x = x} {c = c} {d = d} o (else_rule h i s) = small k sub_statement x (after c) d o s
     else_unnoted o (else_if_rule h r) = if_unnoted o r
@@ -140,7 +140,7 @@ module _ (n : ℕ) (small : (k : Code) (at : Position) (x : Tree) (c d : Place) 
   function_unnoted : {k : Code} {x : Tree} {c d : Place} → k.flags.module ≡ true → ReadsFunction (ReadsStmt n) (ReadsParams n) k x c d → notes x ≡ []
   function_unnoted o r = ap notes r.is ∙ joined (notes (parameters r.patterns)) (notes r.body) (params_unnoted n r.patterns o r.reads_parameters) (braced_unnoted true o r.reads_body)
 
-  rule_unnoted : (k : Code) (at : Position) (x : Tree) (c d : Place) → k.flags.module ≡ true → StmtRule (ReadsStmt n) (ReadsClass n) (ReadsPat n) (ReadsTarget n) (ReadsParams n) (ReadsNamedClass n) k at x c d → notes x ≡ []
+  rule_unnoted : (k : Code) (at : Position) (x : Tree) (c d : Place) → k.flags.module ≡ true → SmallStmtRule (ReadsStmt n) (ReadsClass n) (ReadsPat n) (ReadsTarget n) (ReadsParams n) (ReadsNamedClass n) k at x c d → notes x ≡ []
   rule_unnoted k at x c d o (class_rule name y a r b e) = ap notes e ∙ class_unnoted n k name y c d o r.0 r.1
   rule_unnoted k at x c d o (function_rule a r) = function_unnoted o r
   rule_unnoted k at x c d o (block_rule r) = block_unnoted o r
@@ -179,8 +179,8 @@ module _ (n : ℕ) (small : (k : Code) (at : Position) (x : Tree) (c d : Place) 
   declared_unnoted k at x c d o (declared_function a r) = function_unnoted o r
 
   -- behind decorators
-  either_unnoted : (k : Code) (at : Position) (x : Tree) (c d : Place) → k.flags.module ≡ true → EitherRule (StmtRule (ReadsStmt n) (ReadsClass n) (ReadsPat n) (ReadsTarget n) (ReadsParams n) (ReadsNamedClass n) k at x c d)
-      (DecoratedRule (ReadsDecorators n) (ReadsDeclared n) k at x c d) → notes x ≡ []
+  either_unnoted : (k : Code) (at : Position) (x : Tree) (c d : Place) → k.flags.module ≡ true → EitherRule (SmallStmtRule (ReadsStmt n) (ReadsClass n) (ReadsPat n) (ReadsTarget n) (ReadsParams n) (ReadsNamedClass n) k at x c d)
+      (SmallDecoratedRule (ReadsDecorators n) (ReadsDeclared n) k at x c d) → notes x ≡ []
   either_unnoted k at x c d o (plain_statement r) = rule_unnoted k at x c d o r
   either_unnoted k at x c d o (decorated_statement r) = ap notes r.is ∙ decorated_unnoted (span_at c) (r.first ∷ r.others) r.bare
       (decorators_unnoted n k (listed (r.first ∷ r.others)) c r.middle o r.reads_decorators.0 r.reads_decorators.1) (declared_unnoted k at r.bare r.middle d o r.reads_bare)

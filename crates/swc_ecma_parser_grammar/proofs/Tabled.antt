@@ -10,7 +10,7 @@ use Rattle.swc_ecma_parser_model.specs.Forms.{span_of, is_ident_named, is_constr
 use Rattle.swc_ecma_parser_grammar.specs.Names.{is_one_of, reserved_words}
 use Rattle.swc_ecma_parser_model.specs.Within.{declared_name, is_initialized}
 use Rattle.swc_ecma_parser_grammar.specs.Own.{only, stands_around, break_faults, continue_faults, return_faults, labelled_function, duplicates, first_use_strict, misplaced_directive, second_constructor, surplus, head_faults, specifier_faults, each_specifier, export_faults}
-use Rattle.swc_ecma_parser_grammar.specs.Walk.{Env, directed, in_body, in_params, in_class, in_module, in_loop, in_switch, in_label, in_with, behind_item, decorator_env, walk, walk_body, walk_arrow_body, walk_method, walk_class_body, walk_members, walk_exported, walk_decorators, walk_each_decorator, walk_module, walk_items, walks, is_tabled, tabled}
+use Rattle.swc_ecma_parser_grammar.specs.Walk.{Env, env_directed, env_in_body, env_in_parameters, env_in_class, env_in_module, env_in_loop, env_in_switch, env_in_label, env_in_with, env_behind_item, decorator_env, walk, walk_body, walk_arrow_body, walk_method, walk_class_body, walk_members, walk_exported, walk_decorators, walk_each_decorator, walk_module, walk_items, walks, is_tabled, tabled}
 use Rattle.swc_ecma_parser_grammar.specs.language.Items.{directs_on}
 use Rattle.swc_ecma_parser_grammar.specs.language.Laws.{WalkIsTabled}
 
@@ -125,7 +125,7 @@ mutual
   of_tree env (tree.super_prop s word prop) = of_tree env prop
   of_tree env (tree.call s callee args) = of_tree env callee and of_tree env args
   of_tree env (tree.new s callee args) = of_tree env callee and of_tree env args
-  of_tree env (tree.arrow s params body is_async) = of_tree env params and of_arrow_body (in_body env) (walk (in_body env) body) body (of_tree (in_body env) body) and of_misplaced_directive (has_plain_params params) body
+  of_tree env (tree.arrow s params body is_async) = of_tree env params and of_arrow_body (env_in_body env) (walk (env_in_body env) body) body (of_tree (env_in_body env) body) and of_misplaced_directive (has_plain_params params) body
   of_tree env (tree.yield s arg delegate) = of_tree env arg
   of_tree env (tree.await s arg) = of_tree env arg
   of_tree env (tree.element spread e) = of_tree env e
@@ -137,8 +137,8 @@ mutual
   of_tree env (tree.shorthand_prop s text) = refl
   of_tree env (tree.key_value_prop s key value) = of_tree env key and of_tree env value
   of_tree env (tree.assign_prop s key value) = of_tree env key and of_tree env value
-  of_tree env (tree.getter_prop s key body) = of_tree env key and of_body (in_body env) body
-  of_tree env (tree.setter_prop s key p body) = of_tree env key and of_tree (in_params env) p and of_body (in_body env) body and of_misplaced_directive (is_plain_param p) body
+  of_tree env (tree.getter_prop s key body) = of_tree env key and of_body (env_in_body env) body
+  of_tree env (tree.setter_prop s key p body) = of_tree env key and of_tree (env_in_parameters env) p and of_body (env_in_body env) body and of_misplaced_directive (is_plain_param p) body
   of_tree env (tree.method_prop s key fn) = of_method env (walk env key) fn (of_tree env key)
   of_tree env (tree.ident_pat s text) = refl
   of_tree env (tree.array_pat s elems) = of_tree env elems
@@ -149,11 +149,11 @@ mutual
   of_tree env (tree.assign_pat s left right) = of_tree env left and of_tree env right
   of_tree env (tree.expr_pat e) = of_tree env e
   of_tree env (tree.invalid_pat s) = refl
-  of_tree env (tree.function s decorators params body is_async is_generator) = of_tree env decorators and of_tree (in_params env) params and of_body (in_body env) body and of_misplaced_directive (has_plain_params params) body
+  of_tree env (tree.function s decorators params body is_async is_generator) = of_tree env decorators and of_tree (env_in_parameters env) params and of_body (env_in_body env) body and of_misplaced_directive (has_plain_params params) body
   of_tree env (tree.param s decorators p) = of_tree env decorators and of_tree env p
   of_tree env (tree.decorator s e) = of_tree env e
-  of_tree env (tree.class s decorators body super_class) = of_tree env decorators and of_tree (in_class env) super_class and of_class_body (in_class env) body
-  of_tree env (tree.constructor s key params body) = of_tree env key and of_tree env params and of_body (in_body env) body and of_misplaced_directive (has_plain_params params) body
+  of_tree env (tree.class s decorators body super_class) = of_tree env decorators and of_tree (env_in_class env) super_class and of_class_body (env_in_class env) body
+  of_tree env (tree.constructor s key params body) = of_tree env key and of_tree env params and of_body (env_in_body env) body and of_misplaced_directive (has_plain_params params) body
   of_tree env (tree.method s key fn kind is_static) = of_method env (walk env key) fn (of_tree env key)
   of_tree env (tree.private_method s key fn kind is_static) = of_method env (walk env key) fn (of_tree env key)
   of_tree env (tree.class_prop s key value is_static decorators) = of_tree env decorators and of_tree env key and of_tree env value
@@ -169,32 +169,32 @@ mutual
   of_tree env (tree.block s stmts) = of_tree env stmts
   of_tree env (tree.empty s) = refl
   of_tree env (tree.debugger s) = refl
-  of_tree env (tree.with s obj body) = of_tree env obj and of_tree (in_with env) body
+  of_tree env (tree.with s obj body) = of_tree env obj and of_tree (env_in_with env) body
   of_tree env (tree.return s arg) = of_tree env arg and of_return_faults (env.in_function || env.setting.allow_return_outside_function) s
-  of_tree env (tree.labeled s label body) = of_tree (in_label env label) body and of_labelled_function env.strict body and of_duplicates env.labels label
+  of_tree env (tree.labeled s label body) = of_tree (env_in_label env label) body and of_labelled_function env.strict body and of_duplicates env.labels label
   of_tree env (tree.break s label) = of_break_faults env.can_break env.labels label s
   of_tree env (tree.continue s label) = of_continue_faults env.can_continue env.labels label s
   of_tree env (tree.if_stmt s test cons alt) = of_tree env test and of_tree env cons and of_tree env alt
-  of_tree env (tree.switch s discriminant cases) = of_tree env discriminant and of_tree (in_switch env) cases
+  of_tree env (tree.switch s discriminant cases) = of_tree env discriminant and of_tree (env_in_switch env) cases
   of_tree env (tree.case s test cons) = of_tree env test and of_tree env cons
   of_tree env (tree.throw s arg) = of_tree env arg
   of_tree env (tree.try s body handler finalizer) = of_tree env body and of_tree env handler and of_tree env finalizer
   of_tree env (tree.catch s p body) = of_tree env p and of_tree env body
-  of_tree env (tree.while s test body) = of_tree env test and of_tree (in_loop env) body
-  of_tree env (tree.do_while s test body) = of_tree (in_loop env) body and of_tree env test
-  of_tree env (tree.for s init test next body) = of_tree env init and of_tree env test and of_tree env next and of_tree (in_loop env) body
-  of_tree env (tree.for_in s left right body) = of_tree env left and of_head_faults env.strict left and of_tree env right and of_tree (in_loop env) body
-  of_tree env (tree.for_of s is_await left right body) = of_tree env left and of_head_faults true left and of_tree env right and of_tree (in_loop env) body
+  of_tree env (tree.while s test body) = of_tree env test and of_tree (env_in_loop env) body
+  of_tree env (tree.do_while s test body) = of_tree (env_in_loop env) body and of_tree env test
+  of_tree env (tree.for s init test next body) = of_tree env init and of_tree env test and of_tree env next and of_tree (env_in_loop env) body
+  of_tree env (tree.for_in s left right body) = of_tree env left and of_head_faults env.strict left and of_tree env right and of_tree (env_in_loop env) body
+  of_tree env (tree.for_of s is_await left right body) = of_tree env left and of_head_faults true left and of_tree env right and of_tree (env_in_loop env) body
   of_tree env (tree.expr_stmt s e) = of_tree env e
-  of_tree env (tree.import s specifiers src attributes phase) = of_tree (in_module env) specifiers and of_tree (in_module env) src and of_tree (in_module env) attributes
+  of_tree env (tree.import s specifiers src attributes phase) = of_tree (env_in_module env) specifiers and of_tree (env_in_module env) src and of_tree (env_in_module env) attributes
   of_tree env (tree.import_named s local imported) = of_tree env imported and of_tree env local
   of_tree env (tree.import_default s local) = of_tree env local
   of_tree env (tree.import_namespace s local) = of_tree env local
-  of_tree env (tree.export_decl s d) = of_exported env s (walk (in_module env) d) d (of_tree (in_module env) d)
-  of_tree env (tree.export_named s specifiers src attributes) = of_tree (in_module env) specifiers and of_tree (in_module env) src and of_tree (in_module env) attributes and of_export_faults src specifiers
-  of_tree env (tree.export_default_decl s d) = of_exported env s (walk (in_module env) d) d (of_tree (in_module env) d)
-  of_tree env (tree.export_default_expr s e) = of_tree (in_module env) e
-  of_tree env (tree.export_all s src attributes) = of_tree (in_module env) src and of_tree (in_module env) attributes
+  of_tree env (tree.export_decl s d) = of_exported env s (walk (env_in_module env) d) d (of_tree (env_in_module env) d)
+  of_tree env (tree.export_named s specifiers src attributes) = of_tree (env_in_module env) specifiers and of_tree (env_in_module env) src and of_tree (env_in_module env) attributes and of_export_faults src specifiers
+  of_tree env (tree.export_default_decl s d) = of_exported env s (walk (env_in_module env) d) d (of_tree (env_in_module env) d)
+  of_tree env (tree.export_default_expr s e) = of_tree (env_in_module env) e
+  of_tree env (tree.export_all s src attributes) = of_tree (env_in_module env) src and of_tree (env_in_module env) attributes
   of_tree env (tree.export_namespace s name) = of_tree env name
   of_tree env (tree.export_default exported) = of_tree env exported
   of_tree env (tree.export_specifier s orig exported) = of_tree env orig and of_tree env exported
@@ -211,7 +211,7 @@ mutual
   of_arrow_body env plain body h = h
 
   of_method : (env : Env) (key : List Fault) (x : Tree) → IsTabled key → IsTabled (walk_method env key x)
-  of_method env key (tree.function s decorators params body is_async is_generator) h = of_tree env decorators and h and of_tree (in_params env) params and of_body (in_body env) body and of_misplaced_directive (has_plain_params params) body
+  of_method env key (tree.function s decorators params body is_async is_generator) h = of_tree env decorators and h and of_tree (env_in_parameters env) params and of_body (env_in_body env) body and of_misplaced_directive (has_plain_params params) body
   of_method env key fn h = h
 
   of_class_body : (env : Env) (x : Tree) → IsTabled (walk_class_body env x)
@@ -223,10 +223,10 @@ mutual
   of_members env constructed (also m ms) = of_tree env m and of_second_constructor constructed m and of_members env (constructed || is_constructor m) ms
 
   of_exported : (env : Env) (s : Span) (plain : List Fault) (x : Tree) → IsTabled plain → IsTabled (walk_exported env s plain x)
-  of_exported env s plain (tree.class_decl name (tree.class t decorators body super_class)) h = of_decorators env s decorators and of_tree (in_class env) super_class and of_class_body (in_class env) body
-  of_exported env s plain (tree.class_expr r name (tree.class t decorators body super_class)) h = of_decorators env s decorators and of_tree (in_class env) super_class and of_class_body (in_class env) body
-  of_exported env s plain (tree.fn_decl name (tree.function t decorators params body is_async is_generator)) h = of_decorators env s decorators and of_tree (in_params (in_module env)) params and of_body (in_body (in_module env)) body and of_misplaced_directive (has_plain_params params) body
-  of_exported env s plain (tree.fn_expr r name (tree.function t decorators params body is_async is_generator)) h = of_decorators env s decorators and of_tree (in_params (in_module env)) params and of_body (in_body (in_module env)) body and of_misplaced_directive (has_plain_params params) body
+  of_exported env s plain (tree.class_decl name (tree.class t decorators body super_class)) h = of_decorators env s decorators and of_tree (env_in_class env) super_class and of_class_body (env_in_class env) body
+  of_exported env s plain (tree.class_expr r name (tree.class t decorators body super_class)) h = of_decorators env s decorators and of_tree (env_in_class env) super_class and of_class_body (env_in_class env) body
+  of_exported env s plain (tree.fn_decl name (tree.function t decorators params body is_async is_generator)) h = of_decorators env s decorators and of_tree (env_in_parameters (env_in_module env)) params and of_body (env_in_body (env_in_module env)) body and of_misplaced_directive (has_plain_params params) body
+  of_exported env s plain (tree.fn_expr r name (tree.function t decorators params body is_async is_generator)) h = of_decorators env s decorators and of_tree (env_in_parameters (env_in_module env)) params and of_body (env_in_body (env_in_module env)) body and of_misplaced_directive (has_plain_params params) body
   of_exported env s plain d h = h
 
   of_decorators : (env : Env) (s : Span) (x : Tree) → IsTabled (walk_decorators env s x)
@@ -243,11 +243,11 @@ mutual
 
   of_items : (env : Env) (directives : Bool) (xs : Trees) → IsTabled (walk_items env directives xs)
   of_items env directives none = refl
-  of_items env directives (also t ts) = of_tree env t and of_items (behind_item (directed env directives t) t) (directs_on directives t) ts
+  of_items env directives (also t ts) = of_tree env t and of_items (env_behind_item (env_directed env directives t) t) (directs_on directives t) ts
 
   of_trees : (env : Env) (directives : Bool) (xs : Trees) → IsTabled (walks env directives xs)
   of_trees env directives none = refl
-  of_trees env directives (also t ts) = of_tree env t and of_trees (directed env directives t) (directs_on directives t) ts
+  of_trees env directives (also t ts) = of_tree env t and of_trees (env_directed env directives t) (directs_on directives t) ts
 
 pub walk_is_tabled : WalkIsTabled
 walk_is_tabled = of_tree

@@ -18,16 +18,16 @@ use Rattle.swc_ecma_parser_grammar.specs.Names.{Code}
 use Rattle.swc_ecma_parser_grammar.specs.Parameters.{parameters}
 use Rattle.swc_ecma_parser_grammar.specs.Follows.{begins_import_expression}
 use Rattle.swc_ecma_parser_grammar.specs.Notes.{notes, method_notes, all_notes, statement_note}
-use Rattle.swc_ecma_parser_grammar.specs.Reads.{with_in, ReadsSeparated}
-use Rattle.swc_ecma_parser_grammar.specs.Supported.{supported_in, all_supported_in, is_supported_key_in, is_supported_property_in, has_no_note, is_clean, is_supported_method_in}
-use Rattle.swc_ecma_parser_grammar.specs.ReadsSupported.{ReadsClass}
+use Rattle.swc_ecma_parser_grammar.specs.scaffold.Supported.{supported_in, all_supported_in, is_supported_key_in, is_supported_property_in, has_no_note, is_clean, is_supported_method_in}
+use Rattle.swc_ecma_parser_grammar.specs.scaffold.ReadsSupported.{ReadsClass}
+use Rattle.swc_ecma_parser_grammar.specs.language.PatternItems.{PatternItemRule}
 use Rattle.swc_ecma_parser_grammar.specs.language.Goals.{Goal, Class, Purpose, binding, expression, assignment, operator, unary, left_side, callee, expr_goal, callee_goal, pattern_goal, element_goal, stmt_goal, member_goal, decorator_goal, using_goal, attributes_goal, item_goal}
-use Rattle.swc_ecma_parser_grammar.specs.language.Lists.{ReadsEach, ReadsListed, Elements, no_elements, hole, last_element, more_elements}
+use Rattle.swc_ecma_parser_grammar.specs.language.Lists.{ReadsEach, ReadsListed, Elements, no_elements, hole, last_element, more_elements, ReadsSeparated}
 use Rattle.swc_ecma_parser_grammar.specs.language.Parts as parts
 use Rattle.swc_ecma_parser_grammar.specs.language.Parts.{KeyRule, AccessRule, is_private, ElementRule, ArgumentsRule}
 use Rattle.swc_ecma_parser_grammar.specs.language.Functions as functions
-use Rattle.swc_ecma_parser_grammar.specs.language.Functions.{PatternItemRule}
-use Rattle.swc_ecma_parser_grammar.specs.language.Contexts.{in_class}
+use Rattle.swc_ecma_parser_grammar.specs.language.PatternItems as pattern_items
+use Rattle.swc_ecma_parser_grammar.specs.language.Contexts.{in_class, with_in}
 use Rattle.swc_ecma_parser_grammar.specs.language.Classes as classes
 use Rattle.swc_ecma_parser_grammar.specs.language.Classes.{DecoratorRule, DecoratorsRule, MemberKeyRule, method_member, field_member, FieldValueRule, CoreRule, MemberRule, HeritageRule, ClassRule}
 use Rattle.swc_ecma_parser_grammar.specs.language.Objects as objects
@@ -237,8 +237,8 @@ module _ (In : Goal → Type 0) (small : (g : Goal) → In g → SilentGoal g) w
       silent_as x (tree.new (spanned c d) y tree.absent) e (both_silent y tree.absent (small (expr_goal callee k y (after c) d) r) (λ _. refl))
 
   pattern_item_silent : (p : Purpose) (k : Code) (x : Tree) (c d : Place) → PatternItemRule In p k x c d → Silent x
-  pattern_item_silent p k x c d (functions.element_rule r) = small (element_goal p k x c d) r
-  pattern_item_silent p k x c d (functions.rest_rule y i r e) = silent_as x (tree.rest_pat (spanned c d) y) e (small (pattern_goal p k y (after c) d) r)
+  pattern_item_silent p k x c d (pattern_items.element_rule r) = small (element_goal p k x c d) r
+  pattern_item_silent p k x c d (pattern_items.rest_rule y i r e) = silent_as x (tree.rest_pat (spanned c d) y) e (small (pattern_goal p k y (after c) d) r)
 
   pattern_property_silent : (p : Purpose) (k : Code) (x : Tree) (c d : Place) → PatternPropertyRule In p k x c d → Silent x
   pattern_property_silent p k x c d (patterns.key_value_rule key value m r i s e) = silent_as x (tree.key_value_pat_prop (spanned c d) key value) e (λ h.
@@ -432,8 +432,8 @@ pub pattern_unnoted : (n : ℕ) (p : Purpose) (k : Code) (x : Tree) (c d : Place
 pattern_unnoted n p k x c d o r h = silent n (pattern_goal p k x c d) r (in_module x o h)
 
 pub parameter_unnoted : (n : ℕ) (k : Code) (x : Tree) (c d : Place) → k.flags.module ≡ true → PatternItemRule (Reads n) binding k x c d → supported_in k.flags.module x ≡ true → notes x ≡ []
-parameter_unnoted n k x c d o (functions.element_rule r) h = silent n (element_goal binding k x c d) r (in_module x o h)
-parameter_unnoted n k x c d o (functions.rest_rule y i r e) h = ap notes e ∙ silent n (pattern_goal binding k y (after c) d) r (supported_as _ x (tree.rest_pat (spanned c d) y) e (in_module x o h))
+parameter_unnoted n k x c d o (pattern_items.element_rule r) h = silent n (element_goal binding k x c d) r (in_module x o h)
+parameter_unnoted n k x c d o (pattern_items.rest_rule y i r e) h = ap notes e ∙ silent n (pattern_goal binding k y (after c) d) r (supported_as _ x (tree.rest_pat (spanned c d) y) e (in_module x o h))
 
 -- an object that stands as the attributes of an import
 pub attributes_unnoted : (n : ℕ) (k : Code) (x : Tree) (c d : Place) → k.flags.module ≡ true → Reads n (attributes_goal k x c d) → supported_in k.flags.module x ≡ true → notes x ≡ []

@@ -12,14 +12,14 @@ use Rattle.swc_ecma_parser_model.specs.Tree.{Tree, listed}
 use Rattle.swc_ecma_parser_model.specs.Forms.{is_simple_target, is_pattern_target, is_binding_name}
 use Rattle.swc_ecma_parser_grammar.specs.Looks.{kind_at, breaks_at, spanned}
 use Rattle.swc_ecma_parser_grammar.specs.Names.{Code}
-use Rattle.swc_ecma_parser_grammar.specs.Reads.{with_in}
+use Rattle.swc_ecma_parser_grammar.specs.language.PatternItems.{PatternItemRule, element_rule, rest_rule}
+use Rattle.swc_ecma_parser_grammar.specs.language.Contexts.{with_in}
 use Rattle.swc_ecma_parser_grammar.specs.language.Goals.{binding, assigning, expr_goal, expression, assignment, unary}
 use Rattle.swc_ecma_parser_grammar.specs.language.Continues.{continues_assignment}
 use Rattle.swc_ecma_parser_grammar.specs.language.Lists.{Elements, no_elements, hole, last_element, more_elements}
 use Rattle.swc_ecma_parser_grammar.specs.language.Parts.{ElementRule, plain_element, spread_element}
-use Rattle.swc_ecma_parser_grammar.specs.language.Functions.{PatternItemRule, element_rule, rest_rule}
-use Rattle.swc_ecma_parser_grammar.specs.language.LeftSides.{PrimaryRule}
-use Rattle.swc_ecma_parser_grammar.specs.language.Patterns.{OperandRule, PatternRule, binding_name_rule, target_name_rule, target_rule, array_rule, object_rule, PatternElementRule, bare_rule, initialized_rule}
+use Rattle.swc_ecma_parser_grammar.specs.language.LeftSides.{PrimaryRule, OperandRule}
+use Rattle.swc_ecma_parser_grammar.specs.language.Patterns.{PatternRule, binding_name_rule, target_name_rule, target_rule, array_rule, object_rule, PatternElementRule, bare_rule, initialized_rule}
 use Rattle.swc_ecma_parser_grammar.specs.language.Expressions.{UnaryRule, operand_rule, unary_rule, prefix_rule, postfix_rule, await_rule, BinaryRule, ArrowHeadRule, name_head, parameters_head, AssignmentRule}
 use Rattle.swc_ecma_parser_grammar.specs.language.Reads.{Reads}
 use Rattle.swc_ecma_parser_grammar.proofs.Spelling.{t, named, keyword, equals, start, behind, plain, looks}

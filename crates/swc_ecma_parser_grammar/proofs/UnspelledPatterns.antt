@@ -10,14 +10,16 @@ use Rattle.swc_ecma_parser_model.specs.declared.leaves.MethodKind.TheVariants as
 use Rattle.swc_ecma_parser_model.specs.Tree.{Tree}
 use Rattle.swc_ecma_parser_grammar.specs.Looks.{kind_at, breaks_at, sees}
 use Rattle.swc_ecma_parser_grammar.specs.Names.{Code}
-use Rattle.swc_ecma_parser_grammar.specs.Reads.{with_in}
+use Rattle.swc_ecma_parser_grammar.specs.language.LeftSides.{OperandRule}
+use Rattle.swc_ecma_parser_grammar.specs.language.PatternItems.{PatternItemRule, element_rule, rest_rule}
+use Rattle.swc_ecma_parser_grammar.specs.language.Contexts.{with_in}
 use Rattle.swc_ecma_parser_grammar.specs.language.Goals.{Goal, Purpose, binding, assigning, expr_goal, expression, assignment}
 use Rattle.swc_ecma_parser_grammar.specs.language.Parts.{KeyRule, word_key, string_key, number_key, big_int_key, computed_key}
-use Rattle.swc_ecma_parser_grammar.specs.language.Functions.{PatternItemRule, element_rule, rest_rule, ParametersRule, MethodRule}
+use Rattle.swc_ecma_parser_grammar.specs.language.Functions.{ParametersRule, MethodRule}
 use Rattle.swc_ecma_parser_grammar.specs.language.Objects as property
 use Rattle.swc_ecma_parser_grammar.specs.language.Objects.{PropertyRule}
 use Rattle.swc_ecma_parser_grammar.specs.language.Patterns as pattern
-use Rattle.swc_ecma_parser_grammar.specs.language.Patterns.{OperandRule, PatternPropertyRule, PatternRule, PatternElementRule}
+use Rattle.swc_ecma_parser_grammar.specs.language.Patterns.{PatternPropertyRule, PatternRule, PatternElementRule}
 use Rattle.swc_ecma_parser_grammar.specs.language.Expressions.{ArrowHeadRule, name_head, parameters_head, AssignmentRule}
 use Rattle.swc_ecma_parser_grammar.specs.language.Reads.{Reads}
 use Rattle.swc_ecma_parser_grammar.proofs.Spelling.{t, named, equals, start, behind, plain, looks}

@@ -16,17 +16,15 @@ use Rattle.swc_ecma_parser_grammar.specs.Names.{Code}
 use Rattle.swc_ecma_parser_grammar.specs.Looks.{kind_at, sees, same_kind}
 use Rattle.swc_ecma_parser_grammar.specs.Ends.{Ends, by_semicolon, by_insertion}
 use Rattle.swc_ecma_parser_grammar.specs.Follows.{AwaitWord, no_await, await_word, AsyncWord, not_async, async_word}
-use Rattle.swc_ecma_parser_grammar.specs.Reads.{with_in}
 use Rattle.swc_ecma_parser_grammar.specs.language.Goals.{expr_goal, expression, stmt_goal, pattern_goal, binding}
 use Rattle.swc_ecma_parser_grammar.specs.language.Operators.{binary_operator, assign_operator}
-use Rattle.swc_ecma_parser_grammar.specs.language.Contexts.{in_breakable}
+use Rattle.swc_ecma_parser_grammar.specs.language.Contexts.{in_breakable, with_in, head_code}
 use Rattle.swc_ecma_parser_grammar.specs.language.Lists.{ReadsEach}
 use Rattle.swc_ecma_parser_grammar.specs.language.Items.{nested_item, sub_statement, ItemsRule, BlockRule}
 use Rattle.swc_ecma_parser_grammar.specs.language.Classes.{decorator_rule, no_decorators, some_decorators}
 use Rattle.swc_ecma_parser_grammar.specs.language.Patterns.{binding_name_rule, target_name_rule, target_rule, array_rule, object_rule}
 use Rattle.swc_ecma_parser_grammar.specs.language.Expressions.{AssignmentRule, assignment_rule, sequence_rule}
 use Rattle.swc_ecma_parser_grammar.specs.language.Declarations.{DeclaratorRule, plain_rule, initialized_rule, VariablesRule, is_using_declaration}
-use Rattle.swc_ecma_parser_grammar.specs.Reads.{head_code}
 use Rattle.swc_ecma_parser_grammar.specs.language.ForHeads.{no_init_rule, init_variables_rule, init_expression_rule, LeftRule, declared_rule, target_rule, of_left_rule, of_using_rule}
 use Rattle.swc_ecma_parser_grammar.specs.language.Statements.{HeadRule, IfRule, if_rule, ElseRule, no_else_rule, else_rule, else_if_rule, CaseRule, case_clause_rule, default_clause_rule, is_default, at_most_one_default, FormRule, class_rule, function_rule, variables_rule, using_rule, block_rule, empty_rule, debugger_rule, with_rule, return_rule, labeled_rule, break_rule, continue_rule, if_statement_rule, switch_rule, throw_rule, try_rule, while_rule, do_while_rule, for_rule, for_in_rule, for_of_rule, expr_rule, import_expr_rule}
 use Rattle.swc_ecma_parser_grammar.specs.language.Reads.{Reads}

@@ -19,11 +19,10 @@ use Rattle.swc_ecma_parser_grammar.specs.Looks.{kind_at, same_kind}
 use Rattle.swc_ecma_parser_grammar.specs.Names.{Code, is_clean_name, is_identifier, is_reserved, identifier_at}
 use Rattle.swc_ecma_parser_grammar.specs.Follows.{word_at, token_is, first_is}
 use Rattle.swc_ecma_parser_grammar.specs.Own.{only}
-use Rattle.swc_ecma_parser_grammar.specs.Using.{may_declare_using, misused, each_misused, using_faults}
-use Rattle.swc_ecma_parser_grammar.specs.Reads.{with_in}
+use Rattle.swc_ecma_parser_grammar.specs.scaffold.Using.{may_declare_using, misused, each_misused, using_faults}
 use Rattle.swc_ecma_parser_grammar.specs.language.Goals.{binding, assigning, pattern_goal}
 use Rattle.swc_ecma_parser_grammar.specs.language.Begins.{awaits}
-use Rattle.swc_ecma_parser_grammar.specs.language.Contexts.{without_in}
+use Rattle.swc_ecma_parser_grammar.specs.language.Contexts.{without_in, with_in}
 use Rattle.swc_ecma_parser_grammar.specs.language.Parts.{ReadsName}
 use Rattle.swc_ecma_parser_grammar.specs.language.Patterns.{binding_name_rule, target_name_rule, target_rule, array_rule, object_rule}
 use Rattle.swc_ecma_parser_grammar.specs.language.Reads.{Reads}

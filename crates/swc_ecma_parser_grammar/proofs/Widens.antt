@@ -20,22 +20,23 @@ use Rattle.swc_ecma_parser_grammar.specs.Looks.{kind_at, breaks_at, sees, same_k
 use Rattle.swc_ecma_parser_grammar.specs.Names.{Code}
 use Rattle.swc_ecma_parser_grammar.specs.Ends.{Ends}
 use Rattle.swc_ecma_parser_grammar.specs.Follows.{AwaitWord}
-use Rattle.swc_ecma_parser_grammar.specs.Using.{is_using_declaration, misused, each_misused, using_faults}
-use Rattle.swc_ecma_parser_grammar.specs.Reads.{with_in, directed, directs_on, nested_item, top_item, DeclaratorRule, plain_rule, initialized_rule, ReadsSeparated, ReadsItems, StmtRule, block_rule, empty_rule, debugger_rule, variables_rule, using_rule, if_statement_rule, TargetRule, no_target_rule, target_rule, OperandRule, no_operand_rule, operand_rule, break_rule, continue_rule, return_rule, labeled_rule, HeadVariables, InitRule, no_init_rule, init_variables_rule, init_expression_rule, LeftRule, declared_rule, left_target_rule, for_in_rule, for_of_rule, head_code, PartRule, no_part_rule, part_rule, for_rule, CaseRule, case_clause_rule, default_clause_rule, ReadsCases, switch_rule, throw_rule, try_rule, with_rule, while_rule, do_while_rule, expr_rule, import_rule, ReadsBlock, CatchRule, no_catch_rule, catch_rule, catch_parameter_rule, FinallyRule, no_finally_rule, finally_rule, ReadsHead, IfRule, if_rule, ElseRule, no_else_rule, else_rule, else_if_rule, ReadsBraced, ReadsFunction, class_rule, function_rule, OfLeftRule, of_left_rule, of_using_rule, of_await_rule}
-use Rattle.swc_ecma_parser_grammar.specs.Entries.{ReadsScript, ReadsShebang, some_shebang, no_shebang, script_code, items_await, script_awaits}
-use Rattle.swc_ecma_parser_grammar.specs.Decorated.{decorated_by, DeclaredRule, declared_class, declared_function, DecoratedRule, EitherRule, plain_statement, decorated_statement}
-use Rattle.swc_ecma_parser_grammar.specs.Supported.{supported_in, all_supported_in}
-use Rattle.swc_ecma_parser_grammar.specs.ReadsSupported.{ReadsClass, ReadsPat, ReadsTarget, ReadsStmt, ReadsTop, ReadsParams, ReadsNamedClass, ReadsDecorators, ReadsDeclared}
+use Rattle.swc_ecma_parser_grammar.specs.scaffold.Using.{misused, each_misused, using_faults}
+use Rattle.swc_ecma_parser_grammar.specs.scaffold.Reads.{SmallDeclaratorRule, plain_rule, initialized_rule, ReadsItems, SmallStmtRule, block_rule, empty_rule, debugger_rule, variables_rule, using_rule, if_statement_rule, SmallTargetRule, no_target_rule, target_rule, SmallReturnedRule, no_operand_rule, operand_rule, break_rule, continue_rule, return_rule, labeled_rule, HeadVariables, SmallInitRule, no_init_rule, init_variables_rule, init_expression_rule, SmallLeftRule, declared_rule, left_target_rule, for_in_rule, for_of_rule, SmallPartRule, no_part_rule, part_rule, for_rule, SmallCaseRule, case_clause_rule, default_clause_rule, ReadsCases, switch_rule, throw_rule, try_rule, with_rule, while_rule, do_while_rule, expr_rule, import_rule, ReadsBlock, SmallCatchRule, no_catch_rule, catch_rule, catch_parameter_rule, SmallFinallyRule, no_finally_rule, finally_rule, ReadsHead, SmallIfRule, if_rule, SmallElseRule, no_else_rule, else_rule, else_if_rule, ReadsBraced, ReadsFunction, class_rule, function_rule, SmallOfLeftRule, of_left_rule, of_using_rule, of_await_rule}
+use Rattle.swc_ecma_parser_grammar.specs.scaffold.Entries.{ReadsScript, ReadsShebang, some_shebang, no_shebang, small_items_await, small_script_awaits}
+use Rattle.swc_ecma_parser_grammar.specs.scaffold.Decorated.{decorated_by, DeclaredRule, declared_class, declared_function, SmallDecoratedRule, EitherRule, plain_statement, decorated_statement}
+use Rattle.swc_ecma_parser_grammar.specs.scaffold.Supported.{supported_in, all_supported_in}
+use Rattle.swc_ecma_parser_grammar.specs.scaffold.ReadsSupported.{ReadsClass, ReadsPat, ReadsTarget, ReadsStmt, ReadsTop, ReadsParams, ReadsNamedClass, ReadsDecorators, ReadsDeclared}
+use Rattle.swc_ecma_parser_grammar.specs.language.Declarations.{is_using_declaration}
 use Rattle.swc_ecma_parser_grammar.specs.language.Goals.{expression, assignment, expr_goal, stmt_goal}
-use Rattle.swc_ecma_parser_grammar.specs.language.Contexts.{in_loop, in_breakable, in_with, without_in}
+use Rattle.swc_ecma_parser_grammar.specs.language.Contexts.{in_loop, in_breakable, in_with, without_in, with_in, head_code, script_code}
 use Rattle.swc_ecma_parser_grammar.specs.language.Patterns as patterns
 use Rattle.swc_ecma_parser_grammar.specs.language.ForHeads as heads
 use Rattle.swc_ecma_parser_grammar.specs.language.Classes as classes
 use Rattle.swc_ecma_parser_grammar.specs.language.Functions as functions
 use Rattle.swc_ecma_parser_grammar.specs.language.Parts as parts
 use Rattle.swc_ecma_parser_grammar.specs.language.Declarations as declarations
-use Rattle.swc_ecma_parser_grammar.specs.language.Items.{sub_statement, labelled_item, ItemsRule, BlockRule}
-use Rattle.swc_ecma_parser_grammar.specs.language.Lists.{ReadsEach}
+use Rattle.swc_ecma_parser_grammar.specs.language.Items.{sub_statement, labelled_item, ItemsRule, BlockRule, directed, directs_on, nested_item, top_item}
+use Rattle.swc_ecma_parser_grammar.specs.language.Lists.{ReadsEach, ReadsSeparated}
 use Rattle.swc_ecma_parser_grammar.specs.language.Statements as statements
 use Rattle.swc_ecma_parser_grammar.specs.language.Statements.{is_default, at_most_one_default, may_begin_at_top}
 use Rattle.swc_ecma_parser_grammar.specs.language.Reads.{Reads}
@@ -52,11 +53,11 @@ use Rattle.swc_ecma_parser_grammar.proofs.language.Shapes.{expr_stands}
 
 -- ---- declarators
 
-declarator_supported : (n : ℕ) (k : Code) (loop : Bool) (word : VarDeclKind) (x : Tree) (c d : Place) → DeclaratorRule (ReadsClass n assignment) (ReadsPat n) k loop word x c d → supported_in k.flags.module x ≡ true
+declarator_supported : (n : ℕ) (k : Code) (loop : Bool) (word : VarDeclKind) (x : Tree) (c d : Place) → SmallDeclaratorRule (ReadsClass n assignment) (ReadsPat n) k loop word x c d → supported_in k.flags.module x ≡ true
 declarator_supported n k loop word x c d (plain_rule p r h b e) = ap (supported_in k.flags.module) e ∙ and_both _ _ r.1 refl
 declarator_supported n k loop word x c d (initialized_rule p y m r h s e) = ap (supported_in k.flags.module) e ∙ and_both _ _ r.1 s.1
 
-declarator_widens : (n : ℕ) (k : Code) (loop : Bool) (word : VarDeclKind) (x : Tree) (c d : Place) → DeclaratorRule (ReadsClass n assignment) (ReadsPat n) k loop word x c d
+declarator_widens : (n : ℕ) (k : Code) (loop : Bool) (word : VarDeclKind) (x : Tree) (c d : Place) → SmallDeclaratorRule (ReadsClass n assignment) (ReadsPat n) k loop word x c d
     → declarations.DeclaratorRule (Reads n) k loop word x c d
 declarator_widens n k loop word x c d (plain_rule p r h b e) = declarations.plain_rule p r.0 h b e
 declarator_widens n k loop word x c d (initialized_rule p y m r h s e) = declarations.initialized_rule p y m r.0 h s.0 e
@@ -89,36 +90,36 @@ pub saw : (c : Place) (j : TokenKind) → sees j c ≡ true → kind_at c ≡ j
 unfolding same_kind
 saw c j e = same_true the_type (search rules) (kind_at c) j e
 
-target_supported : {k : Code} {x : Tree} {c d : Place} → TargetRule k x c d → supported_in k.flags.module x ≡ true
+target_supported : {k : Code} {x : Tree} {c d : Place} → SmallTargetRule k x c d → supported_in k.flags.module x ≡ true
 target_supported {k = k} (no_target_rule h g e) = ap (supported_in k.flags.module) e
 target_supported {k = k} (target_rule w s h r f e) = ap (supported_in k.flags.module) e ∙ refl
 
-operand_supported : (n : ℕ) {k : Code} {x : Tree} {c d : Place} → OperandRule (ReadsClass n) k x c d → supported_in k.flags.module x ≡ true
+operand_supported : (n : ℕ) {k : Code} {x : Tree} {c d : Place} → SmallReturnedRule (ReadsClass n) k x c d → supported_in k.flags.module x ≡ true
 operand_supported n {k = k} (no_operand_rule h g e) = ap (supported_in k.flags.module) e
 operand_supported n (operand_rule h r) = r.1
 
-target_widens : {k : Code} {x : Tree} {c d : Place} → TargetRule k x c d → statements.TargetRule k x c d
+target_widens : {k : Code} {x : Tree} {c d : Place} → SmallTargetRule k x c d → statements.TargetRule k x c d
 target_widens (no_target_rule h g e) = statements.no_target_rule h g e
 target_widens {k = k} (target_rule w s h r f e) =
     statements.target_rule (word_text w) s h (record { word = w; reads_word = r; is_text = refl; is_name = name_is_clean k.flags (word_text w) f }) e
 
-operand_widens : (n : ℕ) {k : Code} {x : Tree} {c d : Place} → OperandRule (ReadsClass n) k x c d → statements.OperandRule (Reads n) k x c d
+operand_widens : (n : ℕ) {k : Code} {x : Tree} {c d : Place} → SmallReturnedRule (ReadsClass n) k x c d → statements.ReturnedRule (Reads n) k x c d
 operand_widens n (no_operand_rule h g e) = statements.no_operand_rule h g e
 operand_widens n (operand_rule h r) = statements.operand_rule h r.0
 
 declarators_supported : (n : ℕ) (k : Code) (loop : Bool) (word : VarDeclKind) (xs : List Tree) (c d : Place)
-    → ReadsSeparated (DeclaratorRule (ReadsClass n assignment) (ReadsPat n) k loop word) xs c d → all_supported_in k.flags.module (trees xs) ≡ true
-declarators_supported n k loop word = separated_supported k.flags.module (DeclaratorRule (ReadsClass n assignment) (ReadsPat n) k loop word) (declarator_supported n k loop word)
+    → ReadsSeparated (SmallDeclaratorRule (ReadsClass n assignment) (ReadsPat n) k loop word) xs c d → all_supported_in k.flags.module (trees xs) ≡ true
+declarators_supported n k loop word = separated_supported k.flags.module (SmallDeclaratorRule (ReadsClass n assignment) (ReadsPat n) k loop word) (declarator_supported n k loop word)
 
 declarators_widen : (n : ℕ) (k : Code) (loop : Bool) (word : VarDeclKind) (xs : List Tree) (c d : Place)
-    → ReadsSeparated (DeclaratorRule (ReadsClass n assignment) (ReadsPat n) k loop word) xs c d → ReadsSeparated (declarations.DeclaratorRule (Reads n) k loop word) xs c d
+    → ReadsSeparated (SmallDeclaratorRule (ReadsClass n assignment) (ReadsPat n) k loop word) xs c d → ReadsSeparated (declarations.DeclaratorRule (Reads n) k loop word) xs c d
 declarators_widen n k loop word =
-    separated_widen (DeclaratorRule (ReadsClass n assignment) (ReadsPat n) k loop word) (declarations.DeclaratorRule (Reads n) k loop word) (declarator_widens n k loop word)
+    separated_widen (SmallDeclaratorRule (ReadsClass n assignment) (ReadsPat n) k loop word) (declarations.DeclaratorRule (Reads n) k loop word) (declarator_widens n k loop word)
 
 -- ---- what is declared with `using`
 
 module _ (n : ℕ) (k : Code) where
-  using_declarator_widens : (s : Span) (x : Tree) (c d : Place) → DeclaratorRule (ReadsClass n assignment) (ReadsPat n) (with_in k) false decl.Var x c d → misused s x ≡ []
+  using_declarator_widens : (s : Span) (x : Tree) (c d : Place) → SmallDeclaratorRule (ReadsClass n assignment) (ReadsPat n) (with_in k) false decl.Var x c d → misused s x ≡ []
       → declarations.UsingDeclaratorRule (Reads n) k x c d
   using_declarator_widens s x c d (plain_rule p r h b e) f = let g = declared s x p tree.absent e f in cc
   using_declarator_widens s x c d (initialized_rule p y m r h q e) f = let g = declared s x p y e f in record {
@@ -132,7 +133,7 @@ module _ (n : ℕ) (k : Code) where
     is = e;
   }
 
-  using_declarators_widen : (s : Span) (xs : List Tree) (c d : Place) → ReadsSeparated (DeclaratorRule (ReadsClass n assignment) (ReadsPat n) (with_in k) false decl.Var) xs c d → each_misused s xs ≡ []
+  using_declarators_widen : (s : Span) (xs : List Tree) (c d : Place) → ReadsSeparated (SmallDeclaratorRule (ReadsClass n assignment) (ReadsPat n) (with_in k) false decl.Var) xs c d → each_misused s xs ≡ []
       → ReadsSeparated (declarations.UsingDeclaratorRule (Reads n) k) xs c d
   using_declarators_widen s [] c d r f = r
   using_declarators_widen s (x ∷ []) c d (r, e) f = (using_declarator_widens s x c d r (parted (misused s x) [] f).0, e)
@@ -140,7 +141,7 @@ module _ (n : ℕ) (k : Code) where
       let g = parted (misused s x) _ f in (m, using_declarator_widens s x c m r g.0, e, using_declarators_widen s (y ∷ ys) (after m) d rs g.1)
 
   using_widens : (at : Position) (x : Tree) (c d : Place) (is_await : Bool) (xs : List Tree) (m i : Place) → at.include_decl || (is_await && at.top_level) ≡ true → AwaitWord is_await c m
-      → is_await && breaks_at m ≡ false → is_using_declaration k m ≡ true → ReadsSeparated (DeclaratorRule (ReadsClass n assignment) (ReadsPat n) (with_in k) false decl.Var) xs (after m) i
+      → is_await && breaks_at m ≡ false → is_using_declaration k m ≡ true → ReadsSeparated (SmallDeclaratorRule (ReadsClass n assignment) (ReadsPat n) (with_in k) false decl.Var) xs (after m) i
       → using_faults k.setting.explicit_resource_management (spanned c i) xs ≡ [] → Ends i d → x ≡ tree.using (spanned c d) is_await (listed xs) → declarations.UsingRule (Reads n) k at x c d
   using_widens at x c d v xs m i a w l b r f u e = let g = set_so k.setting.explicit_resource_management (spanned c i) xs f in record {
     is_await = v;
@@ -157,7 +158,7 @@ module _ (n : ℕ) (k : Code) where
     is = e;
   }
 
-  declared_supported : (s : Span) (xs : List Tree) (c d : Place) → ReadsSeparated (DeclaratorRule (ReadsClass n assignment) (ReadsPat n) (with_in k) false decl.Var) xs c d
+  declared_supported : (s : Span) (xs : List Tree) (c d : Place) → ReadsSeparated (SmallDeclaratorRule (ReadsClass n assignment) (ReadsPat n) (with_in k) false decl.Var) xs c d
       → all_supported_in k.flags.module (trees xs) ≡ true
   declared_supported s xs c d r = declarators_supported n (with_in k) false decl.Var xs c d r
 
@@ -175,34 +176,34 @@ head_variables_widen n {k = k} {c = c} {d = d} r = record {
   is = r.is;
 }
 
-init_supported : (n : ℕ) {k : Code} {x : Tree} {c d : Place} → InitRule (ReadsClass n) (ReadsPat n) k x c d → supported_in k.flags.module x ≡ true
+init_supported : (n : ℕ) {k : Code} {x : Tree} {c d : Place} → SmallInitRule (ReadsClass n) (ReadsPat n) k x c d → supported_in k.flags.module x ≡ true
 init_supported n {k = k} (no_init_rule h g e) = ap (supported_in k.flags.module) e
 init_supported n (init_variables_rule r) = head_variables_supported n r
 init_supported n (init_expression_rule h r) = r.1
 
-left_supported : (n : ℕ) {k : Code} {x : Tree} {c d : Place} → LeftRule (ReadsClass n) (ReadsPat n) (ReadsTarget n) k x c d → supported_in k.flags.module x ≡ true
+left_supported : (n : ℕ) {k : Code} {x : Tree} {c d : Place} → SmallLeftRule (ReadsClass n) (ReadsPat n) (ReadsTarget n) k x c d → supported_in k.flags.module x ≡ true
 left_supported n (declared_rule r) = head_variables_supported n r
 left_supported n (left_target_rule h r) = r.1
 
-of_left_supported : (n : ℕ) {w : Bool} {k : Code} {x : Tree} {c d : Place} → OfLeftRule (ReadsClass n) (ReadsPat n) (ReadsTarget n) k w x c d → supported_in k.flags.module x ≡ true
+of_left_supported : (n : ℕ) {w : Bool} {k : Code} {x : Tree} {c d : Place} → SmallOfLeftRule (ReadsClass n) (ReadsPat n) (ReadsTarget n) k w x c d → supported_in k.flags.module x ≡ true
 of_left_supported n (of_left_rule r i) = left_supported n r
 of_left_supported n {k = k} (of_using_rule name h r i e) = ap (supported_in k.flags.module) e ∙ rw r.1 refl
 of_left_supported n {k = k} (of_await_rule y name m s r u l o q i e) = ap (supported_in k.flags.module) e ∙ rw q.1 refl
 
-part_supported : (n : ℕ) {k : Code} {x : Tree} {c d : Place} → PartRule (ReadsClass n) k x c d → supported_in k.flags.module x ≡ true
+part_supported : (n : ℕ) {k : Code} {x : Tree} {c d : Place} → SmallPartRule (ReadsClass n) k x c d → supported_in k.flags.module x ≡ true
 part_supported n {k = k} (no_part_rule g e) = ap (supported_in k.flags.module) e
 part_supported n (part_rule r) = r.1
 
-init_widens : (n : ℕ) {k : Code} {x : Tree} {c d : Place} → InitRule (ReadsClass n) (ReadsPat n) k x c d → heads.InitRule (Reads n) k x c d
+init_widens : (n : ℕ) {k : Code} {x : Tree} {c d : Place} → SmallInitRule (ReadsClass n) (ReadsPat n) k x c d → heads.InitRule (Reads n) k x c d
 init_widens n {c = c} (no_init_rule h g e) = heads.no_init_rule (seen c kind.Semi h) g e
 init_widens n (init_variables_rule r) = heads.init_variables_rule (head_variables_widen n r)
 init_widens n (init_expression_rule h r) = heads.init_expression_rule h r.0
 
-left_widens : (n : ℕ) {k : Code} {x : Tree} {c d : Place} → LeftRule (ReadsClass n) (ReadsPat n) (ReadsTarget n) k x c d → heads.LeftRule (Reads n) k x c d
+left_widens : (n : ℕ) {k : Code} {x : Tree} {c d : Place} → SmallLeftRule (ReadsClass n) (ReadsPat n) (ReadsTarget n) k x c d → heads.LeftRule (Reads n) k x c d
 left_widens n (declared_rule r) = heads.declared_rule (head_variables_widen n r)
 left_widens n (left_target_rule h r) = heads.target_rule h r.0
 
-of_left_widens : (n : ℕ) {w : Bool} {k : Code} {x : Tree} {c d : Place} → OfLeftRule (ReadsClass n) (ReadsPat n) (ReadsTarget n) k w x c d → heads.OfLeftRule (Reads n) k w x c d
+of_left_widens : (n : ℕ) {w : Bool} {k : Code} {x : Tree} {c d : Place} → SmallOfLeftRule (ReadsClass n) (ReadsPat n) (ReadsTarget n) k w x c d → heads.OfLeftRule (Reads n) k w x c d
 of_left_widens n (of_left_rule r i) = heads.of_left_rule (left_widens n r) i
 of_left_widens n {k = k} {c = c} {d = d} (of_using_rule name h r i e) =
     let g = declares_in_head k c h in
@@ -211,7 +212,7 @@ of_left_widens n {k = k} {c = c} {d = d} (of_await_rule y name m s r u l o q i e
     let g = awaited_words n (without_in k) y c m r.0 u in
     heads.of_using_rule s (heads.await_using_head_rule (tree.declarator (spanned m d) name tree.absent) g.stands (awaited_may k g.may) l (await_using_widens n k y name c m d r.0 u o q.0 i) e)
 
-part_widens : (n : ℕ) {k : Code} {x : Tree} {c d : Place} → PartRule (ReadsClass n) k x c d → heads.PartRule (Reads n) k x c d
+part_widens : (n : ℕ) {k : Code} {x : Tree} {c d : Place} → SmallPartRule (ReadsClass n) k x c d → heads.PartRule (Reads n) k x c d
 part_widens n (no_part_rule g e) = heads.no_part_rule g e
 part_widens n (part_rule r) = heads.part_rule r.0
 
@@ -236,7 +237,7 @@ module _ (n : ℕ) (small : (k : Code) (at : Position) (x : Tree) (c d : Place) 
   block_supported : {k : Code} {x : Tree} {c d : Place} → ReadsBlock (ReadsStmt n) k x c d → supported_in k.flags.module x ≡ true
   block_supported r = braced_supported false r
 
-  case_supported : {k : Code} {b : Bool} {x : Tree} {c d : Place} → CaseRule (ReadsStmt n) (ReadsClass n) k b x c d → supported_in k.flags.module x ≡ true
+  case_supported : {k : Code} {b : Bool} {x : Tree} {c d : Place} → SmallCaseRule (ReadsStmt n) (ReadsClass n) k b x c d → supported_in k.flags.module x ≡ true
   case_supported {k = k} {d = d} (case_clause_rule test xs m h r i s e) = ap (supported_in k.flags.module) e ∙ and_both (supported_in k.flags.module test) _ r.1 (nested_supported k false xs (after m) d s)
   case_supported {k = k} {c = c} {d = d} (default_clause_rule xs o h i s e) = ap (supported_in k.flags.module) e ∙ nested_supported k false xs (after (after c)) d s
 
@@ -244,20 +245,20 @@ module _ (n : ℕ) (small : (k : Code) (at : Position) (x : Tree) (c d : Place) 
   cases_supported k b [] c d h = refl
   cases_supported k b (x ∷ xs) c d (m, r, rs) = and_both (supported_in k.flags.module x) _ (case_supported r) (cases_supported k (b || sees kind.Default c) xs m d rs)
 
-  catch_supported : {k : Code} {x : Tree} {c d : Place} → CatchRule (ReadsStmt n) (ReadsPat n) k x c d → supported_in k.flags.module x ≡ true
+  catch_supported : {k : Code} {x : Tree} {c d : Place} → SmallCatchRule (ReadsStmt n) (ReadsPat n) k x c d → supported_in k.flags.module x ≡ true
   catch_supported {k = k} (no_catch_rule h i e) = ap (supported_in k.flags.module) e
   catch_supported {k = k} (catch_rule body h r e) = ap (supported_in k.flags.module) e ∙ block_supported r
   catch_supported {k = k} (catch_parameter_rule p body m h i r j s e) = ap (supported_in k.flags.module) e ∙ and_both (supported_in k.flags.module p) _ r.1 (block_supported s)
 
-  finally_supported : {k : Code} {x : Tree} {c d : Place} → FinallyRule (ReadsStmt n) k x c d → supported_in k.flags.module x ≡ true
+  finally_supported : {k : Code} {x : Tree} {c d : Place} → SmallFinallyRule (ReadsStmt n) k x c d → supported_in k.flags.module x ≡ true
   finally_supported {k = k} (no_finally_rule h i e) = ap (supported_in k.flags.module) e
   finally_supported (finally_rule h r) = block_supported r
 
   mutual
-    if_supported : {k : Code} {x : Tree} {c d : Place} → IfRule (ReadsStmt n) (ReadsClass n) k x c d → supported_in k.flags.module x ≡ true
+    if_supported : {k : Code} {x : Tree} {c d : Place} → SmallIfRule (ReadsStmt n) (ReadsClass n) k x c d → supported_in k.flags.module x ≡ true
     if_supported {k = k} (if_rule test cons alt m i h r s o e) = ap (supported_in k.flags.module) e ∙ and_both (supported_in k.flags.module test) _ r.reads.1 (and_both (supported_in k.flags.module cons) _ (small k sub_statement cons m i s) (else_supported o))
 
-    else_supported : {k : Code} {x : Tree} {c d : Place} → ElseRule (ReadsStmt n) (ReadsClass n) k x c d → supported_in k.flags.module x ≡ true
+    else_supported : {k : Code} {x : Tree} {c d : Place} → SmallElseRule (ReadsStmt n) (ReadsClass n) k x c d → supported_in k.flags.module x ≡ true
     else_supported {k = k} (no_else_rule h i e) = ap (supported_in k.flags.module) e
     else_supported {k = k} {x = x} {c = c} {d = d} (else_rule h i s) = small k sub_statement x (after c) d s
     else_supported (else_if_rule h r) = if_supported r
@@ -267,7 +268,7 @@ module _ (n : ℕ) (small : (k : Code) (at : Position) (x : Tree) (c d : Place) 
       ap (supported_in k.flags.module) r.is ∙ and_both _ _ refl
       (and_both (supported_in k.flags.module (parameters r.patterns)) _ (parameters_same k.flags.module r.patterns ∙ r.reads_parameters.1) (braced_supported true r.reads_body))
 
-  rule_supported : (k : Code) (at : Position) (x : Tree) (c d : Place) → StmtRule (ReadsStmt n) (ReadsClass n) (ReadsPat n) (ReadsTarget n) (ReadsParams n) (ReadsNamedClass n) k at x c d → supported_in k.flags.module x ≡ true
+  rule_supported : (k : Code) (at : Position) (x : Tree) (c d : Place) → SmallStmtRule (ReadsStmt n) (ReadsClass n) (ReadsPat n) (ReadsTarget n) (ReadsParams n) (ReadsNamedClass n) k at x c d → supported_in k.flags.module x ≡ true
   rule_supported k at x c d (class_rule name y a r b e) = ap (supported_in k.flags.module) e ∙ r.1
   rule_supported k at x c d (function_rule a r) = function_supported r
   rule_supported k at x c d (block_rule r) = block_supported r
@@ -300,8 +301,8 @@ module _ (n : ℕ) (small : (k : Code) (at : Position) (x : Tree) (c d : Place) 
   declared_supported_by k at x c d (declared_class name y a r b e) = ap (supported_in k.flags.module) e ∙ r.1
   declared_supported_by k at x c d (declared_function a r) = function_supported r
 
-  statement_supported : (k : Code) (at : Position) (x : Tree) (c d : Place) → EitherRule (StmtRule (ReadsStmt n) (ReadsClass n) (ReadsPat n) (ReadsTarget n) (ReadsParams n) (ReadsNamedClass n) k at x c d)
-      (DecoratedRule (ReadsDecorators n) (ReadsDeclared n) k at x c d) → supported_in k.flags.module x ≡ true
+  statement_supported : (k : Code) (at : Position) (x : Tree) (c d : Place) → EitherRule (SmallStmtRule (ReadsStmt n) (ReadsClass n) (ReadsPat n) (ReadsTarget n) (ReadsParams n) (ReadsNamedClass n) k at x c d)
+      (SmallDecoratedRule (ReadsDecorators n) (ReadsDeclared n) k at x c d) → supported_in k.flags.module x ≡ true
   statement_supported k at x c d (plain_statement r) = rule_supported k at x c d r
   statement_supported k at x c d (decorated_statement r) = ap (supported_in k.flags.module) r.is
       ∙ decorated_supported k.flags.module (span_at c) (r.first ∷ r.others) r.bare r.reads_decorators.1 (declared_supported_by k at r.bare r.middle d r.reads_bare)
@@ -330,7 +331,7 @@ module _ (n : ℕ) (at : Position) (Item : Code → Tree → Place → Place →
 
   -- and where one of them begins with `await` is as it was
   items_await_as : (k : Code) (directives : Bool) (xs : List Tree) (c d : Place) (r : ReadsItems Item k directives xs c d)
-      → programs.items_await (Reads n) k directives at xs c d (items_widen k directives xs c d r) ≡ items_await Item k directives xs c d r
+      → programs.items_await (Reads n) k directives at xs c d (items_widen k directives xs c d r) ≡ small_items_await Item k directives xs c d r
   unfolding items_widen
   items_await_as k directives [] c d r = refl
   items_await_as k directives (x ∷ xs) c d (m, r, rs) = ap (λ b. sees kind.Await c || b) (items_await_as (directed k directives x) (directs_on directives x) xs m d rs)
@@ -360,7 +361,7 @@ module _ (n : ℕ) (widen : (k : Code) (at : Position) (x : Tree) (c d : Place) 
   block_widens : {k : Code} {x : Tree} {c d : Place} → ReadsBlock (ReadsStmt n) k x c d → BlockRule (Reads n) k false x c d
   block_widens r = braced_widens false r
 
-  case_widens : {k : Code} {b : Bool} {x : Tree} {c d : Place} → CaseRule (ReadsStmt n) (ReadsClass n) k b x c d → statements.CaseRule (Reads n) k x c d
+  case_widens : {k : Code} {b : Bool} {x : Tree} {c d : Place} → SmallCaseRule (ReadsStmt n) (ReadsClass n) k b x c d → statements.CaseRule (Reads n) k x c d
   case_widens {k = k} {d = d} (case_clause_rule test xs m h r i s e) = statements.case_clause_rule test xs m h r.0 i (nested_widen k false xs (after m) d s) e
   case_widens {k = k} {c = c} {d = d} (default_clause_rule xs o h i s e) = statements.default_clause_rule xs h i (nested_widen k false xs (after (after c)) d s) e
 
@@ -382,20 +383,20 @@ module _ (n : ℕ) (widen : (k : Code) (at : Position) (x : Tree) (c d : Place) 
   one_at_most k (x ∷ xs) c d (m, default_clause_rule ys o h j s e, rs) =
       rw (e, none_more k xs m d (subst (λ b. ReadsCases (ReadsStmt n) (ReadsClass n) k b xs m d) (ap (λ j. same_kind j kind.Default) h) rs)) refl
 
-  catch_widens : {k : Code} {x : Tree} {c d : Place} → CatchRule (ReadsStmt n) (ReadsPat n) k x c d → statements.CatchRule (Reads n) k x c d
+  catch_widens : {k : Code} {x : Tree} {c d : Place} → SmallCatchRule (ReadsStmt n) (ReadsPat n) k x c d → statements.CatchRule (Reads n) k x c d
   catch_widens (no_catch_rule h i e) = statements.no_catch_rule h i e
   catch_widens (catch_rule body h r e) = statements.catch_rule body h (block_widens r) e
   catch_widens (catch_parameter_rule p body m h i r j s e) = statements.catch_parameter_rule p body m h i r.0 j (block_widens s) e
 
-  finally_widens : {k : Code} {x : Tree} {c d : Place} → FinallyRule (ReadsStmt n) k x c d → statements.FinallyRule (Reads n) k x c d
+  finally_widens : {k : Code} {x : Tree} {c d : Place} → SmallFinallyRule (ReadsStmt n) k x c d → statements.FinallyRule (Reads n) k x c d
   finally_widens (no_finally_rule h i e) = statements.no_finally_rule h i e
   finally_widens (finally_rule h r) = statements.finally_rule h (block_widens r)
 
   mutual
-    if_widens : {k : Code} {x : Tree} {c d : Place} → IfRule (ReadsStmt n) (ReadsClass n) k x c d → statements.IfRule (Reads n) k x c d
+    if_widens : {k : Code} {x : Tree} {c d : Place} → SmallIfRule (ReadsStmt n) (ReadsClass n) k x c d → statements.IfRule (Reads n) k x c d
     if_widens {k = k} (if_rule test cons alt m i h r s o e) = statements.if_rule test cons alt m i h (head_widens r) (inner k sub_statement cons m i refl s) (else_widens o) e
 
-    else_widens : {k : Code} {x : Tree} {c d : Place} → ElseRule (ReadsStmt n) (ReadsClass n) k x c d → statements.ElseRule (Reads n) k x c d
+    else_widens : {k : Code} {x : Tree} {c d : Place} → SmallElseRule (ReadsStmt n) (ReadsClass n) k x c d → statements.ElseRule (Reads n) k x c d
     else_widens (no_else_rule h i e) = statements.no_else_rule h i e
     else_widens {k = k} {x = x} {c = c} {d = d} (else_rule h i s) = statements.else_rule h i (inner k sub_statement x (after c) d refl s)
     else_widens (else_if_rule h r) = statements.else_if_rule h (if_widens r)
@@ -419,7 +420,7 @@ module _ (n : ℕ) (widen : (k : Code) (at : Position) (x : Tree) (c d : Place) 
     is = refl;
   }
 
-  form_widens : (k : Code) (at : Position) (x : Tree) (c d : Place) → StmtRule (ReadsStmt n) (ReadsClass n) (ReadsPat n) (ReadsTarget n) (ReadsParams n) (ReadsNamedClass n) k at x c d → statements.FormRule (Reads n) k at x c d
+  form_widens : (k : Code) (at : Position) (x : Tree) (c d : Place) → SmallStmtRule (ReadsStmt n) (ReadsClass n) (ReadsPat n) (ReadsTarget n) (ReadsParams n) (ReadsNamedClass n) k at x c d → statements.FormRule (Reads n) k at x c d
   form_widens k at x c d (class_rule name y a r b e) = statements.class_rule (listed []) name y c a (classes.no_decorators refl refl) r.0 b e
   form_widens k at x c d (function_rule a r) = statements.function_rule (listed []) _ _ c (classes.no_decorators refl refl) a (function_widens k (listed []) x c d r) refl r.is
   form_widens k at x c d (block_rule r) = statements.block_rule (block_widens r)
@@ -451,7 +452,7 @@ module _ (n : ℕ) (widen : (k : Code) (at : Position) (x : Tree) (c d : Place) 
   form_widens k at x c d (import_rule y m h r g e) = statements.import_expr_rule y m h r.0 g e
 
   -- a class or a function behind decorators
-  decorated_widens : (k : Code) (at : Position) (x : Tree) (c d : Place) → DecoratedRule (ReadsDecorators n) (ReadsDeclared n) k at x c d → statements.FormRule (Reads n) k at x c d
+  decorated_widens : (k : Code) (at : Position) (x : Tree) (c d : Place) → SmallDecoratedRule (ReadsDecorators n) (ReadsDeclared n) k at x c d → statements.FormRule (Reads n) k at x c d
   unfolding spanned
   decorated_widens k at x c d r = by_kind r.bare r.reads_bare r.is
     where
@@ -477,8 +478,8 @@ module _ (n : ℕ) (widen : (k : Code) (at : Position) (x : Tree) (c d : Place) 
       by_kind y (declared_function a q) i = statements.function_rule (listed ds) _ _ r.middle r.reads_decorators.0 a (function_widens k (listed ds) y r.middle d q) refl
           (i ∙ ap (decorated_by (span_at c) ds) q.is)
 
-  either_widens : (k : Code) (at : Position) (x : Tree) (c d : Place) → EitherRule (StmtRule (ReadsStmt n) (ReadsClass n) (ReadsPat n) (ReadsTarget n) (ReadsParams n) (ReadsNamedClass n) k at x c d)
-      (DecoratedRule (ReadsDecorators n) (ReadsDeclared n) k at x c d) → statements.FormRule (Reads n) k at x c d
+  either_widens : (k : Code) (at : Position) (x : Tree) (c d : Place) → EitherRule (SmallStmtRule (ReadsStmt n) (ReadsClass n) (ReadsPat n) (ReadsTarget n) (ReadsParams n) (ReadsNamedClass n) k at x c d)
+      (SmallDecoratedRule (ReadsDecorators n) (ReadsDeclared n) k at x c d) → statements.FormRule (Reads n) k at x c d
   either_widens k at x c d (plain_statement r) = form_widens k at x c d r
   either_widens k at x c d (decorated_statement r) = decorated_widens k at x c d r
 
@@ -518,6 +519,6 @@ script_widens n k x c d r = (
 )
 
 -- it makes no module of itself that was none
-pub script_awaits_as : (n : ℕ) (k : Code) (x : Tree) (c d : Place) (r : ReadsScript n k x c d) → programs.script_awaits n k x c d (script_widens n k x c d r) ≡ script_awaits n k x c d r
+pub script_awaits_as : (n : ℕ) (k : Code) (x : Tree) (c d : Place) (r : ReadsScript n k x c d) → programs.script_awaits n k x c d (script_widens n k x c d r) ≡ small_script_awaits n k x c d r
 unfolding script_widens
 script_awaits_as n k x c d r = items_await_as n top_item (λ j. ReadsTop n j top_item) (λ j y a b q. top_widens n j top_item y a b q) (script_code k) true r.items r.first d r.reads_items

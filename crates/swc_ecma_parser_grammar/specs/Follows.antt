@@ -1,7 +1,7 @@
--- What must not follow an expression that ends: the tokens that go on with it, and what may begin an expression statement.
+-- Looks at the tokens that stand next, which several forms have in common: what goes on with a left-hand-side expression, a word by
+-- its text, what begins a declaration or an expression statement, and the words that may be left out before a form.
 use Rattle.std.specs.Prelude.{Bool, true, false, not, ◌&&◌, ◌||◌, List, [], ◌∷◌, codes, ◌≡◌}
 use Rattle.std.specs.Str.{bytes_eq}
-use Rattle.swc_ecma_parser_token.specs.declared.kind.TokenKind.{TokenKind}
 use Rattle.swc_ecma_parser_token.specs.declared.kind.TokenKind.TheVariants as kind
 use Rattle.swc_ecma_parser_token.specs.declared.token.Token.{Token}
 use Rattle.swc_ecma_parser_token.specs.declared.token.Token.TheVariants as token
@@ -11,77 +11,13 @@ use Rattle.swc_ecma_parser_token.specs.Text.{word_text}
 use Rattle.swc_ecma_parser_input.specs.Place.{Place, after}
 use Rattle.swc_ecma_parser_model.specs.Tree as tree
 use Rattle.swc_ecma_parser_model.specs.Tree.{Tree, Text}
-use Rattle.swc_ecma_parser_model.specs.Forms.{is_ident, is_ident_named, is_paren}
 use Rattle.swc_ecma_parser_grammar.specs.declared.position.Position.{Position}
 use Rattle.swc_ecma_parser_grammar.specs.Looks.{kind_at, breaks_at, sees}
-use Rattle.swc_ecma_parser_grammar.specs.Names.{Code, is_one_of, reserved_words, name_at}
-
-abbrev pub is_bin_op : TokenKind → Bool
-is_bin_op kind.EqEq = true
-is_bin_op kind.NotEq = true
-is_bin_op kind.EqEqEq = true
-is_bin_op kind.NotEqEq = true
-is_bin_op kind.Lt = true
-is_bin_op kind.LtEq = true
-is_bin_op kind.Gt = true
-is_bin_op kind.GtEq = true
-is_bin_op kind.LShift = true
-is_bin_op kind.RShift = true
-is_bin_op kind.ZeroFillRShift = true
-is_bin_op kind.Add = true
-is_bin_op kind.Sub = true
-is_bin_op kind.Mul = true
-is_bin_op kind.Div = true
-is_bin_op kind.Mod = true
-is_bin_op kind.BitOr = true
-is_bin_op kind.BitXor = true
-is_bin_op kind.BitAnd = true
-is_bin_op kind.LogicalOr = true
-is_bin_op kind.LogicalAnd = true
-is_bin_op kind.NullishCoalescing = true
-is_bin_op kind.Exp = true
-is_bin_op _ = false
-
-abbrev pub is_assign_op : TokenKind → Bool
-is_assign_op kind.Assign = true
-is_assign_op kind.AddAssign = true
-is_assign_op kind.SubAssign = true
-is_assign_op kind.MulAssign = true
-is_assign_op kind.DivAssign = true
-is_assign_op kind.ModAssign = true
-is_assign_op kind.ExpAssign = true
-is_assign_op kind.LShiftAssign = true
-is_assign_op kind.RShiftAssign = true
-is_assign_op kind.ZeroFillRShiftAssign = true
-is_assign_op kind.BitAndAssign = true
-is_assign_op kind.BitOrAssign = true
-is_assign_op kind.BitXorAssign = true
-is_assign_op kind.AndAssign = true
-is_assign_op kind.OrAssign = true
-is_assign_op kind.NullishAssign = true
-is_assign_op _ = false
+use Rattle.swc_ecma_parser_grammar.specs.Names.{is_one_of, reserved_words}
 
 -- goes on with a member or call expression, or is a postfix operator, which stands on its operand's line
 unfoldable pub continues_left_side : Place → Bool
 continues_left_side c = sees kind.Dot c || (sees kind.LBracket c || (sees kind.LParen c || (not (breaks_at c) && (sees kind.PlusPlus c || sees kind.MinusMinus c))))
-
--- a binary operator; `in` only where it is read
-unfoldable pub is_binary : Code → Place → Bool
-is_binary k c = is_bin_op (kind_at c) || (sees kind.InstanceOf c || (k.flags.include_in_expr && sees kind.In c))
-
--- goes on with an operand to a conditional, an assignment or a sequence
-unfoldable pub continues_operand : Code → Place → Bool
-continues_operand k c = is_binary k c || (sees kind.QuestionMark c || (is_assign_op (kind_at c) || sees kind.Comma c))
-
--- turns what was read into the head of an arrow function, or `async` into one that follows on its line
-unfoldable pub continues_head : Code → Tree → Place → Bool
-continues_head k e c =
-    ((is_ident e || is_paren e) && sees kind.Arrow c)
-    || (is_ident_named (codes "async") e && (not (breaks_at c) && (sees kind.Function c || name_at k.flags c)))
-
--- the token that stands here goes on with the expression before it
-unfoldable pub continues : Code → Tree → Place → Bool
-continues k e c = continues_left_side c || (continues_operand k c || continues_head k e c)
 
 -- a word that is no keyword, and has this text
 abbrev pub token_is : Text → Token → Bool
@@ -144,10 +80,6 @@ is_bare_async _ = false
 
 unfoldable pub is_async_of : (is_await : Bool) → Tree → Place → Bool
 is_async_of is_await left d = not is_await && (is_bare_async left && not (breaks_at d))
-
--- Behind `for await (` the name `async` stands alone before `of` on its line, where no `=>` follows.
-unfoldable pub begins_async_of : Place → Bool
-begins_async_of c = word_at (codes "async") c && (word_at (codes "of") (after c) && (not (breaks_at (after c)) && not (sees kind.Arrow (after (after c)))))
 
 -- `import(` and `import.` begin an expression, also a statement's
 unfoldable pub begins_import_expression : Place → Bool

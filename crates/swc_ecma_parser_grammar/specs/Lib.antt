@@ -4,15 +4,10 @@ pub mod Ends
 pub mod Follows
 pub mod Variables
 pub mod Parameters
-pub mod Reads
-pub mod Decorated
-pub mod Entries
 pub mod Depth
 pub mod Notes
 pub mod Own
-pub mod Using
 pub mod Walk
 pub mod Levels
-pub mod Supported
 pub mod language
-pub mod ReadsSupported
+pub mod scaffold

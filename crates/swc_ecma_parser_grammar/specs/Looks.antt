@@ -1,5 +1,5 @@
 -- What stands at a place: its first token, its second, and a line break before either.
-use Rattle.std.specs.Prelude.{Bool, false, List, [], ◌∷◌}
+use Rattle.std.specs.Prelude.{Bool, false, ◌||◌, List, [], ◌∷◌}
 use denote.Enum.Bare.{sameb}
 use Rattle.swc_ecma_parser_common.specs.declared.span.Span.{Span}
 use Rattle.swc_ecma_parser_token.specs.declared.kind.TokenKind.{TokenKind}
@@ -43,3 +43,8 @@ sees k c = same_kind (kind_at c) k
 -- from the first token of one place to the last before another
 unfoldable pub spanned : Place → Place → Span
 spanned c d = record { lo = (span_at c).lo; hi = d.last.hi }
+
+-- whether an error token stands in a list
+abbrev pub has_error_token : List TokenAndSpan → Bool
+has_error_token [] = false
+has_error_token (t ∷ ts) = same_kind (token_kind t.token) kind.Error || has_error_token ts

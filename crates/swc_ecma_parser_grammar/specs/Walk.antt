@@ -36,48 +36,48 @@ env_of k labels = record {
 }
 
 -- what follows a directive that says so is strict
-abbrev pub directed : Env → Bool → Tree → Env
-directed env directives x = if directives && is_use_strict x then record env { strict = true } else env
+abbrev pub env_directed : Env → Bool → Tree → Env
+env_directed env directives x = if directives && is_use_strict x then record env { strict = true } else env
 
 -- the body of a function: no label, nothing to break or to continue, and `return` has a place
-abbrev pub in_body : Env → Env
-in_body env = record env { labels = []; in_function = true; can_break = false; can_continue = false }
+abbrev pub env_in_body : Env → Env
+env_in_body env = record env { labels = []; in_function = true; can_break = false; can_continue = false }
 
 -- the parameters of functions and methods: `return` has no place in them; those of constructors and arrows change nothing
-abbrev pub in_params : Env → Env
-in_params env = record env { in_function = false }
+abbrev pub env_in_parameters : Env → Env
+env_in_parameters env = record env { in_function = false }
 
 -- class code is strict from the name on
-abbrev pub in_class : Env → Env
-in_class env = record env { strict = true }
+abbrev pub env_in_class : Env → Env
+env_in_class env = record env { strict = true }
 
 -- an import or an export, and what follows it, is strict
-abbrev pub in_module : Env → Env
-in_module env = record env { strict = true }
+abbrev pub env_in_module : Env → Env
+env_in_module env = record env { strict = true }
 
-abbrev pub in_loop : Env → Env
-in_loop env = record env { can_break = true; can_continue = true }
+abbrev pub env_in_loop : Env → Env
+env_in_loop env = record env { can_break = true; can_continue = true }
 
 -- the cases of a switch, their tests too
-abbrev pub in_switch : Env → Env
-in_switch env = record env { can_break = true }
+abbrev pub env_in_switch : Env → Env
+env_in_switch env = record env { can_break = true }
 
 -- what a label stands at; the labels around are listed from the outermost in
-abbrev pub in_label : Env → Tree → Env
-in_label env (tree.ident s text) = record env { labels = env.labels ++ text ∷ []; can_break = true }
-in_label env _ = record env { can_break = true }
+abbrev pub env_in_label : Env → Tree → Env
+env_in_label env (tree.ident s text) = record env { labels = env.labels ++ text ∷ []; can_break = true }
+env_in_label env _ = record env { can_break = true }
 
 -- the body of `with` counts as a function's
-abbrev pub in_with : Env → Env
-in_with env = record env { in_function = true }
+abbrev pub env_in_with : Env → Env
+env_in_with env = record env { in_function = true }
 
 -- what follows an item of a module
-abbrev pub behind_item : Env → Tree → Env
-behind_item env x = if is_module_decl x then in_module env else env
+abbrev pub env_behind_item : Env → Tree → Env
+env_behind_item env x = if is_module_decl x then env_in_module env else env
 
 -- the code of a decorator of what is exported: it stands before the word `export`, or in the export
 abbrev pub decorator_env : Env → (export decorator : Span) → Env
-decorator_env env s d = if nat_lt d.lo.0 s.lo.0 then env else in_module env
+decorator_env env s d = if nat_lt d.lo.0 s.lo.0 then env else env_in_module env
 
 abbrev mutual
   pub walk : Env → Tree → List Fault
@@ -107,7 +107,7 @@ abbrev mutual
   walk env (tree.super_prop s word prop) = walk env prop
   walk env (tree.call s callee args) = walk env callee ++ walk env args
   walk env (tree.new s callee args) = walk env callee ++ walk env args
-  walk env (tree.arrow s params body is_async) = walk env params ++ walk_arrow_body (in_body env) (walk (in_body env) body) body ++ misplaced_directive (has_plain_params params) body
+  walk env (tree.arrow s params body is_async) = walk env params ++ walk_arrow_body (env_in_body env) (walk (env_in_body env) body) body ++ misplaced_directive (has_plain_params params) body
   walk env (tree.yield s arg delegate) = walk env arg
   walk env (tree.await s arg) = walk env arg
   walk env (tree.element spread e) = walk env e
@@ -119,8 +119,8 @@ abbrev mutual
   walk env (tree.shorthand_prop s text) = []
   walk env (tree.key_value_prop s key value) = walk env key ++ walk env value
   walk env (tree.assign_prop s key value) = walk env key ++ walk env value
-  walk env (tree.getter_prop s key body) = walk env key ++ walk_body (in_body env) body
-  walk env (tree.setter_prop s key p body) = walk env key ++ walk (in_params env) p ++ walk_body (in_body env) body ++ misplaced_directive (is_plain_param p) body
+  walk env (tree.getter_prop s key body) = walk env key ++ walk_body (env_in_body env) body
+  walk env (tree.setter_prop s key p body) = walk env key ++ walk (env_in_parameters env) p ++ walk_body (env_in_body env) body ++ misplaced_directive (is_plain_param p) body
   walk env (tree.method_prop s key fn) = walk_method env (walk env key) fn
   walk env (tree.ident_pat s text) = []
   walk env (tree.array_pat s elems) = walk env elems
@@ -131,12 +131,12 @@ abbrev mutual
   walk env (tree.assign_pat s left right) = walk env left ++ walk env right
   walk env (tree.expr_pat e) = walk env e
   walk env (tree.invalid_pat s) = []
-  walk env (tree.function s decorators params body is_async is_generator) = walk env decorators ++ walk (in_params env) params ++ walk_body (in_body env) body ++ misplaced_directive (has_plain_params params) body
+  walk env (tree.function s decorators params body is_async is_generator) = walk env decorators ++ walk (env_in_parameters env) params ++ walk_body (env_in_body env) body ++ misplaced_directive (has_plain_params params) body
   walk env (tree.param s decorators p) = walk env decorators ++ walk env p
   walk env (tree.decorator s e) = walk env e
   -- heritage stands before the members
-  walk env (tree.class s decorators body super_class) = walk env decorators ++ walk (in_class env) super_class ++ walk_class_body (in_class env) body
-  walk env (tree.constructor s key params body) = walk env key ++ walk env params ++ walk_body (in_body env) body ++ misplaced_directive (has_plain_params params) body
+  walk env (tree.class s decorators body super_class) = walk env decorators ++ walk (env_in_class env) super_class ++ walk_class_body (env_in_class env) body
+  walk env (tree.constructor s key params body) = walk env key ++ walk env params ++ walk_body (env_in_body env) body ++ misplaced_directive (has_plain_params params) body
   -- decorators stand before the key, though the function holds them
   walk env (tree.method s key fn kind is_static) = walk_method env (walk env key) fn
   walk env (tree.private_method s key fn kind is_static) = walk_method env (walk env key) fn
@@ -154,33 +154,33 @@ abbrev mutual
   walk env (tree.block s stmts) = walk env stmts
   walk env (tree.empty s) = []
   walk env (tree.debugger s) = []
-  walk env (tree.with s obj body) = walk env obj ++ walk (in_with env) body
+  walk env (tree.with s obj body) = walk env obj ++ walk (env_in_with env) body
   walk env (tree.return s arg) = walk env arg ++ return_faults (env.in_function || env.setting.allow_return_outside_function) s
-  walk env (tree.labeled s label body) = walk (in_label env label) body ++ labelled_function env.strict body ++ duplicates env.labels label
+  walk env (tree.labeled s label body) = walk (env_in_label env label) body ++ labelled_function env.strict body ++ duplicates env.labels label
   walk env (tree.break s label) = break_faults env.can_break env.labels label s
   walk env (tree.continue s label) = continue_faults env.can_continue env.labels label s
   walk env (tree.if_stmt s test cons alt) = walk env test ++ walk env cons ++ walk env alt
-  walk env (tree.switch s discriminant cases) = walk env discriminant ++ walk (in_switch env) cases
+  walk env (tree.switch s discriminant cases) = walk env discriminant ++ walk (env_in_switch env) cases
   walk env (tree.case s test cons) = walk env test ++ walk env cons
   walk env (tree.throw s arg) = walk env arg
   walk env (tree.try s body handler finalizer) = walk env body ++ walk env handler ++ walk env finalizer
   walk env (tree.catch s p body) = walk env p ++ walk env body
-  walk env (tree.while s test body) = walk env test ++ walk (in_loop env) body
+  walk env (tree.while s test body) = walk env test ++ walk (env_in_loop env) body
   -- the body stands before the test
-  walk env (tree.do_while s test body) = walk (in_loop env) body ++ walk env test
-  walk env (tree.for s init test next body) = walk env init ++ walk env test ++ walk env next ++ walk (in_loop env) body
-  walk env (tree.for_in s left right body) = walk env left ++ head_faults env.strict left ++ walk env right ++ walk (in_loop env) body
-  walk env (tree.for_of s is_await left right body) = walk env left ++ head_faults true left ++ walk env right ++ walk (in_loop env) body
+  walk env (tree.do_while s test body) = walk (env_in_loop env) body ++ walk env test
+  walk env (tree.for s init test next body) = walk env init ++ walk env test ++ walk env next ++ walk (env_in_loop env) body
+  walk env (tree.for_in s left right body) = walk env left ++ head_faults env.strict left ++ walk env right ++ walk (env_in_loop env) body
+  walk env (tree.for_of s is_await left right body) = walk env left ++ head_faults true left ++ walk env right ++ walk (env_in_loop env) body
   walk env (tree.expr_stmt s e) = walk env e
-  walk env (tree.import s specifiers src attributes phase) = walk (in_module env) specifiers ++ walk (in_module env) src ++ walk (in_module env) attributes
+  walk env (tree.import s specifiers src attributes phase) = walk (env_in_module env) specifiers ++ walk (env_in_module env) src ++ walk (env_in_module env) attributes
   walk env (tree.import_named s local imported) = walk env imported ++ walk env local
   walk env (tree.import_default s local) = walk env local
   walk env (tree.import_namespace s local) = walk env local
-  walk env (tree.export_decl s d) = walk_exported env s (walk (in_module env) d) d
-  walk env (tree.export_named s specifiers src attributes) = walk (in_module env) specifiers ++ walk (in_module env) src ++ walk (in_module env) attributes ++ export_faults src specifiers
-  walk env (tree.export_default_decl s d) = walk_exported env s (walk (in_module env) d) d
-  walk env (tree.export_default_expr s e) = walk (in_module env) e
-  walk env (tree.export_all s src attributes) = walk (in_module env) src ++ walk (in_module env) attributes
+  walk env (tree.export_decl s d) = walk_exported env s (walk (env_in_module env) d) d
+  walk env (tree.export_named s specifiers src attributes) = walk (env_in_module env) specifiers ++ walk (env_in_module env) src ++ walk (env_in_module env) attributes ++ export_faults src specifiers
+  walk env (tree.export_default_decl s d) = walk_exported env s (walk (env_in_module env) d) d
+  walk env (tree.export_default_expr s e) = walk (env_in_module env) e
+  walk env (tree.export_all s src attributes) = walk (env_in_module env) src ++ walk (env_in_module env) attributes
   walk env (tree.export_namespace s name) = walk env name
   walk env (tree.export_default exported) = walk env exported
   walk env (tree.export_specifier s orig exported) = walk env orig ++ walk env exported
@@ -201,7 +201,7 @@ abbrev mutual
   -- the function of a method, behind whose decorators the key stands
   pub walk_method : Env → (key : List Fault) → Tree → List Fault
   walk_method env key (tree.function s decorators params body is_async is_generator) =
-      walk env decorators ++ key ++ walk (in_params env) params ++ walk_body (in_body env) body ++ misplaced_directive (has_plain_params params) body
+      walk env decorators ++ key ++ walk (env_in_parameters env) params ++ walk_body (env_in_body env) body ++ misplaced_directive (has_plain_params params) body
   walk_method env key fn = key
 
   pub walk_class_body : Env → Tree → List Fault
@@ -216,13 +216,13 @@ abbrev mutual
   -- what is exported, given the faults that it has in the export: the decorators of a class or a function may stand before that
   pub walk_exported : Env → Span → (plain : List Fault) → Tree → List Fault
   walk_exported env s plain (tree.class_decl name (tree.class t decorators body super_class)) =
-      walk_decorators env s decorators ++ walk (in_class env) super_class ++ walk_class_body (in_class env) body
+      walk_decorators env s decorators ++ walk (env_in_class env) super_class ++ walk_class_body (env_in_class env) body
   walk_exported env s plain (tree.class_expr r name (tree.class t decorators body super_class)) =
-      walk_decorators env s decorators ++ walk (in_class env) super_class ++ walk_class_body (in_class env) body
+      walk_decorators env s decorators ++ walk (env_in_class env) super_class ++ walk_class_body (env_in_class env) body
   walk_exported env s plain (tree.fn_decl name (tree.function t decorators params body is_async is_generator)) =
-      walk_decorators env s decorators ++ walk (in_params (in_module env)) params ++ walk_body (in_body (in_module env)) body ++ misplaced_directive (has_plain_params params) body
+      walk_decorators env s decorators ++ walk (env_in_parameters (env_in_module env)) params ++ walk_body (env_in_body (env_in_module env)) body ++ misplaced_directive (has_plain_params params) body
   walk_exported env s plain (tree.fn_expr r name (tree.function t decorators params body is_async is_generator)) =
-      walk_decorators env s decorators ++ walk (in_params (in_module env)) params ++ walk_body (in_body (in_module env)) body ++ misplaced_directive (has_plain_params params) body
+      walk_decorators env s decorators ++ walk (env_in_parameters (env_in_module env)) params ++ walk_body (env_in_body (env_in_module env)) body ++ misplaced_directive (has_plain_params params) body
   walk_exported env s plain d = plain
 
   pub walk_decorators : Env → Span → Tree → List Fault
@@ -240,11 +240,11 @@ abbrev mutual
 
   pub walk_items : Env → Bool → Trees → List Fault
   walk_items env directives none = []
-  walk_items env directives (also t ts) = walk env t ++ walk_items (behind_item (directed env directives t) t) (directs_on directives t) ts
+  walk_items env directives (also t ts) = walk env t ++ walk_items (env_behind_item (env_directed env directives t) t) (directs_on directives t) ts
 
   pub walks : Env → Bool → Trees → List Fault
   walks env directives none = []
-  walks env directives (also t ts) = walk env t ++ walks (directed env directives t) (directs_on directives t) ts
+  walks env directives (also t ts) = walk env t ++ walks (env_directed env directives t) (directs_on directives t) ts
 
 -- the kinds that the walk finds
 abbrev pub is_tabled : Kind → Bool

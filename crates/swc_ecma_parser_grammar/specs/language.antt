@@ -1,3 +1,4 @@
+-- The language: what has to be believed, with the files that these import. None of them is of the scaffold.
 pub mod Goals
 pub mod Contexts
 pub mod Operators
@@ -5,6 +6,7 @@ pub mod Begins
 pub mod Continues
 pub mod Lists
 pub mod Parts
+pub mod PatternItems
 pub mod Items
 pub mod Functions
 pub mod Classes

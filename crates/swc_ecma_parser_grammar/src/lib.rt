@@ -1,5 +1,6 @@
 //! The language that is read: the grammar as a relation between a tree and the tokens that spell it, and the walk over a
-//! tree that lists its faults. Every definition stands in `specs/`.
+//! tree that lists its faults. Every definition stands in `specs/`: the rules in `specs/language`, what they are made of beside
+//! that folder, and in `specs/scaffold` what readers and proofs use besides, in which nothing has to be believed.
 #![tactic(auto)]
 
 mod class;

@@ -2,7 +2,7 @@
 
 ghost use Rattle.std.specs.Prelude.{◌≡◌, None, map};
 ghost use Rattle.swc_ecma_parser_groups.specs.Groups.{group_of, parts_of};
-ghost use Rattle.swc_ecma_parser_grammar.specs.Reads.{with_in};
+ghost use Rattle.swc_ecma_parser_grammar.specs.language.Contexts.{with_in};
 ghost use Rattle.swc_ecma_parser_inner.specs.Covers.{cover_of};
 ghost use Rattle.swc_ecma_parser_inner.specs.Nests.{Nests};
 ghost use Rattle.swc_ecma_parser_reader.specs.Arrows as arrows;

@@ -4,7 +4,7 @@ use Rattle.swc_ecma_parser_input.specs.declared.context.Context.{Context}
 use Rattle.swc_ecma_parser_model.specs.declared.leaves.VarDeclKind.{VarDeclKind}
 use Rattle.swc_ecma_parser_model.specs.declared.leaves.VarDeclKind.TheVariants as decl
 use Rattle.swc_ecma_parser_grammar.specs.Names.{Code}
-use Rattle.swc_ecma_parser_grammar.specs.Reads.{head_code}
+use Rattle.swc_ecma_parser_grammar.specs.language.Contexts.{head_code}
 use Rattle.swc_ecma_parser_loops.specs.Flags.{head_flags}
 
 pub head_code_is : (word : VarDeclKind) (k : Code) → head_code word k ≡ record k { flags = head_flags word k.flags }

@@ -6,7 +6,7 @@ ghost use Rattle.swc_ecma_parser_error.specs.Kind.{IsOutOfMemory};
 ghost use Rattle.swc_ecma_parser_grammar.specs.Follows as follows;
 ghost use Rattle.swc_ecma_parser_grammar.specs.Looks as looks;
 ghost use Rattle.swc_ecma_parser_grammar.specs.Own as own;
-ghost use Rattle.swc_ecma_parser_grammar.specs.Using as using;
+ghost use Rattle.swc_ecma_parser_grammar.specs.scaffold.Using as using;
 ghost use Rattle.swc_ecma_parser_inner.specs.Nests.{Nests};
 ghost use Rattle.swc_ecma_parser_loops.specs.Flags as flags_of;
 ghost use Rattle.swc_ecma_parser_input.specs.Place as place;
@@ -188,7 +188,7 @@ fn using_head<
 }
 
 /// A name before another: `using` declares where `in` or `of` stands behind that.
-#[tactic(auto, unfolding(swc_ecma_parser_reader::specs::Reader::named_head, swc_ecma_parser_grammar::specs::Using::stands_in_head), using(swc_ecma_parser_reader::proofs::HeadWords::pattern_declares))]
+#[tactic(auto, unfolding(swc_ecma_parser_reader::specs::Reader::named_head, swc_ecma_parser_grammar::specs::scaffold::Using::stands_in_head), using(swc_ecma_parser_reader::proofs::HeadWords::pattern_declares))]
 fn named_head<
     P: Source,
     T: BuildsPattern + BuildsVariables,
@@ -221,7 +221,7 @@ fn awaits_using<T: BuildsVariables>(expr: &T::Expr) -> bool
 }
 
 /// Whether a name stands here that `await using` before it declares: not `of`, with `in` or `of` behind it.
-#[tactic(auto, unfolding(swc_ecma_parser_grammar::specs::Using::declares_behind, swc_ecma_parser_grammar::specs::Using::stands_in_head))]
+#[tactic(auto, unfolding(swc_ecma_parser_grammar::specs::scaffold::Using::declares_behind, swc_ecma_parser_grammar::specs::scaffold::Using::stands_in_head))]
 fn declares_behind<P: Source>(p: &P) -> bool
     ensures { result ≡ using.declares_behind (P.seen p.now).code (P.seen p.now).at }
 {

@@ -9,7 +9,7 @@ use Rattle.swc_ecma_parser_model.specs.Tree as tree
 use Rattle.swc_ecma_parser_model.specs.Tree.{Tree, listed, trees}
 use Rattle.swc_ecma_parser_grammar.specs.Looks.{sees, span_at, spanned}
 use Rattle.swc_ecma_parser_grammar.specs.Notes.{as_note}
-use Rattle.swc_ecma_parser_grammar.specs.Reads.{nested_item, top_item}
+use Rattle.swc_ecma_parser_grammar.specs.language.Items.{nested_item, top_item}
 use Rattle.swc_ecma_parser_grammar.specs.language.Goals.{expression}
 use Rattle.swc_ecma_parser_grammar.proofs.Tests.{and_yes}
 use Rattle.swc_ecma_parser_reader.specs.DecoratedStatements.{stmt_behind}

@@ -1,7 +1,7 @@
 //! Exports with decorators, before or behind their words: the proposal of decorators.
 
 ghost use Rattle.std.specs.Prelude.{◌≡◌, map, Ok};
-ghost use Rattle.swc_ecma_parser_grammar.specs.Reads.{nested_item};
+ghost use Rattle.swc_ecma_parser_grammar.specs.language.Items.{nested_item};
 ghost use Rattle.swc_ecma_parser_grammar.specs.language.Exports as around;
 ghost use Rattle.swc_ecma_parser_grammar.specs.language.Goals.{left_side};
 ghost use Rattle.swc_ecma_parser_members.specs.Leading.{leading_of};

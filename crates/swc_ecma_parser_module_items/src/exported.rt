@@ -1,7 +1,7 @@
 //! Exports of declarations and of defaults: ECMA-262, section 16.2.3.
 
 ghost use Rattle.std.specs.Prelude.{◌≡◌};
-ghost use Rattle.swc_ecma_parser_grammar.specs.Reads.{nested_item};
+ghost use Rattle.swc_ecma_parser_grammar.specs.language.Items.{nested_item};
 ghost use Rattle.swc_ecma_parser_grammar.specs.language.Goals.{left_side};
 ghost use Rattle.swc_ecma_parser_inner.specs.Keys.{word_of};
 ghost use Rattle.swc_ecma_parser_module_reader.specs.Exports as exports;

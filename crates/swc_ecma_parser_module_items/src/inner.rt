@@ -1,6 +1,6 @@
 //! Expressions in exports, one level further in.
 
-ghost use Rattle.swc_ecma_parser_grammar.specs.Reads.{with_in};
+ghost use Rattle.swc_ecma_parser_grammar.specs.language.Contexts.{with_in};
 ghost use Rattle.swc_ecma_parser_grammar.specs.language.Goals.{assignment};
 ghost use Rattle.swc_ecma_parser_reader.specs.Reader as rules;
 ghost use Rattle.swc_ecma_parser_reader.specs.State.{GivesAs, within};

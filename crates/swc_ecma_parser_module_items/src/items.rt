@@ -1,7 +1,7 @@
 //! Items of modules, and whole modules: ECMA-262, section 16.2.
 
 ghost use Rattle.std.specs.Prelude.{◌≡◌, true, [], map, IsOk};
-ghost use Rattle.swc_ecma_parser_grammar.specs.Reads.{directed, directs_on};
+ghost use Rattle.swc_ecma_parser_grammar.specs.language.Items.{directed, directs_on};
 ghost use Rattle.swc_ecma_parser_members.specs.Leading.{leading_of};
 ghost use Rattle.swc_ecma_parser_module_reader.specs.Modules as modules;
 ghost use Rattle.swc_ecma_parser_reader.specs.Reader as rules;

@@ -8,9 +8,10 @@ use Rattle.swc_ecma_parser_grammar.specs.Follows.{Star, no_star, star as starred
 use Rattle.swc_ecma_parser_grammar.specs.Looks.{kind_at, sees}
 use Rattle.swc_ecma_parser_grammar.specs.Names.{Code}
 use Rattle.swc_ecma_parser_grammar.specs.Notes.{notes}
-use Rattle.swc_ecma_parser_grammar.specs.Reads.{ReadsBraced, nested_item}
-use Rattle.swc_ecma_parser_grammar.specs.ReadsSupported.{ReadsStmt}
-use Rattle.swc_ecma_parser_grammar.specs.Walk.{in_body as walks_in_body, walk_body, env_of, walks}
+use Rattle.swc_ecma_parser_grammar.specs.scaffold.Reads.{ReadsBraced}
+use Rattle.swc_ecma_parser_grammar.specs.scaffold.ReadsSupported.{ReadsStmt}
+use Rattle.swc_ecma_parser_grammar.specs.Walk.{env_in_body, walk_body, env_of, walks}
+use Rattle.swc_ecma_parser_grammar.specs.language.Items.{nested_item}
 use Rattle.swc_ecma_parser_grammar.specs.language.Contexts.{in_body}
 use Rattle.swc_ecma_parser_reader.specs.Notes.{Notes, ◌⊕◌, notes_of, all_notes_of}
 use Rattle.swc_ecma_parser_reader.specs.State.{Scope}
@@ -53,7 +54,7 @@ module _ (n : ℕ) where
   -- a body has labels of its own, and what is found in it is not told
   pub function_body_reads : (a g : Bool) (k : Code) (x : Tree) (c d : Place) (w : Scope) (f : List Fault) (h : Notes) → ReadsBraced (ReadsStmt n) true (in_body k a g) x c d
       → function_body (stmt n nested_item) (parameters n) a g (st c k w f h)
-      ≡ Ok (x, st d k w (f ++ walk_body (walks_in_body (env_of k w.labels)) x) (record { held_back = h.held_back ++ notes x; found_module_item = h.found_module_item }))
+      ≡ Ok (x, st d k w (f ++ walk_body (env_in_body (env_of k w.labels)) x) (record { held_back = h.held_back ++ notes x; found_module_item = h.found_module_item }))
   unfolding function_body
   function_body_reads a g k x c d w f h r =
       rw (body_reads true (in_body k a g) x c d (record w { labels = [] }) f h r, behind_setting (in_body k a g) true r.items, r.is) refl

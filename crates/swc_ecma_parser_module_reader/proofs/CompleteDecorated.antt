@@ -16,13 +16,13 @@ use Rattle.swc_ecma_parser_grammar.specs.Names.{Code}
 use Rattle.swc_ecma_parser_grammar.specs.Follows.{AsyncWord, not_async, async_word}
 use Rattle.swc_ecma_parser_grammar.specs.Notes.{notes}
 use Rattle.swc_ecma_parser_grammar.specs.Parameters.{parameters as parameter_trees}
-use Rattle.swc_ecma_parser_grammar.specs.Reads.{nested_item, with_in}
-use Rattle.swc_ecma_parser_grammar.specs.Supported.{supported, all_supported, has_none}
+use Rattle.swc_ecma_parser_grammar.specs.scaffold.Supported.{supported, all_supported, has_none}
 use Rattle.swc_ecma_parser_grammar.specs.Variables.{begins_variables}
 use Rattle.swc_ecma_parser_grammar.specs.Walk as walks
 use Rattle.swc_ecma_parser_grammar.specs.Walk.{env_of, walk}
+use Rattle.swc_ecma_parser_grammar.specs.language.Items.{nested_item}
 use Rattle.swc_ecma_parser_grammar.specs.language.Classes.{DecoratorRule, decorator_rule, DecoratorsRule, no_decorators, some_decorators, ClassRule}
-use Rattle.swc_ecma_parser_grammar.specs.language.Contexts.{in_module}
+use Rattle.swc_ecma_parser_grammar.specs.language.Contexts.{in_module, with_in}
 use Rattle.swc_ecma_parser_grammar.specs.language.Exports.{ExportClauseRule, ExportFrontRule, decorated_before, decorated_behind, ExportedRule, exported_class as exported_class_rule, exported_function as exported_function_rule, exported_variables, DefaultRule, default_class as default_class_rule, default_function as default_function_rule, ExportRule, export_declaration_rule, export_from_rule, export_names_rule, export_default_declaration_rule, export_default_expression_rule, export_all_rule}
 use Rattle.swc_ecma_parser_grammar.specs.language.Functions.{FunctionRule}
 use Rattle.swc_ecma_parser_grammar.specs.language.Goals.{Goal, expr_goal, assignment, left_side}
@@ -188,7 +188,7 @@ module _ (n : ℕ) (k : Code) (o : IsModule k) where
   module _ (w : Scope) (f : List Fault) (h : Notes) where
     -- the whole walk and the whole notes
     module _ (ds : List Tree) (y : Tree) (c m d : Place) (before : none_before (span_at c).lo (trees ds) ≡ true) where
-      walk_is : (x bare : Tree) → Takes bare → walk (env_of k w.labels) x ≡ walks.walk_exported (env_of k w.labels) (spanned c d) (walk (walks.in_module (env_of k w.labels)) (with_decorators ds bare)) (with_decorators ds bare)
+      walk_is : (x bare : Tree) → Takes bare → walk (env_of k w.labels) x ≡ walks.walk_exported (env_of k w.labels) (spanned c d) (walk (walks.env_in_module (env_of k w.labels)) (with_decorators ds bare)) (with_decorators ds bare)
           → walk (env_of k w.labels) (listed ds) ++ walk (env_of k w.labels) bare ≡ walk (env_of k w.labels) x
       unfolding spanned
       walk_is x bare t e = front_walk n (st c k w f h) o (span_at c) (spanned c d) ds bare before t ∙ sym e
@@ -239,7 +239,7 @@ module _ (n : ℕ) (k : Code) (o : IsModule k) where
       list_state = st m k w (f ++ walk (env_of k w.labels) a) (h ⊕ notes_of a)
 
       -- the walk of its list stands before that of what it is without it
-      parts_walk : (bare : Tree) → Takes bare → walk (env_of k w.labels) x ≡ walks.walk_exported (env_of k w.labels) (spanned c d) (walk (walks.in_module (env_of k w.labels)) (with_decorators ds bare)) (with_decorators ds bare)
+      parts_walk : (bare : Tree) → Takes bare → walk (env_of k w.labels) x ≡ walks.walk_exported (env_of k w.labels) (spanned c d) (walk (walks.env_in_module (env_of k w.labels)) (with_decorators ds bare)) (with_decorators ds bare)
           → walk (env_of k w.labels) a ++ walk (env_of k w.labels) bare ≡ walk (env_of k w.labels) x
       parts_walk bare t e = ap (λ v. walk (env_of k w.labels) v ++ walk (env_of k w.labels) bare) u ∙ walk_is ds y c m d before x bare t e
 

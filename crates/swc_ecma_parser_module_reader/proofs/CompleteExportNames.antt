@@ -29,6 +29,8 @@ use Rattle.swc_ecma_parser_grammar.specs.Notes.{notes, all_notes}
 use Rattle.swc_ecma_parser_grammar.specs.Own.{export_faults}
 use Rattle.swc_ecma_parser_grammar.specs.Walk as walks_of
 use Rattle.swc_ecma_parser_grammar.specs.Walk.{Env, env_of, walk, walks}
+use Rattle.swc_ecma_parser_grammar.specs.language.Parts.{ReadsToken}
+use Rattle.swc_ecma_parser_grammar.specs.language.Items.{nested_item}
 use Rattle.swc_ecma_parser_grammar.specs.language.Exports.{ExportSpecifierRule, same_name_rule, other_name_rule, NamespaceExportRule, DefaultExportRule, under_name_rule, as_default_rule, NamesRule, braces_rule, namespace_rule, namespace_and_braces_rule, ExportClauseRule, names_rule, default_alone_rule, default_and_names_rule}
 use Rattle.swc_ecma_parser_grammar.specs.language.Lists.{ReadsListed}
 use Rattle.swc_ecma_parser_grammar.specs.language.ModuleParts.{BracedRule, StringRule, FromRule, ModuleNameRule, word_name_rule, string_name_rule, AttributesRule}
@@ -39,7 +41,6 @@ use Rattle.swc_ecma_parser_grammar.proofs.Tests.{and_both, and_no, no_and, and_y
 use Rattle.swc_ecma_parser_grammar.proofs.Unnoted.{joined}
 use Rattle.swc_ecma_parser_reader.specs.Notes.{Notes, no_notes, ◌⊕◌, notes_of}
 use Rattle.swc_ecma_parser_reader.specs.Reader.{expr, pattern, member, parameters, object_alone, stmt}
-use Rattle.swc_ecma_parser_grammar.specs.Reads.{nested_item, ReadsToken}
 use Rattle.swc_ecma_parser_reader.specs.State.{Scope, State, Outcome, Reader, moved}
 use Rattle.swc_ecma_parser_reader.proofs.Answered.{st, ReadsCalm}
 use Rattle.swc_ecma_parser_reader.proofs.Calm.{told_reads, calm_same, calm_before}
@@ -160,7 +161,7 @@ module _ (n : ℕ) (k : Code) where
   unfolding names_from spanned
   names_from_read o xs src attributes x c l m i d w f h q r a e g j =
       let env = env_of k w.labels in
-      let inner = walk (walks_of.in_module env) attributes in
+      let inner = walk (walks_of.env_in_module env) attributes in
       let v : walk env x ≡ walk env attributes = rw (j, r.1.is, q.walked) (append-nil inner ∙ ap (λ z. walk z attributes) (module_env k w.labels o)) in
       let y : notes x ≡ notes attributes = rw (j, r.1.is, q.noted) refl in
       let z : has_meta x ≡ has_meta attributes = rw (j, r.1.is, q.unmet) refl in

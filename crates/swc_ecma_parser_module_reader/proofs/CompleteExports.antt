@@ -17,15 +17,15 @@ use Rattle.swc_ecma_parser_grammar.specs.Names.{Code}
 use Rattle.swc_ecma_parser_grammar.specs.Ends.{Ends}
 use Rattle.swc_ecma_parser_grammar.specs.Follows.{word_at, is_async_function, AsyncWord, not_async, async_word}
 use Rattle.swc_ecma_parser_grammar.specs.Notes.{notes}
+use Rattle.swc_ecma_parser_grammar.specs.language.Items.{nested_item}
 use Rattle.swc_ecma_parser_grammar.specs.language.Noted.{has_meta}
 use Rattle.swc_ecma_parser_grammar.specs.Own.{misplaced_directive}
 use Rattle.swc_ecma_parser_grammar.specs.Parameters.{parameters as parameter_trees}
-use Rattle.swc_ecma_parser_grammar.specs.Reads.{nested_item, with_in}
-use Rattle.swc_ecma_parser_grammar.specs.Supported.{supported, supported_in, has_none}
+use Rattle.swc_ecma_parser_grammar.specs.scaffold.Supported.{supported, supported_in, has_none}
 use Rattle.swc_ecma_parser_grammar.specs.Variables.{begins_variables}
-use Rattle.swc_ecma_parser_grammar.specs.Walk.{Env, env_of, in_body as walks_in_body, in_params, walk, walks, walk_body}
+use Rattle.swc_ecma_parser_grammar.specs.Walk.{Env, env_of, env_in_body, env_in_parameters, walk, walks, walk_body}
 use Rattle.swc_ecma_parser_grammar.specs.language.Classes.{DecoratorsRule, no_decorators, some_decorators, ClassRule}
-use Rattle.swc_ecma_parser_grammar.specs.language.Contexts.{in_parameters}
+use Rattle.swc_ecma_parser_grammar.specs.language.Contexts.{in_parameters, with_in}
 use Rattle.swc_ecma_parser_grammar.specs.language.Exports.{ExportFrontRule, decorated_before, decorated_behind, ExportWords, export_word, export_default_words, ExportedRule, exported_class as exported_class_rule, exported_function as exported_function_rule, exported_variables, DefaultRule, default_class as default_class_rule, default_function as default_function_rule, may_begin_default}
 use Rattle.swc_ecma_parser_grammar.specs.language.Functions.{FunctionRule}
 use Rattle.swc_ecma_parser_grammar.specs.language.Declarations.{VariablesRule}
@@ -63,7 +63,7 @@ use Rattle.swc_ecma_parser_module_reader.proofs.CompleteShared.{name_reads}
 use Rattle.swc_ecma_parser_module_reader.proofs.CompleteExportNames.{no_function_at}
 use Rattle.swc_ecma_parser_module_reader.proofs.AllLevels.{below, function_body_reads, word_reads, star_reads}
 use Rattle.swc_ecma_parser_grammar.proofs.Naming.{name_is_name}
-use Rattle.swc_ecma_parser_grammar.specs.Using.{is_await_using_declaration}
+use Rattle.swc_ecma_parser_grammar.specs.scaffold.Using.{is_await_using_declaration}
 
 -- ---- words and decorators
 
@@ -185,7 +185,7 @@ module _ (n : ℕ) (k : Code) (o : IsModule k) where
   function_walk : (x y name z : Tree) (s t : Span) (ps body : Tree) (a g : Bool) (l : List Text) → x ≡ tree.export_decl s y → y ≡ tree.fn_decl name z
       → z ≡ tree.function t (listed []) ps body a g → walk (env_of k l) name ≡ [] → walk (env_of k l) x ≡ walk (env_of k l) y
   function_walk x y name z s t ps body a g l e i j v =
-      rw (e, i, j, v) (ap (λ z. walk (in_params z) ps ++ walk_body (walks_in_body z) body ++ misplaced_directive (has_plain_params ps) body) (module_env k l o))
+      rw (e, i, j, v) (ap (λ z. walk (env_in_parameters z) ps ++ walk_body (env_in_body z) body ++ misplaced_directive (has_plain_params ps) body) (module_env k l o))
 
   variables_read : (word : VarDeclKind) (xs : List Tree) (x y : Tree) (c m d : Place) → VariablesRule (language.Reads n) (with_in k) false word xs (after c) m → Ends m d
       → y ≡ tree.var (spanned (after c) d) word (listed xs) → x ≡ tree.export_decl (spanned c d) y → supported y ≡ true → notes y ≡ []
@@ -250,11 +250,11 @@ module _ (n : ℕ) (k : Code) (o : IsModule k) where
       let i = nil-split (notes (parameter_trees r.patterns)) (notes r.body) (sym (ap notes j) ∙ q) in
       let p = parts_narrow n k r.is_async r.is_generator r.patterns r.body r.behind_name d r.reads_parts g.0 g.1 (λ v. i.1) in
       let opens = r.reads_parts.reads_parameters.opens in
-      let m = walks (in_params env) false (trees r.patterns) in
-      let b = walk_body (walks_in_body env) r.body in
+      let m = walks (env_in_parameters env) false (trees r.patterns) in
+      let b = walk_body (env_in_body env) r.body in
       let l = misplaced_directive (has_plain_params (parameter_trees r.patterns)) r.body in
       let v : walk env x ≡ m ++ b ++ l = ap (walk env) e ∙ ap (λ y. walk env name ++ walk env y) j ∙ ap (λ y. y ++ walk env whole) (name_walk env r.reads_name)
-      ∙ ap (λ y. y ++ b ++ l) (parameters_walk (in_params env) r.patterns) in
+      ∙ ap (λ y. y ++ b ++ l) (parameters_walk (env_in_parameters env) r.patterns) in
       rw (
         word_reads n k c r.word w f h r.reads_async r.is_function,
         star_reads n r.is_generator k (after r.word) r.behind_word w f h r.reads_star (name_no_star r.reads_name opens),
@@ -274,7 +274,7 @@ module _ (n : ℕ) (k : Code) (o : IsModule k) where
   default_walk : (x y name z : Tree) (s r t : Span) (ps body : Tree) (a g : Bool) (l : List Text) → x ≡ tree.export_default_decl s y → y ≡ tree.fn_expr r name z
       → z ≡ tree.function t (listed []) ps body a g → walk (env_of k l) name ≡ [] → walk (env_of k l) x ≡ walk (env_of k l) y
   default_walk x y name z s r t ps body a g l e i j v =
-      rw (e, i, j, v) (ap (λ z. walk (in_params z) ps ++ walk_body (walks_in_body z) body ++ misplaced_directive (has_plain_params ps) body) (module_env k l o))
+      rw (e, i, j, v) (ap (λ z. walk (env_in_parameters z) ps ++ walk_body (env_in_body z) body ++ misplaced_directive (has_plain_params ps) body) (module_env k l o))
 
   default_function_read : (a name x y z : Tree) (c d : Place) → kind_at (after c) ≡ kind.Default → FunctionRule (language.Reads n) false k a name z (after (after c)) d → a ≡ listed []
       → y ≡ tree.fn_expr (spanned (after (after c)) d) name z → x ≡ tree.export_default_decl (spanned c d) y → supported z ≡ true → notes z ≡ []

@@ -25,7 +25,6 @@ use Rattle.swc_ecma_parser_grammar.specs.Follows.{word_at, first_is, token_is, b
 use Rattle.swc_ecma_parser_grammar.specs.Looks.{kind_at, sees, same_kind, span_at, spanned}
 use Rattle.swc_ecma_parser_grammar.specs.Names.{Code}
 use Rattle.swc_ecma_parser_grammar.specs.Notes.{notes, all_notes}
-use Rattle.swc_ecma_parser_grammar.specs.Reads.{ReadsToken}
 use Rattle.swc_ecma_parser_grammar.specs.Walk as walks_of
 use Rattle.swc_ecma_parser_grammar.specs.Walk.{Env, env_of, walk, walks}
 use Rattle.swc_ecma_parser_grammar.specs.language.Contexts.{in_module, outside_functions}
@@ -33,7 +32,7 @@ use Rattle.swc_ecma_parser_grammar.specs.language.Imports.{ImportSpecifierRule, 
 use Rattle.swc_ecma_parser_grammar.specs.language.Lists.{ReadsListed}
 use Rattle.swc_ecma_parser_grammar.specs.language.ModuleParts.{StringRule, FromRule, ModuleNameRule, word_name_rule, string_name_rule, AttributesRule}
 use Rattle.swc_ecma_parser_grammar.specs.language.Noted.{has_meta, any_has_meta}
-use Rattle.swc_ecma_parser_grammar.specs.language.Parts.{ReadsName, ReadsWord}
+use Rattle.swc_ecma_parser_grammar.specs.language.Parts.{ReadsName, ReadsWord, ReadsToken}
 use Rattle.swc_ecma_parser_grammar.specs.language.Reads.{Reads}
 use Rattle.swc_ecma_parser_grammar.proofs.StatementBegins.{word_place}
 use Rattle.swc_ecma_parser_grammar.proofs.Tests.{and_yes, or_no}
@@ -162,11 +161,11 @@ clause_quiet k xs c d (default_binding_rule text s ys m r more e) =
 
 -- an import carries the faults and notes of its attributes
 abbrev Carries : (x given : Tree) → Type 0
-Carries x given = ((env : Env) → walk env x ≡ walk (walks_of.in_module env) given) × (notes x ≡ notes given) × (has_meta x ≡ has_meta given)
+Carries x given = ((env : Env) → walk env x ≡ walk (walks_of.env_in_module env) given) × (notes x ≡ notes given) × (has_meta x ≡ has_meta given)
 
 import_carries : (x : Tree) (s : Span) (xs : List Tree) (src given : Tree) (p : ImportPhase) → x ≡ tree.import s (listed xs) src given p → QuietAll xs → Quiet src → Carries x given
 import_carries x s xs src given p is q r =
-    (λ env. rw (is, q.0 (walks_of.in_module env) false, r.0 (walks_of.in_module env)) refl, rw (is, q.1, r.1) refl, rw (is, q.2, r.2) refl)
+    (λ env. rw (is, q.0 (walks_of.env_in_module env) false, r.0 (walks_of.env_in_module env)) refl, rw (is, q.1, r.1) refl, rw (is, q.2, r.2) refl)
 
 -- ---- what is imported
 

@@ -10,10 +10,10 @@ use Rattle.swc_ecma_parser_model.specs.Tree.{Tree}
 use Rattle.swc_ecma_parser_grammar.specs.Looks.{kind_at, sees, same_kind}
 use Rattle.swc_ecma_parser_grammar.specs.Names.{Code}
 use Rattle.swc_ecma_parser_grammar.specs.Notes.{notes}
-use Rattle.swc_ecma_parser_grammar.specs.Reads.{top_item}
-use Rattle.swc_ecma_parser_grammar.specs.ReadsSupported.{ReadsTop}
+use Rattle.swc_ecma_parser_grammar.specs.scaffold.ReadsSupported.{ReadsTop}
 use Rattle.swc_ecma_parser_grammar.specs.Walk as walks
 use Rattle.swc_ecma_parser_grammar.specs.Walk.{Env, walk, env_of}
+use Rattle.swc_ecma_parser_grammar.specs.language.Items.{top_item}
 use Rattle.swc_ecma_parser_grammar.specs.language.Contexts.{in_module}
 use Rattle.swc_ecma_parser_grammar.specs.language.Goals.{item_goal}
 use Rattle.swc_ecma_parser_grammar.specs.language.ModuleItems.{ItemRule, statement_rule, import_item_rule, export_item_rule, begins_with_await}
@@ -76,18 +76,18 @@ module _ (n : ℕ) (recorded : List Fault) (s : State) (x : Tree) (d : Place) (s
       by_case (inr e) = inr (no_error (kind_at d) e)
 
   declared_answers : is_module_decl x ≡ true → begins_module s.at ≡ true → Reads n (item_goal (in_module s.code) x s.at d)
-      → ((env : Env) → walk (walks.in_module env) x ≡ walk env x) → notes x ≡ [] → Answer n recorded s x d
+      → ((env : Env) → walk (walks.env_in_module env) x ≡ walk env x) → notes x ≡ [] → Answer n recorded s x d
   declared_answers e b r w q =
       let u = turned recorded s in
       let env = env_of s.code s.scope.labels in
-      let one = item_reads export_reads n u.code x s.at d (refl, refl) order r supports q s.scope u.faults u.notes (calm_in (walks.in_module env) (w env)) in
-      let whole : item_whole n recorded s ≡ Ok ((x, s.notes.held_back), st d (in_module s.code) s.scope ((s.faults ++ recorded) ++ walk (walks.in_module env) x) (u.notes ⊕ notes_with x (begins_with_await x s.at))) =
+      let one = item_reads export_reads n u.code x s.at d (refl, refl) order r supports q s.scope u.faults u.notes (calm_in (walks.env_in_module env) (w env)) in
+      let whole : item_whole n recorded s ≡ Ok ((x, s.notes.held_back), st d (in_module s.code) s.scope ((s.faults ++ recorded) ++ walk (walks.env_in_module env) x) (u.notes ⊕ notes_with x (begins_with_await x s.at))) =
       whole_declared n recorded s b ∙ rw one refl in record {
         before = [];
         behind = item_walk s x;
         walked = refl;
         plain = λ _. refl;
-        reads = rw (e, ← w env, ← append_assoc s.faults recorded (walk (walks.in_module env) x)) (rw e at whole);
+        reads = rw (e, ← w env, ← append_assoc s.faults recorded (walk (walks.env_in_module env) x)) (rw e at whole);
       }
 
   stated_answers : is_module_decl x ≡ false → ReadsTop n s.code top_item x s.at d → Answer n recorded s x d

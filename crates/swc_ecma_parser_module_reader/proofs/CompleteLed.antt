@@ -11,9 +11,10 @@ use Rattle.swc_ecma_parser_grammar.specs.Looks.{kind_at, sees, same_kind, span_a
 use Rattle.swc_ecma_parser_grammar.specs.Names.{Code}
 use Rattle.swc_ecma_parser_grammar.specs.Follows.{AsyncWord, not_async, async_word}
 use Rattle.swc_ecma_parser_grammar.specs.Notes.{notes}
-use Rattle.swc_ecma_parser_grammar.specs.Supported.{supported, all_supported, has_none}
+use Rattle.swc_ecma_parser_grammar.specs.scaffold.Supported.{supported, all_supported, has_none}
 use Rattle.swc_ecma_parser_grammar.specs.Walk as walks
 use Rattle.swc_ecma_parser_grammar.specs.Walk.{Env, env_of, walk, walk_exported}
+use Rattle.swc_ecma_parser_grammar.specs.language.Items.{top_item}
 use Rattle.swc_ecma_parser_grammar.specs.language.Classes.{DecoratorsRule, no_decorators, some_decorators, ClassRule}
 use Rattle.swc_ecma_parser_grammar.specs.language.Contexts.{in_module}
 use Rattle.swc_ecma_parser_grammar.specs.language.Exports.{begin_before, all_before, export_word, export_default_words, decorated_before, decorated_behind, ExportedRule, exported_class as exported_class_rule, exported_function as exported_function_rule, exported_variables, DefaultRule, default_class as default_class_rule, default_function as default_function_rule, ExportRule, export_declaration_rule, export_from_rule, export_names_rule, export_default_declaration_rule, export_default_expression_rule, export_all_rule}
@@ -41,9 +42,8 @@ use Rattle.swc_ecma_parser_module_reader.proofs.ItemStarts.{exported_behind, def
 use Rattle.swc_ecma_parser_module_reader.proofs.ModuleCode.{IsModule}
 use Rattle.swc_ecma_parser_module_reader.proofs.SoundLed.{before_one}
 use Rattle.swc_ecma_parser_reader.proofs.decorators.CompleteStatements.{same_list}
-use Rattle.swc_ecma_parser_grammar.specs.Decorated.{plain_statement, decorated_statement}
-use Rattle.swc_ecma_parser_grammar.specs.Reads.{top_item}
-use Rattle.swc_ecma_parser_grammar.specs.ReadsSupported.{ReadsTop, ReadsStmt}
+use Rattle.swc_ecma_parser_grammar.specs.scaffold.Decorated.{plain_statement, decorated_statement}
+use Rattle.swc_ecma_parser_grammar.specs.scaffold.ReadsSupported.{ReadsTop, ReadsStmt}
 use Rattle.swc_ecma_parser_grammar.proofs.SupportedIn.{lift_in}
 use Rattle.swc_ecma_parser_reader.specs.DecoratedStatements.{begins_declared}
 use Rattle.swc_ecma_parser_reader.proofs.Calm.{calm_last}
@@ -80,9 +80,9 @@ later_none n start v s e = rw (leading_none (decorated_in n) s e) refl
 -- ---- the walk of the whole
 
 bare_walked : (env : Env) (w : Span) (hi : BytePos) (ds : List Tree) (z : Tree) → Takes z → all_before w (trees ds) ≡ true → let span : Span = record { lo = w.lo; hi = hi } in
-    walk env (listed ds) ++ walk (walks.in_module env) z ≡ walk_exported env span (walk (walks.in_module env) (with_decorators ds z)) (with_decorators ds z)
+    walk env (listed ds) ++ walk (walks.env_in_module env) z ≡ walk_exported env span (walk (walks.env_in_module env) (with_decorators ds z)) (with_decorators ds z)
 bare_walked env w hi ds z f h = let span : Span = record { lo = w.lo; hi = hi } in
-    ap (λ v. v ++ walk (walks.in_module env) z) (sym (before_walk env span ds (before_one w hi ds h))) ∙ sym (f.walked ds env span)
+    ap (λ v. v ++ walk (walks.env_in_module env) z) (sym (before_walk env span ds (before_one w hi ds h))) ∙ sym (f.walked ds env span)
 
 -- ---- the export, from its word on
 

@@ -9,12 +9,13 @@ use Rattle.swc_ecma_parser_input.specs.Place.{Place}
 use Rattle.swc_ecma_parser_model.specs.Kinds.{is_module_decl}
 use Rattle.swc_ecma_parser_model.specs.Tree as tree
 use Rattle.swc_ecma_parser_model.specs.Tree.{Tree, Text, listed, trees}
-use Rattle.swc_ecma_parser_grammar.specs.Entries.{items_await}
+use Rattle.swc_ecma_parser_grammar.specs.scaffold.Entries.{small_items_await}
 use Rattle.swc_ecma_parser_grammar.specs.Looks.{kind_at, spanned, sees, same_kind}
 use Rattle.swc_ecma_parser_grammar.specs.Names.{Code}
 use Rattle.swc_ecma_parser_grammar.specs.Notes.{notes, all_notes}
-use Rattle.swc_ecma_parser_grammar.specs.Reads.{top_item, ReadsItems, directed, directs_on}
+use Rattle.swc_ecma_parser_grammar.specs.scaffold.Reads.{ReadsItems}
 use Rattle.swc_ecma_parser_grammar.specs.Walk.{env_of, walks, walk_items, walk}
+use Rattle.swc_ecma_parser_grammar.specs.language.Items.{top_item, directed, directs_on}
 use Rattle.swc_ecma_parser_grammar.specs.language.ModuleItems.{ModuleItemsRule, statement_rule, import_item_rule, export_item_rule, behind_item, begins_with_await}
 use Rattle.swc_ecma_parser_grammar.specs.language.Noted.{has_meta, any_has_meta}
 use Rattle.swc_ecma_parser_grammar.specs.language.Programs.{ShebangRule, is_module_body, is_module_program, is_module_code, whole}
@@ -71,10 +72,10 @@ or_comm false b = sym (or_nil b)
 
 script_by : (n : ℕ) (recorded : List Fault) (s : State) (shebang : Option Text) (first d : Place) (xs : List Tree) → ShebangRule s.at first shebang
     → (r : ReadsItems (Item n) (program_code s.code) true xs first d) → kind_at d ≡ kind.End
-    → (s.notes.found_module_item || (any_has_meta (trees xs) || items_await (Item n) (program_code s.code) true xs first d r)) ≡ false
+    → (s.notes.found_module_item || (any_has_meta (trees xs) || small_items_await (Item n) (program_code s.code) true xs first d r)) ≡ false
     → let x : Tree = tree.script (spanned s.at d) (listed xs) shebang in
     program_whole n recorded s
-    ≡ Ok ((x, []), program_left s x d (items_await (Item n) (program_code s.code) true xs first d r) (walks (env_of (program_code s.code) s.scope.labels) true (trees xs)) [] [])
+    ≡ Ok ((x, []), program_left s x d (small_items_await (Item n) (program_code s.code) true xs first d r) (walks (env_of (program_code s.code) s.scope.labels) true (trees xs)) [] [])
 unfolding program_whole program_body as_script before_module
 script_by n recorded s shebang first d xs o r e g =
     rw (
@@ -93,19 +94,19 @@ module_by : (n : ℕ) (recorded : List Fault) (s : State) (shebang : Option Text
     → (r : ReadsItems (Item n) (program_code s.code) true before first m)
     → ModuleItemsRule (Reads n) (module_code (code_behind (program_code s.code) true before)) true behind others m d → kind_at d ≡ kind.End
     → before_module m ≡ true → is_error (kind_at m) ≡ false
-    → (at_end m && not (s.notes.found_module_item || (any_has_meta (trees before) || items_await (Item n) (program_code s.code) true before first m r))) ≡ false
+    → (at_end m && not (s.notes.found_module_item || (any_has_meta (trees before) || small_items_await (Item n) (program_code s.code) true before first m r))) ≡ false
     → all_supported_items (trees behind) ≡ true → all_notes (trees before) ≡ [] → all_notes (trees behind) ≡ [] → OrderedFor (any_led (trees behind)) m
     → let x : Tree = tree.module_program (spanned s.at d) (listed (before ++ behind)) shebang in
     program_whole n recorded s ≡ Ok (
       (x, s.notes.held_back),
-      program_left s x d (items_await (Item n) (program_code s.code) true before first m r || others)
+      program_left s x d (small_items_await (Item n) (program_code s.code) true before first m r || others)
           (walks (env_of (program_code s.code) s.scope.labels) true (trees before)) recorded
           (walk_items (env_of (module_code (code_behind (program_code s.code) true before)) s.scope.labels) true (trees behind)),
     )
 unfolding program_whole program_body as_module behind_front
 module_by n recorded s shebang first m d before behind others o r rs e b v g t p q order =
     let k = code_behind (program_code s.code) true before in
-    let a = items_await (Item n) (program_code s.code) true before first m r in
+    let a = small_items_await (Item n) (program_code s.code) true before first m r in
     let f = s.faults ++ walks (env_of (program_code s.code) s.scope.labels) true (trees before) in
     let h : Notes = s.notes ⊕ all_notes_with (trees before) a in
     rw (
@@ -183,7 +184,7 @@ module _ (n : ℕ) (recorded : List Fault) (s : State) (shebang : Option Text) (
   j = module_code k1
 
   abbrev awaits : Bool
-  awaits = items_await (Item (suc n)) k0 true before first m r
+  awaits = small_items_await (Item (suc n)) k0 true before first m r
 
   abbrev f1 : List Fault
   f1 = s.faults ++ walks (env_of k0 s.scope.labels) true (trees before)
@@ -281,7 +282,7 @@ no_rule y h e = absurd (true≢false (sym h ∙ e))
 
 led_first : (n : ℕ) (recorded : List Fault) (s : State) (shebang : Option Text) (first d : Place) (o : ShebangRule s.at first shebang) (ends : kind_at d ≡ kind.End)
     (m : Place) (before : List Tree) (y : Tree) (ys : List Tree) (others awaits : Bool) (r : ReadsItems (Item n) (program_code s.code) true before first m)
-    (z : awaits ≡ (items_await (Item n) (program_code s.code) true before first m r || others)) (i : Place) (more : Bool) (one : Reads n (item_goal (code_behind (program_code s.code) true before) y m i))
+    (z : awaits ≡ (small_items_await (Item n) (program_code s.code) true before first m r || others)) (i : Place) (more : Bool) (one : Reads n (item_goal (code_behind (program_code s.code) true before) y m i))
     (rs : ModuleItemsRule (Reads n) (behind_item (directed (code_behind (program_code s.code) true before) true y) y) (directs_on true y) ys more i d) (f : others ≡ (begins_with_await y m || more))
     (t : all_supported_items (trees (before ++ y ∷ ys)) ≡ true) (q : all_notes (trees (before ++ y ∷ ys)) ≡ []) (order : OrderedFor (any_led (trees (y ∷ ys))) m) (declares : is_module_decl y ≡ true)
     (walked : walk_items (env_of (program_code s.code) s.scope.labels) true (trees (before ++ y ∷ ys))
@@ -303,7 +304,7 @@ led_first (suc n) recorded s shebang first d o ends m before y ys others awaits 
     let read = led_read n recorded s shebang first m d before y ys more o r i rest ends c.1 w.0 g.1 after_first sign.0 sign.1 l calm in
     let left = led_left n recorded s shebang first m d before y ys more o r i rest ends c.1 w.0 g.1 after_first sign.0 sign.1 l calm in
     let held = none_held n recorded s shebang first m d before y ys more o r i rest ends c.1 w.0 g.1 after_first sign.0 sign.1 l calm in
-    let a = items_await (Item (suc n)) (program_code s.code) true before first m r in
+    let a = small_items_await (Item (suc n)) (program_code s.code) true before first m r in
     let x : Tree = tree.module_program (spanned s.at d) (listed (before ++ y ∷ ys)) shebang in
     let same : awaits ≡ (a || more) = z ∙ ap (λ v. a || v) (f ∙ ap (λ v. (not v && sees kind.Await m) || more) declares) in
     let fl = walk (env_of kb s.scope.labels) l.list in
@@ -319,8 +320,8 @@ led_first (suc n) recorded s shebang first d o ends m before y ys others awaits 
     )
 
 module _ (n : ℕ) (recorded : List Fault) (s : State) (shebang : Option Text) (first d : Place) (o : ShebangRule s.at first shebang) (ends : kind_at d ≡ kind.End) where
-  script_case : (m : Place) (xs : List Tree) (awaits : Bool) → d ≡ m → (r : ReadsItems (Item n) (program_code s.code) true xs first m) → awaits ≡ items_await (Item n) (program_code s.code) true xs first m r
-      → (s.notes.found_module_item || (any_has_meta (trees xs) || items_await (Item n) (program_code s.code) true xs first m r)) ≡ false
+  script_case : (m : Place) (xs : List Tree) (awaits : Bool) → d ≡ m → (r : ReadsItems (Item n) (program_code s.code) true xs first m) → awaits ≡ small_items_await (Item n) (program_code s.code) true xs first m r
+      → (s.notes.found_module_item || (any_has_meta (trees xs) || small_items_await (Item n) (program_code s.code) true xs first m r)) ≡ false
       → Answer n recorded s (tree.script (spanned s.at d) (listed xs) shebang) d awaits
   script_case m xs awaits i r z g =
       let fs = walks (env_of (program_code s.code) s.scope.labels) true (trees xs) in
@@ -329,9 +330,9 @@ module _ (n : ℕ) (recorded : List Fault) (s : State) (shebang : Option Text) (
       (fs, [], append-nil fs, script_by n recorded s shebang first m xs o r (sym (ap kind_at i) ∙ ends) g))
 
   module_case : (m : Place) (before behind : List Tree) (others awaits : Bool) (r : ReadsItems (Item n) (program_code s.code) true before first m)
-      → awaits ≡ (items_await (Item n) (program_code s.code) true before first m r || others)
+      → awaits ≡ (small_items_await (Item n) (program_code s.code) true before first m r || others)
       → ModuleItemsRule (Reads n) (module_code (code_behind (program_code s.code) true before)) true behind others m d → before_module m ≡ true → is_error (kind_at m) ≡ false
-      → (at_end m && not (s.notes.found_module_item || (any_has_meta (trees before) || items_await (Item n) (program_code s.code) true before first m r))) ≡ false
+      → (at_end m && not (s.notes.found_module_item || (any_has_meta (trees before) || small_items_await (Item n) (program_code s.code) true before first m r))) ≡ false
       → all_supported_items (trees (before ++ behind)) ≡ true → all_notes (trees (before ++ behind)) ≡ [] → OrderedFor (any_led (trees behind)) m
       → walk_items (env_of (program_code s.code) s.scope.labels) true (trees (before ++ behind))
       ≡ walks (env_of (program_code s.code) s.scope.labels) true (trees before) ++ walk_items (env_of (module_code (code_behind (program_code s.code) true before)) s.scope.labels) true (trees behind)
@@ -347,7 +348,7 @@ module _ (n : ℕ) (recorded : List Fault) (s : State) (shebang : Option Text) (
 
   -- an import or an export without decorators before it
   module _ (m : Place) (before : List Tree) (y : Tree) (ys : List Tree) (others awaits : Bool) (r : ReadsItems (Item n) (program_code s.code) true before first m)
-      (z : awaits ≡ (items_await (Item n) (program_code s.code) true before first m r || others)) (i : Place) (more : Bool) (one : Reads n (item_goal (code_behind (program_code s.code) true before) y m i))
+      (z : awaits ≡ (small_items_await (Item n) (program_code s.code) true before first m r || others)) (i : Place) (more : Bool) (one : Reads n (item_goal (code_behind (program_code s.code) true before) y m i))
       (rs : ModuleItemsRule (Reads n) (behind_item (directed (code_behind (program_code s.code) true before) true y) y) (directs_on true y) ys more i d) (f : others ≡ (begins_with_await y m || more))
       (t : all_supported_items (trees (before ++ y ∷ ys)) ≡ true) (q : all_notes (trees (before ++ y ∷ ys)) ≡ []) (order : OrderedFor (any_led (trees (y ∷ ys))) m) (declares : is_module_decl y ≡ true)
       (walked : walk_items (env_of (program_code s.code) s.scope.labels) true (trees (before ++ y ∷ ys))
@@ -378,7 +379,7 @@ module _ (n : ℕ) (recorded : List Fault) (s : State) (shebang : Option Text) (
         (sym (around_walk kb s.scope.labels (y ∷ ys) (declares, λ env. item_same_walk n env kb y m i declares off first_supported.0 first_order one))))
 
   by_parts : (w : Bool) (m : Place) (before behind : List Tree) (others awaits : Bool) (r : ReadsItems (Item n) (program_code s.code) true before first m)
-      → awaits ≡ (items_await (Item n) (program_code s.code) true before first m r || others)
+      → awaits ≡ (small_items_await (Item n) (program_code s.code) true before first m r || others)
       → ModuleItemsRule (Reads n) (code_behind (program_code s.code) true before) true behind others m d → list_any is_module_decl before ≡ false
       → Begins (code_behind (program_code s.code) true before) behind m
       → all_supported_items (trees (before ++ behind)) ≡ true → (w ≡ true → all_notes (trees (before ++ behind)) ≡ []) → OrderedFor (any_led (trees behind)) m
@@ -387,12 +388,12 @@ module _ (n : ℕ) (recorded : List Fault) (s : State) (shebang : Option Text) (
       → (s.notes.found_module_item || is_module_body (before ++ behind) awaits) ≡ w
       → Answer n recorded s (whole w (spanned s.at d) (listed (before ++ behind)) shebang) d awaits
   by_parts false m before [] others awaits r z (i, f) plain begins t q order walked w =
-      let a = items_await (Item n) (program_code s.code) true before first m r in
+      let a = small_items_await (Item n) (program_code s.code) true before first m r in
       let y : awaits ≡ a = z ∙ ap (λ v. a || v) f ∙ or_nil a in
       subst (λ ys. Answer n recorded s (tree.script (spanned s.at d) (listed ys) shebang) d awaits) (sym (append-nil before))
       (script_case m before awaits i r y (sym (alone before a awaits s.notes.found_module_item plain y) ∙ w))
   by_parts true m before [] others awaits r z (i, f) plain begins t q order walked w =
-      let a = items_await (Item n) (program_code s.code) true before first m r in
+      let a = small_items_await (Item n) (program_code s.code) true before first m r in
       let y : awaits ≡ a = z ∙ ap (λ v. a || v) f ∙ or_nil a in
       let e = sym (ap kind_at i) ∙ ends in
       module_case m before [] others awaits r z (i, f) (before_end m (at_end_at m e)) (ap is_error e)

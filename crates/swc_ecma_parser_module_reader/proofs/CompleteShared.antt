@@ -2,7 +2,7 @@
 -- noted, and attributes.
 use Rattle.std.proofs.Common.{◌≡◌, ℕ, ◌<◌, true, false, List, [], ◌∷◌, ◌++◌, length, Ok, refl, sym, ◌∙◌, ap, append_assoc, append-nil, codes}
 use Rattle.swc_ecma_parser_error.specs.Kind.{Kind, Fault}
-use Rattle.swc_ecma_parser_grammar.specs.language.Parts.{ReadsName, ReadsWord}
+use Rattle.swc_ecma_parser_grammar.specs.language.Parts.{ReadsName, ReadsWord, ReadsToken}
 use Rattle.swc_ecma_parser_reader.specs.State.{name, Scope, Reader, expect_word, loop}
 use Rattle.swc_ecma_parser_token.specs.declared.keyword.Keyword.{Keyword}
 use Rattle.swc_ecma_parser_token.specs.declared.keyword.Keyword.TheVariants as keyword
@@ -12,7 +12,6 @@ use Rattle.swc_ecma_parser_token.specs.declared.token.Word.{Word}
 use Rattle.swc_ecma_parser_token.specs.declared.token.Word.TheVariants as word
 use Rattle.swc_ecma_parser_token.specs.Kind.{word_kind, keyword_kind}
 use Rattle.swc_ecma_parser_token.specs.Text.{word_text}
-use Rattle.swc_ecma_parser_grammar.specs.Reads.{ReadsToken}
 use Rattle.swc_ecma_parser_reader.specs.Words.{any_word}
 use Rattle.swc_ecma_parser_common.specs.declared.span.Span.{Span}
 use Rattle.swc_ecma_parser_input.specs.Place.{Place, after}
@@ -25,7 +24,7 @@ use Rattle.swc_ecma_parser_grammar.specs.language.Lists.{ReadsListed, no_comma, 
 use Rattle.swc_ecma_parser_grammar.specs.language.ModuleParts.{BracedRule, StringRule, FromRule, ModuleNameRule, word_name_rule, string_name_rule, AttributesRule, no_attributes_rule, attributes_rule}
 use Rattle.swc_ecma_parser_grammar.specs.language.Reads.{Reads}
 use Rattle.swc_ecma_parser_grammar.specs.Notes.{notes}
-use Rattle.swc_ecma_parser_grammar.specs.Supported.{supported}
+use Rattle.swc_ecma_parser_grammar.specs.scaffold.Supported.{supported}
 use Rattle.swc_ecma_parser_grammar.proofs.SupportedIn.{lift_in}
 use Rattle.swc_ecma_parser_reader.specs.Notes.{Notes}
 use Rattle.swc_ecma_parser_reader.specs.Operands.{word_property}

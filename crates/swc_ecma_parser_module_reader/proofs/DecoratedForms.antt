@@ -35,7 +35,7 @@ absent_name = record { walked = λ env. refl; unnoted = refl; no_meta = refl }
 -- a tree that holds none, with these before everything else
 pub record Takes (x : Tree) : Type 0 where
   pub walked : (ds : List Tree) (env : Env) (s : Span)
-      → walk_exported env s (walk (walks.in_module env) (with_decorators ds x)) (with_decorators ds x) ≡ walk_decorators env s (listed ds) ++ walk (walks.in_module env) x
+      → walk_exported env s (walk (walks.env_in_module env) (with_decorators ds x)) (with_decorators ds x) ≡ walk_decorators env s (listed ds) ++ walk (walks.env_in_module env) x
   pub noted : (ds : List Tree) → notes_of (listed ds) ⊕ notes_of x ≡ notes_of (with_decorators ds x)
   pub bare : with_decorators [] x ≡ x
 
@@ -69,8 +69,8 @@ module _ (i : Tree) (h : IsName i) where
 
     declaration_takes : Takes (tree.fn_decl i the_function)
     declaration_takes = record {
-      walked = λ ds env span. let m = walks.in_module env in
-          behind_function (walk m i) (walk_decorators env span (listed ds)) (walk (walks.in_params m) (parameters ps)) (walk_body (walks.in_body m) body)
+      walked = λ ds env span. let m = walks.env_in_module env in
+          behind_function (walk m i) (walk_decorators env span (listed ds)) (walk (walks.env_in_parameters m) (parameters ps)) (walk_body (walks.env_in_body m) body)
           (misplaced_directive (has_plain_params (parameters ps)) body) (h.walked m);
       noted = λ ds k. record {
         held_back = notes_behind (notes i) (notes (listed ds)) (notes (parameters ps)) (notes body) h.unnoted k;
@@ -81,8 +81,8 @@ module _ (i : Tree) (h : IsName i) where
 
     expression_takes : (r : Span) → Takes (tree.fn_expr r i the_function)
     expression_takes r = record {
-      walked = λ ds env span. let m = walks.in_module env in
-          behind_function (walk m i) (walk_decorators env span (listed ds)) (walk (walks.in_params m) (parameters ps)) (walk_body (walks.in_body m) body)
+      walked = λ ds env span. let m = walks.env_in_module env in
+          behind_function (walk m i) (walk_decorators env span (listed ds)) (walk (walks.env_in_parameters m) (parameters ps)) (walk_body (walks.env_in_body m) body)
           (misplaced_directive (has_plain_params (parameters ps)) body) (h.walked m);
       noted = λ ds k. record {
         held_back = notes_behind (notes i) (notes (listed ds)) (notes (parameters ps)) (notes body) h.unnoted k;
@@ -97,8 +97,8 @@ module _ (i : Tree) (h : IsName i) where
 
     class_takes : Takes (tree.class_decl i the_class)
     class_takes = record {
-      walked = λ ds env span. let c = walks.in_class (walks.in_module env) in
-          behind_class (walk (walks.in_module env) i) (walk_decorators env span (listed ds)) (walk c base) (walk_class_body c (listed xs)) (h.walked (walks.in_module env));
+      walked = λ ds env span. let c = walks.env_in_class (walks.env_in_module env) in
+          behind_class (walk (walks.env_in_module env) i) (walk_decorators env span (listed ds)) (walk c base) (walk_class_body c (listed xs)) (h.walked (walks.env_in_module env));
       noted = λ ds k. record {
         held_back = notes_behind (notes i) (notes (listed ds)) (notes base) (notes (listed xs)) h.unnoted k;
         found_module_item = meta_class (has_meta i) (has_meta (listed ds)) (has_meta base) (has_meta (listed xs)) h.no_meta k;
@@ -108,8 +108,8 @@ module _ (i : Tree) (h : IsName i) where
 
     class_expression_takes : (r : Span) → Takes (tree.class_expr r i the_class)
     class_expression_takes r = record {
-      walked = λ ds env span. let c = walks.in_class (walks.in_module env) in
-          behind_class (walk (walks.in_module env) i) (walk_decorators env span (listed ds)) (walk c base) (walk_class_body c (listed xs)) (h.walked (walks.in_module env));
+      walked = λ ds env span. let c = walks.env_in_class (walks.env_in_module env) in
+          behind_class (walk (walks.env_in_module env) i) (walk_decorators env span (listed ds)) (walk c base) (walk_class_body c (listed xs)) (h.walked (walks.env_in_module env));
       noted = λ ds k. record {
         held_back = notes_behind (notes i) (notes (listed ds)) (notes base) (notes (listed xs)) h.unnoted k;
         found_module_item = meta_class (has_meta i) (has_meta (listed ds)) (has_meta base) (has_meta (listed xs)) h.no_meta k;
@@ -135,21 +135,21 @@ class_expr_takes r i x h (s, xs, base, e) = as_form (tree.class_expr r i) e (cla
 -- ---- the walk of decorators behind the words of an export
 
 -- each is walked as module code where none begins before the words
-pub walked_behind : (env : Env) (s : Span) (ds : Trees) → none_before s.lo ds ≡ true → walk_each_decorator env s ds ≡ walks.walks (walks.in_module env) false ds
+pub walked_behind : (env : Env) (s : Span) (ds : Trees) → none_before s.lo ds ≡ true → walk_each_decorator env s ds ≡ walks.walks (walks.env_in_module env) false ds
 walked_behind env s none h = refl
 walked_behind env s (also d ds) h = by_case (nat_lt (span_of d).lo.0 s.lo.0) h (walked_behind env s ds)
   where
-    by_case : (b : Bool) → (not b && none_before s.lo ds) ≡ true → (none_before s.lo ds ≡ true → walk_each_decorator env s ds ≡ walks.walks (walks.in_module env) false ds)
-        → walk (if b then env else walks.in_module env) d ++ walk_each_decorator env s ds ≡ walk (walks.in_module env) d ++ walks.walks (walks.in_module env) false ds
+    by_case : (b : Bool) → (not b && none_before s.lo ds) ≡ true → (none_before s.lo ds ≡ true → walk_each_decorator env s ds ≡ walks.walks (walks.env_in_module env) false ds)
+        → walk (if b then env else walks.env_in_module env) d ++ walk_each_decorator env s ds ≡ walk (walks.env_in_module env) d ++ walks.walks (walks.env_in_module env) false ds
     by_case true h f = cc
-    by_case false h f = ap (λ z. walk (walks.in_module env) d ++ z) (f h)
+    by_case false h f = ap (λ z. walk (walks.env_in_module env) d ++ z) (f h)
 
-pub behind_walk : (env : Env) (s : Span) (ds : List Tree) → none_before s.lo (trees ds) ≡ true → walk_decorators env s (listed ds) ≡ walk (walks.in_module env) (listed ds)
+pub behind_walk : (env : Env) (s : Span) (ds : List Tree) → none_before s.lo (trees ds) ≡ true → walk_decorators env s (listed ds) ≡ walk (walks.env_in_module env) (listed ds)
 behind_walk env s ds h = walked_behind env s (trees ds) h
 
 -- so the walk has no other code for them in module code
-pub decorators_same : (env : Env) (s : Span) (ds : List Tree) → none_before s.lo (trees ds) ≡ true → walk_decorators (walks.in_module env) s (listed ds) ≡ walk_decorators env s (listed ds)
-decorators_same env s ds h = behind_walk (walks.in_module env) s ds h ∙ sym (behind_walk env s ds h)
+pub decorators_same : (env : Env) (s : Span) (ds : List Tree) → none_before s.lo (trees ds) ≡ true → walk_decorators (walks.env_in_module env) s (listed ds) ≡ walk_decorators env s (listed ds)
+decorators_same env s ds h = behind_walk (walks.env_in_module env) s ds h ∙ sym (behind_walk env s ds h)
 
 -- ---- decorators before an export
 
@@ -159,7 +159,7 @@ walked_before env s none h = refl
 walked_before env s (also d ds) h = by_case (nat_lt (span_of d).lo.0 s.lo.0) h (walked_before env s ds)
   where
     by_case : (b : Bool) → (b && all_before s ds) ≡ true → (all_before s ds ≡ true → walk_each_decorator env s ds ≡ walks.walks env false ds)
-        → walk (if b then env else walks.in_module env) d ++ walk_each_decorator env s ds ≡ walk env d ++ walks.walks env false ds
+        → walk (if b then env else walks.env_in_module env) d ++ walk_each_decorator env s ds ≡ walk env d ++ walks.walks env false ds
     by_case true h f = ap (λ z. walk env d ++ z) (f h)
     by_case false h f = absurd (true≢false (sym h))
 

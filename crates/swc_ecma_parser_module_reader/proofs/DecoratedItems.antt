@@ -6,7 +6,7 @@ use Rattle.swc_ecma_parser_input.specs.Place.{Place}
 use Rattle.swc_ecma_parser_model.specs.Tree.{Tree}
 use Rattle.swc_ecma_parser_grammar.specs.Looks.{sees, same_kind}
 use Rattle.swc_ecma_parser_grammar.specs.Names.{Code}
-use Rattle.swc_ecma_parser_grammar.specs.Reads.{top_item}
+use Rattle.swc_ecma_parser_grammar.specs.language.Items.{top_item}
 use Rattle.swc_ecma_parser_grammar.proofs.Tests.{and_yes, and_both, or_no}
 use Rattle.swc_ecma_parser_reader.specs.DecoratedStatements.{stmt_behind, decorated_stmt}
 use Rattle.swc_ecma_parser_reader.specs.DecoratorLevels.{decorated_in}

@@ -7,8 +7,7 @@ use Rattle.swc_ecma_parser_model.specs.Tree as tree
 use Rattle.swc_ecma_parser_model.specs.Tree.{Tree, listed}
 use Rattle.swc_ecma_parser_grammar.specs.Looks.{span_at}
 use Rattle.swc_ecma_parser_grammar.specs.Parameters.{parameters}
-use Rattle.swc_ecma_parser_grammar.specs.Reads.{with_in}
-use Rattle.swc_ecma_parser_grammar.specs.language.Contexts.{in_class, in_parameters}
+use Rattle.swc_ecma_parser_grammar.specs.language.Contexts.{in_class, in_parameters, with_in}
 use Rattle.swc_ecma_parser_reader.specs.Dressed.{class_parts_with, named_class_with, class_decl_with, unnamed_class_with, class_expr_with, function_parts_with, function_decl_with}
 use Rattle.swc_ecma_parser_reader.specs.Members.{extended, surplus, members, class_parts, named_class, class_decl, class_name, unnamed_class, class_expr}
 use Rattle.swc_ecma_parser_reader.specs.Methods.{star}

@@ -5,7 +5,7 @@ use Rattle.swc_ecma_parser_error.specs.Kind.{Fault}
 use Rattle.swc_ecma_parser_input.specs.Place.{Place}
 use Rattle.swc_ecma_parser_model.specs.Tree as tree
 use Rattle.swc_ecma_parser_model.specs.Tree.{Tree, listed}
-use Rattle.swc_ecma_parser_grammar.specs.Entries.{no_shebang}
+use Rattle.swc_ecma_parser_grammar.specs.scaffold.Entries.{no_shebang}
 use Rattle.swc_ecma_parser_grammar.specs.Looks.{spanned, span_at}
 use Rattle.swc_ecma_parser_reader.specs.Reader.{items, at_end}
 use Rattle.swc_ecma_parser_reader.specs.State.{State, coded}

@@ -16,8 +16,8 @@ use Rattle.swc_ecma_parser_grammar.specs.Looks.{kind_at, sees, span_at, same_kin
 use Rattle.swc_ecma_parser_grammar.specs.Names.{is_name, name_at}
 use Rattle.swc_ecma_parser_grammar.specs.Follows.{word_at, is_let_declaration, is_async_function}
 use Rattle.swc_ecma_parser_grammar.specs.Own.{export_faults}
-use Rattle.swc_ecma_parser_grammar.specs.Reads.{with_in, nested_item, top_item}
-use Rattle.swc_ecma_parser_grammar.specs.language.Contexts.{outside_functions}
+use Rattle.swc_ecma_parser_grammar.specs.language.Items.{nested_item, top_item}
+use Rattle.swc_ecma_parser_grammar.specs.language.Contexts.{outside_functions, with_in}
 use Rattle.swc_ecma_parser_grammar.specs.language.Exports.{begin_before}
 use Rattle.swc_ecma_parser_grammar.specs.language.Goals.{assignment, left_side}
 use Rattle.swc_ecma_parser_grammar.specs.language.Imports.{follows_phase}
@@ -48,7 +48,7 @@ use Rattle.swc_ecma_parser_module_reader.specs.Exports.{renamed_export, plain_ex
 use Rattle.swc_ecma_parser_module_reader.specs.Decorated.{none_before, begins_decorators, no_leading, later_alone, later, decorating, by_default, named_with, default_with, behind_export, behind_default_word, export_from, export_with, export_item}
 use Rattle.swc_ecma_parser_module_reader.specs.Modules.{begins_import, import_in, export_in, import_behind, export_behind, module_item}
 use Rattle.swc_ecma_parser_module_reader.proofs.DecoratedItems.{item_cases}
-use Rattle.swc_ecma_parser_grammar.specs.Using.{is_await_using_declaration}
+use Rattle.swc_ecma_parser_grammar.specs.scaffold.Using.{is_await_using_declaration}
 
 -- ---- a declaration is the statement that it is where it stands
 

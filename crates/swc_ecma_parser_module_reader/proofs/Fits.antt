@@ -19,8 +19,8 @@ use Rattle.swc_ecma_parser_grammar.specs.declared.position.Position.{Position}
 use Rattle.swc_ecma_parser_grammar.specs.Looks.{kind_at, same_kind, breaks_at, span_at}
 use Rattle.swc_ecma_parser_grammar.specs.Names.{Code, is_name, name_at}
 use Rattle.swc_ecma_parser_grammar.specs.Follows.{word_at, is_async_function}
-use Rattle.swc_ecma_parser_grammar.specs.Reads.{with_in, nested_item}
-use Rattle.swc_ecma_parser_grammar.specs.language.Contexts.{in_class}
+use Rattle.swc_ecma_parser_grammar.specs.language.Items.{nested_item}
+use Rattle.swc_ecma_parser_grammar.specs.language.Contexts.{in_class, with_in}
 use Rattle.swc_ecma_parser_grammar.specs.language.Goals.{assignment, left_side}
 use Rattle.swc_ecma_parser_reader.specs.DecoratedStatements.{either_stmt}
 use Rattle.swc_ecma_parser_reader.specs.Expressions.{expr_level, expression_expr}
@@ -41,7 +41,7 @@ use Rattle.swc_ecma_parser_reader.proofs.Words.{unreserved}
 use Rattle.swc_ecma_parser_reader.proofs.expressions.SoundSteps.{FreeWord, name_sound}
 use Rattle.swc_ecma_parser_reader.proofs.Between.{SoundStep}
 use Rattle.swc_ecma_parser_module_reader.proofs.Keeps.{parts_keep}
-use Rattle.swc_ecma_parser_grammar.specs.Using.{is_await_using_declaration}
+use Rattle.swc_ecma_parser_grammar.specs.scaffold.Using.{is_await_using_declaration}
 
 -- ---- what is left of tokens that are fine
 

@@ -4,11 +4,12 @@ use Rattle.swc_ecma_parser_error.specs.Kind.{Fault}
 use Rattle.swc_ecma_parser_token.specs.declared.kind.TokenKind.TheVariants as kind
 use Rattle.swc_ecma_parser_input.specs.Place.{Place}
 use Rattle.swc_ecma_parser_model.specs.Tree.{Tree, trees}
-use Rattle.swc_ecma_parser_grammar.specs.Entries.{items_await}
+use Rattle.swc_ecma_parser_grammar.specs.scaffold.Entries.{small_items_await}
 use Rattle.swc_ecma_parser_grammar.specs.Looks.{kind_at, sees}
 use Rattle.swc_ecma_parser_grammar.specs.Names.{Code}
-use Rattle.swc_ecma_parser_grammar.specs.Reads.{directed, directs_on, top_item, ReadsItems}
-use Rattle.swc_ecma_parser_grammar.specs.ReadsSupported.{ReadsTop}
+use Rattle.swc_ecma_parser_grammar.specs.scaffold.Reads.{ReadsItems}
+use Rattle.swc_ecma_parser_grammar.specs.language.Items.{directed, directs_on, top_item}
+use Rattle.swc_ecma_parser_grammar.specs.scaffold.ReadsSupported.{ReadsTop}
 use Rattle.swc_ecma_parser_grammar.specs.Walk.{env_of, walk, walks}
 use Rattle.swc_ecma_parser_reader.specs.DecoratorLevels.{decorated_in}
 use Rattle.swc_ecma_parser_reader.specs.Decorators.{Leading, leading}
@@ -69,7 +70,7 @@ module _ (n : ℕ) where
   behind_state k b xs d w f h awaits = st d (code_behind k b xs) w (f ++ walks (env_of k w.labels) b (trees xs)) (h ⊕ all_notes_with (trees xs) awaits)
 
   front_many : (xs found : List Tree) (b : Bool) (k : Code) (c d : Place) (w : Scope) (f : List Fault) (h : Notes) → directs true found ≡ b → (r : ReadsItems (Item n) k b xs c d)
-      → is_error (kind_at d) ≡ false → loop (front_turn n) found (st c k w f h) ≡ loop (front_turn n) (found ++ xs) (behind_state k b xs d w f h (items_await (Item n) k b xs c d r))
+      → is_error (kind_at d) ≡ false → loop (front_turn n) found (st c k w f h) ≡ loop (front_turn n) (found ++ xs) (behind_state k b xs d w f h (small_items_await (Item n) k b xs c d r))
   front_many [] found b k c d w f h p r a = rw (append-nil found, append-nil f, append-nil h.held_back, or_nil h.found_module_item, r) refl
   front_many (x ∷ xs) found b k c d w f h p (m, r, more) a =
       let j = st m k w (f ++ walk (env_of k w.labels) x) (h ⊕ notes_with x (sees kind.Await c)) in
@@ -81,7 +82,7 @@ module _ (n : ℕ) where
 
   module _ (xs : List Tree) (k : Code) (c d : Place) (w : Scope) (f : List Fault) (h : Notes) (r : ReadsItems (Item n) k true xs c d) (a : is_error (kind_at d) ≡ false) where
     abbrev pub state_there : State
-    state_there = behind_state k true xs d w f h (items_await (Item n) k true xs c d r)
+    state_there = behind_state k true xs d w f h (small_items_await (Item n) k true xs c d r)
 
     pub front_plain : before_module d ≡ true → front n (st c k w f h) ≡ Ok (record { before = xs; list = no_leading state_there }, state_there)
     unfolding front

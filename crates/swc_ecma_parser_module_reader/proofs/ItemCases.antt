@@ -12,7 +12,7 @@ use Rattle.swc_ecma_parser_token.specs.declared.token.TokenAndSpan.{TokenAndSpan
 use Rattle.swc_ecma_parser_input.specs.Place.{Place}
 use Rattle.swc_ecma_parser_model.specs.Tree.{Tree}
 use Rattle.swc_ecma_parser_grammar.specs.Looks.{kind_at, sees, same_kind}
-use Rattle.swc_ecma_parser_grammar.specs.Reads.{top_item}
+use Rattle.swc_ecma_parser_grammar.specs.language.Items.{top_item}
 use Rattle.swc_ecma_parser_grammar.proofs.Tests.{or_no}
 use Rattle.swc_ecma_parser_reader.specs.Reader.{whole_stmt, plain_stmt}
 use Rattle.swc_ecma_parser_reader.specs.State.{State, Outcome, Reader, and_then}

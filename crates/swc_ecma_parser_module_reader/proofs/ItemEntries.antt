@@ -25,7 +25,7 @@ use Rattle.swc_ecma_parser_module_reader.proofs.ProgramAnswers.{known}
 use Rattle.swc_ecma_parser_module_reader.proofs.SoundItems.{item_is_sound, item_remembers}
 use Rattle.swc_ecma_parser_model.specs.Kinds.{is_module_decl}
 use Rattle.swc_ecma_parser_grammar.specs.Looks.{same_kind}
-use Rattle.swc_ecma_parser_grammar.specs.Reads.{top_item}
+use Rattle.swc_ecma_parser_grammar.specs.language.Items.{top_item}
 use Rattle.swc_ecma_parser_reader.specs.Reader.{whole_stmt}
 use Rattle.swc_ecma_parser_reader.proofs.Empty.{ended}
 use Rattle.swc_ecma_parser_reader.proofs.Errors.{kind_here}

@@ -16,9 +16,10 @@ use Rattle.swc_ecma_parser_grammar.specs.Looks.{sees, span_at}
 use Rattle.swc_ecma_parser_grammar.specs.Names.{name_at}
 use Rattle.swc_ecma_parser_grammar.specs.Follows.{word_at, is_let_declaration}
 use Rattle.swc_ecma_parser_grammar.specs.Own.{export_faults}
-use Rattle.swc_ecma_parser_grammar.specs.Reads.{with_in, nested_item}
 use Rattle.swc_ecma_parser_grammar.specs.Walk as walks
 use Rattle.swc_ecma_parser_grammar.specs.Walk.{Env, walk}
+use Rattle.swc_ecma_parser_grammar.specs.language.Items.{nested_item}
+use Rattle.swc_ecma_parser_grammar.specs.language.Contexts.{with_in}
 use Rattle.swc_ecma_parser_grammar.specs.language.Goals.{assignment, left_side}
 use Rattle.swc_ecma_parser_grammar.specs.language.Imports.{follows_phase}
 use Rattle.swc_ecma_parser_reader.specs.DecoratorLevels.{decorated_in}
@@ -42,7 +43,7 @@ use Rattle.swc_ecma_parser_module_reader.proofs.SoundExported.{variables_sound, 
 
 -- an import or an export, whose walk is that of module code
 abbrev pub IsDeclaration : Tree → Type 0
-IsDeclaration x = (is_module_decl x ≡ true) × ((env : Env) → walk (walks.in_module env) x ≡ walk env x)
+IsDeclaration x = (is_module_decl x ≡ true) × ((env : Env) → walk (walks.env_in_module env) x ≡ walk env x)
 
 abbrev Declared : Tree → State → Type 0
 Declared x t = IsDeclaration x
@@ -114,23 +115,23 @@ module _ (object : Reader Tree) where
 
 -- its export walks it as module code
 abbrev IsBare : Tree → Type 0
-IsBare x = (env : Env) (s : Span) → walks.walk_exported env s (walk (walks.in_module env) x) x ≡ walk (walks.in_module env) x
+IsBare x = (env : Env) (s : Span) → walks.walk_exported env s (walk (walks.env_in_module env) x) x ≡ walk (walks.env_in_module env) x
 
 bare_stays : (x : Tree) → IsBare x → (env : Env) (s : Span)
-    → walks.walk_exported (walks.in_module env) s (walk (walks.in_module env) x) x ≡ walks.walk_exported env s (walk (walks.in_module env) x) x
-bare_stays x h env s = h (walks.in_module env) s ∙ sym (h env s)
+    → walks.walk_exported (walks.env_in_module env) s (walk (walks.env_in_module env) x) x ≡ walks.walk_exported env s (walk (walks.env_in_module env) x) x
+bare_stays x h env s = h (walks.env_in_module env) s ∙ sym (h env s)
 
 -- and so it does with decorators behind its words
 takes_stays : (x : Tree) → Takes x → (ds : List Tree) (env : Env) (s : Span) → none_before s.lo (trees ds) ≡ true
-    → walks.walk_exported (walks.in_module env) s (walk (walks.in_module env) (with_decorators ds x)) (with_decorators ds x)
-    ≡ walks.walk_exported env s (walk (walks.in_module env) (with_decorators ds x)) (with_decorators ds x)
+    → walks.walk_exported (walks.env_in_module env) s (walk (walks.env_in_module env) (with_decorators ds x)) (with_decorators ds x)
+    ≡ walks.walk_exported env s (walk (walks.env_in_module env) (with_decorators ds x)) (with_decorators ds x)
 takes_stays x f ds env s h =
-    f.walked ds (walks.in_module env) s ∙ ap (λ z. z ++ walk (walks.in_module env) x) (behind_walk (walks.in_module env) s ds h ∙ sym (behind_walk env s ds h)) ∙ sym (f.walked ds env s)
+    f.walked ds (walks.env_in_module env) s ∙ ap (λ z. z ++ walk (walks.env_in_module env) x) (behind_walk (walks.env_in_module env) s ds h ∙ sym (behind_walk env s ds h)) ∙ sym (f.walked ds env s)
 
 bare_takes : (x : Tree) → Takes x → (env : Env) (s : Span)
-    → walks.walk_exported (walks.in_module env) s (walk (walks.in_module env) x) x ≡ walks.walk_exported env s (walk (walks.in_module env) x) x
+    → walks.walk_exported (walks.env_in_module env) s (walk (walks.env_in_module env) x) x ≡ walks.walk_exported env s (walk (walks.env_in_module env) x) x
 bare_takes x f env s =
-    subst (λ y. walks.walk_exported (walks.in_module env) s (walk (walks.in_module env) y) y ≡ walks.walk_exported env s (walk (walks.in_module env) y) y) f.bare (takes_stays x f [] env s refl)
+    subst (λ y. walks.walk_exported (walks.env_in_module env) s (walk (walks.env_in_module env) y) y ≡ walks.walk_exported env s (walk (walks.env_in_module env) y) y) f.bare (takes_stays x f [] env s refl)
 
 module _ (inner : Reader Tree) (params : Reader (List Tree)) where
   default_name_form : (s : State) → Meets (λ i t. IsName i) (default_name s)

@@ -24,11 +24,13 @@ use Rattle.swc_ecma_parser_grammar.specs.declared.position.Position.{Position}
 use Rattle.swc_ecma_parser_grammar.specs.Follows.{begins_import_expression, AsyncWord, not_async, async_word, no_await, await_word}
 use Rattle.swc_ecma_parser_grammar.specs.Looks.{kind_at, first_kind, sees, same_kind}
 use Rattle.swc_ecma_parser_grammar.specs.Names.{Code, is_reserved, is_name, is_identifier, token_is_identifier, first_is_identifier, identifier_at}
-use Rattle.swc_ecma_parser_grammar.specs.Reads.{ReadsToken, with_in, StmtRule, block_rule, empty_rule, debugger_rule, variables_rule, using_rule, if_statement_rule, switch_rule, labeled_rule, break_rule, continue_rule, return_rule, throw_rule, try_rule, while_rule, do_while_rule, for_rule, for_in_rule, for_of_rule, expr_rule, import_rule, if_rule, with_rule, function_rule, class_rule}
-use Rattle.swc_ecma_parser_grammar.specs.ReadsSupported.{ReadsClass, ReadsPat, ReadsTarget, ReadsStmt, ReadsParams, ReadsNamedClass, ReadsDecorators, ReadsDeclared}
-use Rattle.swc_ecma_parser_grammar.specs.Decorated.{DecoratedRule, EitherRule, plain_statement, decorated_statement}
-use Rattle.swc_ecma_parser_grammar.specs.Supported.{supported}
+use Rattle.swc_ecma_parser_grammar.specs.scaffold.Reads.{SmallStmtRule, block_rule, empty_rule, debugger_rule, variables_rule, using_rule, if_statement_rule, switch_rule, labeled_rule, break_rule, continue_rule, return_rule, throw_rule, try_rule, while_rule, do_while_rule, for_rule, for_in_rule, for_of_rule, expr_rule, import_rule, if_rule, with_rule, function_rule, class_rule}
+use Rattle.swc_ecma_parser_grammar.specs.scaffold.ReadsSupported.{ReadsClass, ReadsPat, ReadsTarget, ReadsStmt, ReadsParams, ReadsNamedClass, ReadsDecorators, ReadsDeclared}
+use Rattle.swc_ecma_parser_grammar.specs.scaffold.Decorated.{SmallDecoratedRule, EitherRule, plain_statement, decorated_statement}
+use Rattle.swc_ecma_parser_grammar.specs.scaffold.Supported.{supported}
 use Rattle.swc_ecma_parser_grammar.specs.Variables.{begins_variables}
+use Rattle.swc_ecma_parser_grammar.specs.language.Contexts.{with_in}
+use Rattle.swc_ecma_parser_grammar.specs.language.Parts.{ReadsToken}
 use Rattle.swc_ecma_parser_grammar.specs.language.Begins.{begins_operand, begins_unary, begins_expression}
 use Rattle.swc_ecma_parser_grammar.specs.language.Classes.{DecoratorRule, decorator_rule, no_decorators, some_decorators}
 use Rattle.swc_ecma_parser_grammar.specs.language.Exports as exports
@@ -132,7 +134,7 @@ word_no_item f _ e = (refl, refl)
 name_starts : (f : Context) (v : Word) (s : Span) (c d : Place) → ReadsToken (token.Word v) s c d → is_name f (word_text v) ≡ true → NoItemWord c
 name_starts f v s c d r e = let g = word_no_item f v (name_is_free f (word_text v) e) in starts_by c (word_kind v) (token_first (token.Word v) s c d r) g.0 g.1
 
-rule_starts : (n : ℕ) (k : Code) (at : Position) (x : Tree) (c d : Place) → StmtRule (ReadsStmt n) (ReadsClass n) (ReadsPat n) (ReadsTarget n) (ReadsParams n) (ReadsNamedClass n) k at x c d → NoItemWord c
+rule_starts : (n : ℕ) (k : Code) (at : Position) (x : Tree) (c d : Place) → SmallStmtRule (ReadsStmt n) (ReadsClass n) (ReadsPat n) (ReadsTarget n) (ReadsParams n) (ReadsNamedClass n) k at x c d → NoItemWord c
 unfolding same_kind
 rule_starts n k at x c d (class_rule name y a r b e) = starts_by c kind.Class r.0.is_class refl refl
 rule_starts n k at x c d (function_rule a r) = function_starts c r.word r.reads_async r.is_function
@@ -162,7 +164,7 @@ rule_starts n k at x c d (import_rule e m b r g i) = import_starts c b
 
 -- nor does a decorator begin an item of a module alone
 either_starts : (n : ℕ) (k : Code) (at : Position) (x : Tree) (c d : Place)
-    → EitherRule (StmtRule (ReadsStmt n) (ReadsClass n) (ReadsPat n) (ReadsTarget n) (ReadsParams n) (ReadsNamedClass n) k at x c d) (DecoratedRule (ReadsDecorators n) (ReadsDeclared n) k at x c d) → NoItemWord c
+    → EitherRule (SmallStmtRule (ReadsStmt n) (ReadsClass n) (ReadsPat n) (ReadsTarget n) (ReadsParams n) (ReadsNamedClass n) k at x c d) (SmallDecoratedRule (ReadsDecorators n) (ReadsDeclared n) k at x c d) → NoItemWord c
 unfolding same_kind
 either_starts n k at x c d (plain_statement r) = rule_starts n k at x c d r
 either_starts n k at x c d (decorated_statement r) = starts_by c kind.At (decorators_begin n k r.first r.others c r.middle r.reads_decorators) refl refl

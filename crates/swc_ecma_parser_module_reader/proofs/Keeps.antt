@@ -19,8 +19,8 @@ use Rattle.swc_ecma_parser_grammar.specs.Names.{Code, is_name, name_at}
 use Rattle.swc_ecma_parser_grammar.specs.Follows.{word_at, is_let_declaration, is_async_function}
 use Rattle.swc_ecma_parser_grammar.specs.Own.{export_faults}
 use Rattle.swc_ecma_parser_grammar.specs.Parameters as formal
-use Rattle.swc_ecma_parser_grammar.specs.Reads.{with_in, nested_item, top_item}
-use Rattle.swc_ecma_parser_grammar.specs.language.Contexts.{outside_functions, in_parameters}
+use Rattle.swc_ecma_parser_grammar.specs.language.Items.{nested_item, top_item}
+use Rattle.swc_ecma_parser_grammar.specs.language.Contexts.{outside_functions, in_parameters, with_in}
 use Rattle.swc_ecma_parser_grammar.specs.language.Exports.{begin_before}
 use Rattle.swc_ecma_parser_grammar.specs.language.Goals.{assignment, left_side}
 use Rattle.swc_ecma_parser_grammar.specs.language.Imports.{follows_phase}

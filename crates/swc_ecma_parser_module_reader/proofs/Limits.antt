@@ -16,8 +16,8 @@ use Rattle.swc_ecma_parser_grammar.specs.Looks.{kind_at, sees, span_at}
 use Rattle.swc_ecma_parser_grammar.specs.Names.{is_name, name_at}
 use Rattle.swc_ecma_parser_grammar.specs.Follows.{word_at, is_let_declaration, is_async_function}
 use Rattle.swc_ecma_parser_grammar.specs.Own.{export_faults}
-use Rattle.swc_ecma_parser_grammar.specs.Reads.{with_in, nested_item, top_item}
-use Rattle.swc_ecma_parser_grammar.specs.language.Contexts.{outside_functions}
+use Rattle.swc_ecma_parser_grammar.specs.language.Items.{nested_item, top_item}
+use Rattle.swc_ecma_parser_grammar.specs.language.Contexts.{outside_functions, with_in}
 use Rattle.swc_ecma_parser_grammar.specs.language.Exports.{begin_before}
 use Rattle.swc_ecma_parser_grammar.specs.language.Goals.{assignment, left_side}
 use Rattle.swc_ecma_parser_grammar.specs.language.Imports.{follows_phase}

@@ -6,10 +6,10 @@ use Rattle.swc_ecma_parser_model.specs.Kinds.{is_module_decl}
 use Rattle.swc_ecma_parser_input.specs.Place.{Place}
 use Rattle.swc_ecma_parser_model.specs.Tree.{Tree, Text, trees}
 use Rattle.swc_ecma_parser_grammar.specs.Names.{Code}
-use Rattle.swc_ecma_parser_grammar.specs.Reads.{in_strict, directed, directs_on}
 use Rattle.swc_ecma_parser_grammar.specs.Walk as walks
 use Rattle.swc_ecma_parser_grammar.specs.Walk.{Env, env_of, walk, walk_items}
-use Rattle.swc_ecma_parser_grammar.specs.language.Contexts.{in_module}
+use Rattle.swc_ecma_parser_grammar.specs.language.Items.{directed, directs_on}
+use Rattle.swc_ecma_parser_grammar.specs.language.Contexts.{in_module, in_strict}
 use Rattle.swc_ecma_parser_grammar.specs.language.Goals.{Goal}
 use Rattle.swc_ecma_parser_grammar.specs.language.ModuleItems.{ModuleItemsRule, behind_item}
 use Rattle.swc_ecma_parser_module_reader.specs.Modules.{module_code}
@@ -40,15 +40,15 @@ behind_same k m directives x = ap (λ j. behind_item j x) (directed_same k m dir
     by_test false = refl
 
 -- and so does what the walk knows of it
-pub module_env : (k : Code) (labels : List Text) → IsModule k → ◌≡◌ {A = Env} (walks.in_module (env_of k labels)) (env_of k labels)
+pub module_env : (k : Code) (labels : List Text) → IsModule k → ◌≡◌ {A = Env} (walks.env_in_module (env_of k labels)) (env_of k labels)
 module_env k labels (m, s) = λ i. record (env_of k labels) { strict = sym s i }
 
 env_strict : (env : Env) → env.strict ≡ true → (b : Bool) → ◌≡◌ {A = Env} (cond b (record env { strict = true }) env) env
 env_strict env h true = λ i. record env { strict = sym h i }
 env_strict env h false = refl
 
-pub env_same : (env : Env) → env.strict ≡ true → (directives : Bool) (x : Tree) → walks.behind_item (walks.directed env directives x) x ≡ env
-env_same env h directives x = ap (λ v. walks.behind_item v x) (env_strict env h (directives && is_use_strict x)) ∙ env_strict env h (is_module_decl x)
+pub env_same : (env : Env) → env.strict ≡ true → (directives : Bool) (x : Tree) → walks.env_behind_item (walks.env_directed env directives x) x ≡ env
+env_same env h directives x = ap (λ v. walks.env_behind_item v x) (env_strict env h (directives && is_use_strict x)) ∙ env_strict env h (is_module_decl x)
 
 -- ---- in module code it does not matter whether a directive can stand first
 
@@ -91,10 +91,10 @@ declared_code k directives y d = ap (λ b. cond b (in_module (directed k directi
     by_test true = refl
     by_test false = refl
 
-pub declared_env : (env : Env) (directives : Bool) (y : Tree) → is_module_decl y ≡ true → walks.behind_item (walks.directed env directives y) y ≡ walks.in_module env
-declared_env env directives y d = ap (λ b. cond b (walks.in_module (walks.directed env directives y)) (walks.directed env directives y)) d ∙ by_test (directives && is_use_strict y)
+pub declared_env : (env : Env) (directives : Bool) (y : Tree) → is_module_decl y ≡ true → walks.env_behind_item (walks.env_directed env directives y) y ≡ walks.env_in_module env
+declared_env env directives y d = ap (λ b. cond b (walks.env_in_module (walks.env_directed env directives y)) (walks.env_directed env directives y)) d ∙ by_test (directives && is_use_strict y)
   where
-    by_test : (b : Bool) → walks.in_module (cond b (record env { strict = true }) env) ≡ walks.in_module env
+    by_test : (b : Bool) → walks.env_in_module (cond b (record env { strict = true }) env) ≡ walks.env_in_module env
     by_test true = refl
     by_test false = refl
 
@@ -107,12 +107,12 @@ declared_rule In k a b y ys awaits c d e r =
 
 pub declared_walk : (env : Env) (a b : Bool) (y : Tree) (ys : List Tree) → is_module_decl y ≡ true → walk_items env a (trees (y ∷ ys)) ≡ walk_items env b (trees (y ∷ ys))
 declared_walk env a b y ys e = ap (λ v. walk env y ++ walk_items v (directs_on a y) (trees ys)) (declared_env env a y e)
-    ∙ ap (λ v. walk env y ++ v) (undirected_walk (walks.in_module env) refl ys (directs_on a y) (directs_on b y))
+    ∙ ap (λ v. walk env y ++ v) (undirected_walk (walks.env_in_module env) refl ys (directs_on a y) (directs_on b y))
     ∙ ap (λ v. walk env y ++ walk_items v (directs_on b y) (trees ys)) (sym (declared_env env b y e))
 
 -- behind a statement it is what its directive made of it
 pub stated_code : (k : Code) (x : Tree) → is_module_decl x ≡ false → behind_item k x ≡ k
 stated_code k x h = ap (λ b. cond b (in_module k) k) h
 
-pub stated_env : (env : Env) (x : Tree) → is_module_decl x ≡ false → walks.behind_item env x ≡ env
-stated_env env x h = ap (λ b. cond b (walks.in_module env) env) h
+pub stated_env : (env : Env) (x : Tree) → is_module_decl x ≡ false → walks.env_behind_item env x ≡ env
+stated_env env x h = ap (λ b. cond b (walks.env_in_module env) env) h

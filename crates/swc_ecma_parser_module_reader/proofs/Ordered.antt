@@ -11,7 +11,7 @@ use Rattle.swc_ecma_parser_model.specs.Tree as tree
 use Rattle.swc_ecma_parser_model.specs.Tree.{Tree, Trees, none, also, trees}
 use Rattle.swc_ecma_parser_grammar.specs.Looks.{span_at, spanned}
 use Rattle.swc_ecma_parser_grammar.specs.Names.{Code}
-use Rattle.swc_ecma_parser_grammar.specs.Supported.{all_supported}
+use Rattle.swc_ecma_parser_grammar.specs.scaffold.Supported.{all_supported}
 use Rattle.swc_ecma_parser_grammar.specs.language.Classes.{DecoratorRule, decorator_rule, DecoratorsRule, no_decorators, some_decorators}
 use Rattle.swc_ecma_parser_grammar.specs.language.Exports as exports
 use Rattle.swc_ecma_parser_grammar.specs.language.Exports.{all_before, ExportedRule, DefaultRule}

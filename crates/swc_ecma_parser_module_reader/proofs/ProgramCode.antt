@@ -5,7 +5,8 @@ use Rattle.swc_ecma_parser_error.specs.Kind.{Fault}
 use Rattle.swc_ecma_parser_model.specs.Directive.{is_use_strict}
 use Rattle.swc_ecma_parser_model.specs.Tree.{Tree, Text, trees}
 use Rattle.swc_ecma_parser_grammar.specs.Names.{Code}
-use Rattle.swc_ecma_parser_grammar.specs.Reads.{directed, directs_on, in_strict, top_item}
+use Rattle.swc_ecma_parser_grammar.specs.language.Contexts.{in_strict}
+use Rattle.swc_ecma_parser_grammar.specs.language.Items.{directed, directs_on, top_item}
 use Rattle.swc_ecma_parser_reader.specs.Reader.{items, at_end, whole_stmt, shebang}
 use Rattle.swc_ecma_parser_reader.specs.State.{State}
 use Rattle.swc_ecma_parser_reader.proofs.Meets.{Refuses, meant, Meets}

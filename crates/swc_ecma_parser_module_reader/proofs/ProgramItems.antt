@@ -9,13 +9,14 @@ use Rattle.swc_ecma_parser_model.specs.Tree.{Tree, Text, trees}
 use Rattle.swc_ecma_parser_grammar.specs.Looks.{sees}
 use Rattle.swc_ecma_parser_grammar.specs.Names.{Code}
 use Rattle.swc_ecma_parser_grammar.specs.Notes.{notes, all_notes}
-use Rattle.swc_ecma_parser_grammar.specs.Entries.{items_await}
-use Rattle.swc_ecma_parser_grammar.specs.Reads.{in_strict, directed, directs_on, top_item, ReadsItems}
-use Rattle.swc_ecma_parser_grammar.specs.ReadsSupported.{ReadsTop}
+use Rattle.swc_ecma_parser_grammar.specs.scaffold.Entries.{small_items_await}
+use Rattle.swc_ecma_parser_grammar.specs.scaffold.Reads.{ReadsItems}
+use Rattle.swc_ecma_parser_grammar.specs.scaffold.ReadsSupported.{ReadsTop}
 use Rattle.swc_ecma_parser_grammar.specs.Walk as walks
 use Rattle.swc_ecma_parser_grammar.specs.Walk.{walk, env_of, walk_items}
+use Rattle.swc_ecma_parser_grammar.specs.language.Items.{directed, directs_on, top_item}
 use Rattle.swc_ecma_parser_grammar.specs.language.Classes.{no_decorators, some_decorators}
-use Rattle.swc_ecma_parser_grammar.specs.language.Contexts.{in_module}
+use Rattle.swc_ecma_parser_grammar.specs.language.Contexts.{in_module, in_strict}
 use Rattle.swc_ecma_parser_grammar.specs.language.Exports as exports
 use Rattle.swc_ecma_parser_grammar.specs.language.Exports.{ExportFrontRule, ExportRule, may_begin_default}
 use Rattle.swc_ecma_parser_grammar.specs.language.Goals.{Goal, item_goal}
@@ -56,7 +57,7 @@ plainly_leads (y ∷ ys) l = l.0
 -- ---- the walk
 
 -- what the walk knows of the code behind a directive
-directed_env : (k : Code) (labels : List Text) (directives : Bool) (x : Tree) → env_of (directed k directives x) labels ≡ walks.directed (env_of k labels) directives x
+directed_env : (k : Code) (labels : List Text) (directives : Bool) (x : Tree) → env_of (directed k directives x) labels ≡ walks.env_directed (env_of k labels) directives x
 directed_env k labels directives x = by_test (directives && is_use_strict x)
   where
     by_test : (b : Bool) → env_of (cond b (in_strict k) k) labels ≡ cond b (record (env_of k labels) { strict = true }) (env_of k labels)
@@ -68,7 +69,7 @@ around_walk k labels [] l = refl
 around_walk k labels (y ∷ ys) (d, w) =
     let env = env_of k labels in
     let strict = env_of (module_code k) labels in
-    ap (λ z. z ++ walk_items (walks.behind_item (walks.directed strict true y) y) (directs_on true y) (trees ys)) (w env)
+    ap (λ z. z ++ walk_items (walks.env_behind_item (walks.env_directed strict true y) y) (directs_on true y) (trees ys)) (w env)
     ∙ ap (λ v. walk env y ++ walk_items v (directs_on true y) (trees ys)) (declared_env strict true y d ∙ sym (declared_env env true y d))
 
 pub walk_joined : (k : Code) (labels : List Text) (directives : Bool) (xs ys : List Tree) → any_module_decl (trees xs) ≡ false → Leads ys
@@ -80,10 +81,10 @@ walk_joined k labels directives (x ∷ xs) ys h l =
     let env = env_of k labels in
     let b : Bool = directs_on directives x in
     let last = walk_items (env_of (code_after (directed k directives x) b xs) labels) true (trees ys) in
-    append_assoc (walk env x) (walks.walks (walks.directed env directives x) b (trees xs)) last
+    append_assoc (walk env x) (walks.walks (walks.env_directed env directives x) b (trees xs)) last
     ∙ ap (λ z. walk env x ++ z) (subst (λ v. walks.walks v b (trees xs) ++ last ≡ walk_items v b (trees (xs ++ ys))) (directed_env k labels directives x)
     (walk_joined (directed k directives x) labels b xs ys g.1 l))
-    ∙ ap (λ v. walk env x ++ walk_items v b (trees (xs ++ ys))) (sym (stated_env (walks.directed env directives x) x g.0))
+    ∙ ap (λ v. walk env x ++ walk_items v b (trees (xs ++ ys))) (sym (stated_env (walks.env_directed env directives x) x g.0))
 
 -- ---- in module code the statements of a script note nothing
 
@@ -136,7 +137,7 @@ around_rule n k (y ∷ ys) b c d (y_is, w) h o (i, others, q, qs, f) =
     )
 
 pub items_joined : (n : ℕ) (k : Code) (directives : Bool) (xs ys : List Tree) (a b : Bool) (c m d : Place) (r : ReadsItems (Top n) k directives xs c m)
-    → a ≡ items_await (Top n) k directives xs c m r
+    → a ≡ small_items_await (Top n) k directives xs c m r
     → ModuleItemsRule (Reads n) (code_after k directives xs) true ys b m d → Leads ys
     → ModuleItemsRule (Reads n) k directives (xs ++ ys) (a || b) c d
 items_joined n k directives [] [] a b c m d r e (i, f) l = (i ∙ r, ap (λ z. z || b) e ∙ f)
@@ -151,7 +152,7 @@ items_joined n k directives (x ∷ xs) ys a b c m d (i, q, more) e p l =
     let w = statement_widens n k top_item x c i q in
     let x_is = no_module_decl x w.1 in
     let j = directed k directives x in
-    let others = items_await (Top n) j (directs_on directives x) xs i m more in (
+    let others = small_items_await (Top n) j (directs_on directives x) xs i m more in (
       i,
       others || b,
       stmt_item n k x c i w.0.0,

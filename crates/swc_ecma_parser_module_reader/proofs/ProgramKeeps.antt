@@ -6,7 +6,7 @@ use Rattle.swc_ecma_parser_error.specs.declared.error.Error.{Error}
 use Rattle.swc_ecma_parser_error.specs.Kind.{Fault, fault_of}
 use Rattle.swc_ecma_parser_input.specs.Place.{Place}
 use Rattle.swc_ecma_parser_model.specs.Tree.{Tree, Text}
-use Rattle.swc_ecma_parser_grammar.specs.Reads.{top_item}
+use Rattle.swc_ecma_parser_grammar.specs.language.Items.{top_item}
 use Rattle.swc_ecma_parser_reader.specs.Reader.{at_end, whole_stmt, shebang, directs, items_turn}
 use Rattle.swc_ecma_parser_reader.specs.State.{State, Outcome, Reader, says_out_of_memory, coded}
 use Rattle.swc_ecma_parser_reader.specs.Entry.{unmarked, IsBehind, Stays}

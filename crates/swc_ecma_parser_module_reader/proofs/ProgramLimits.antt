@@ -5,7 +5,7 @@ use Rattle.swc_ecma_parser_error.specs.Kind as faults
 use Rattle.swc_ecma_parser_error.specs.Kind.{Fault}
 use Rattle.swc_ecma_parser_input.specs.Place.{Place}
 use Rattle.swc_ecma_parser_model.specs.Tree.{Tree, Text}
-use Rattle.swc_ecma_parser_grammar.specs.Reads.{top_item}
+use Rattle.swc_ecma_parser_grammar.specs.language.Items.{top_item}
 use Rattle.swc_ecma_parser_reader.specs.Reader.{at_end, items_turn, items, shebang}
 use Rattle.swc_ecma_parser_reader.specs.State.{State, coded, loop}
 use Rattle.swc_ecma_parser_reader.specs.Limits.{has_too_deep_token}

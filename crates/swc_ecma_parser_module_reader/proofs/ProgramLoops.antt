@@ -8,7 +8,7 @@ use Rattle.swc_ecma_parser_model.specs.Tree.{Tree, Text, listed}
 use Rattle.swc_ecma_parser_grammar.specs.Looks.{spanned}
 use Rattle.swc_ecma_parser_grammar.specs.Names.{Code}
 use Rattle.swc_ecma_parser_grammar.specs.Notes.{as_note}
-use Rattle.swc_ecma_parser_grammar.specs.Reads.{directed, top_item}
+use Rattle.swc_ecma_parser_grammar.specs.language.Items.{directed, top_item}
 use Rattle.swc_ecma_parser_grammar.specs.language.Programs.{program, code_behind}
 use Rattle.swc_ecma_parser_reader.specs.Reader.{at_end, directs, whole_stmt, shebang, plain_stmt}
 use Rattle.swc_ecma_parser_reader.specs.State.{State, Outcome, coded, flagged, loop, and_then, too_deep}

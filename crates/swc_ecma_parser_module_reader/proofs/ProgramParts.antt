@@ -10,16 +10,17 @@ use Rattle.swc_ecma_parser_model.specs.Forms.{has_plain_params}
 use Rattle.swc_ecma_parser_model.specs.Kinds.{is_module_decl}
 use Rattle.swc_ecma_parser_model.specs.Tree as tree
 use Rattle.swc_ecma_parser_model.specs.Tree.{Tree, Text, trees}
-use Rattle.swc_ecma_parser_grammar.specs.Entries.{items_await}
+use Rattle.swc_ecma_parser_grammar.specs.scaffold.Entries.{small_items_await}
 use Rattle.swc_ecma_parser_grammar.specs.Looks.{kind_at, sees, same_kind, span_at, spanned}
 use Rattle.swc_ecma_parser_grammar.specs.Names.{Code}
 use Rattle.swc_ecma_parser_grammar.specs.Notes.{notes, all_notes}
 use Rattle.swc_ecma_parser_grammar.specs.Own.{misplaced_directive}
-use Rattle.swc_ecma_parser_grammar.specs.Reads.{top_item, directed, directs_on, ReadsItems}
-use Rattle.swc_ecma_parser_grammar.specs.ReadsSupported.{ReadsTop}
-use Rattle.swc_ecma_parser_grammar.specs.Supported.{supported, all_supported}
+use Rattle.swc_ecma_parser_grammar.specs.scaffold.Reads.{ReadsItems}
+use Rattle.swc_ecma_parser_grammar.specs.scaffold.ReadsSupported.{ReadsTop}
+use Rattle.swc_ecma_parser_grammar.specs.scaffold.Supported.{supported, all_supported}
 use Rattle.swc_ecma_parser_grammar.specs.Walk as walks_of
 use Rattle.swc_ecma_parser_grammar.specs.Walk.{Env, env_of, walk, walks, walk_items, walk_body, walk_class_body, walk_decorators}
+use Rattle.swc_ecma_parser_grammar.specs.language.Items.{top_item, directed, directs_on}
 use Rattle.swc_ecma_parser_grammar.specs.language.Classes.{no_decorators, some_decorators}
 use Rattle.swc_ecma_parser_grammar.specs.language.Contexts.{in_module}
 use Rattle.swc_ecma_parser_grammar.specs.language.Exports as exports
@@ -52,32 +53,32 @@ use Rattle.swc_ecma_parser_module_reader.proofs.Ordered.{InOrder, supported_behi
 
 -- ---- an import or an export is the same in module code
 
-decorators_alike : (env : Env) (s : Span) (ds : Tree) → supported_behind s ds ≡ true → walk_decorators (walks_of.in_module env) s ds ≡ walk_decorators env s ds
-decorators_alike env s (tree.list ds) h = let g = (and_yes (all_supported ds) _ h).1 in walked_behind (walks_of.in_module env) s ds g ∙ sym (walked_behind env s ds g)
+decorators_alike : (env : Env) (s : Span) (ds : Tree) → supported_behind s ds ≡ true → walk_decorators (walks_of.env_in_module env) s ds ≡ walk_decorators env s ds
+decorators_alike env s (tree.list ds) h = let g = (and_yes (all_supported ds) _ h).1 in walked_behind (walks_of.env_in_module env) s ds g ∙ sym (walked_behind env s ds g)
 decorators_alike env s _ h = absurd (true≢false (sym h))
 
 -- the walk has no other code for an export in module code, nor for the decorators behind its words
 class_same : (env : Env) (x y z name ds body base : Tree) (s t : Span)
-    → x ≡ tree.export_decl s y → y ≡ tree.class_decl name z → z ≡ tree.class t ds body base → supported_behind s ds ≡ true → walk (walks_of.in_module env) x ≡ walk env x
+    → x ≡ tree.export_decl s y → y ≡ tree.class_decl name z → z ≡ tree.class t ds body base → supported_behind s ds ≡ true → walk (walks_of.env_in_module env) x ≡ walk env x
 class_same env x y z name ds body base s t e i j h =
-    rw (e, i, j) (ap (λ v. v ++ walk (walks_of.in_class env) base ++ walk_class_body (walks_of.in_class env) body) (decorators_alike env s ds h))
+    rw (e, i, j) (ap (λ v. v ++ walk (walks_of.env_in_class env) base ++ walk_class_body (walks_of.env_in_class env) body) (decorators_alike env s ds h))
 
 function_same : (env : Env) (x y z name ds params body : Tree) (s t : Span) (a g : Bool)
-    → x ≡ tree.export_decl s y → y ≡ tree.fn_decl name z → z ≡ tree.function t ds params body a g → supported_behind s ds ≡ true → walk (walks_of.in_module env) x ≡ walk env x
+    → x ≡ tree.export_decl s y → y ≡ tree.fn_decl name z → z ≡ tree.function t ds params body a g → supported_behind s ds ≡ true → walk (walks_of.env_in_module env) x ≡ walk env x
 function_same env x y z name ds params body s t a g e i j h =
-    let m = walks_of.in_module env in
-    rw (e, i, j) (ap (λ v. v ++ walk (walks_of.in_params m) params ++ walk_body (walks_of.in_body m) body ++ misplaced_directive (has_plain_params params) body) (decorators_alike env s ds h))
+    let m = walks_of.env_in_module env in
+    rw (e, i, j) (ap (λ v. v ++ walk (walks_of.env_in_parameters m) params ++ walk_body (walks_of.env_in_body m) body ++ misplaced_directive (has_plain_params params) body) (decorators_alike env s ds h))
 
 class_default_same : (env : Env) (x y z name ds body base : Tree) (s r t : Span)
-    → x ≡ tree.export_default_decl s y → y ≡ tree.class_expr r name z → z ≡ tree.class t ds body base → supported_behind s ds ≡ true → walk (walks_of.in_module env) x ≡ walk env x
+    → x ≡ tree.export_default_decl s y → y ≡ tree.class_expr r name z → z ≡ tree.class t ds body base → supported_behind s ds ≡ true → walk (walks_of.env_in_module env) x ≡ walk env x
 class_default_same env x y z name ds body base s r t e i j h =
-    rw (e, i, j) (ap (λ v. v ++ walk (walks_of.in_class env) base ++ walk_class_body (walks_of.in_class env) body) (decorators_alike env s ds h))
+    rw (e, i, j) (ap (λ v. v ++ walk (walks_of.env_in_class env) base ++ walk_class_body (walks_of.env_in_class env) body) (decorators_alike env s ds h))
 
 function_default_same : (env : Env) (x y z name ds params body : Tree) (s r t : Span) (a g : Bool)
-    → x ≡ tree.export_default_decl s y → y ≡ tree.fn_expr r name z → z ≡ tree.function t ds params body a g → supported_behind s ds ≡ true → walk (walks_of.in_module env) x ≡ walk env x
+    → x ≡ tree.export_default_decl s y → y ≡ tree.fn_expr r name z → z ≡ tree.function t ds params body a g → supported_behind s ds ≡ true → walk (walks_of.env_in_module env) x ≡ walk env x
 function_default_same env x y z name ds params body s r t a g e i j h =
-    let m = walks_of.in_module env in
-    rw (e, i, j) (ap (λ v. v ++ walk (walks_of.in_params m) params ++ walk_body (walks_of.in_body m) body ++ misplaced_directive (has_plain_params params) body) (decorators_alike env s ds h))
+    let m = walks_of.env_in_module env in
+    rw (e, i, j) (ap (λ v. v ++ walk (walks_of.env_in_parameters m) params ++ walk_body (walks_of.env_in_body m) body ++ misplaced_directive (has_plain_params params) body) (decorators_alike env s ds h))
 
 module _ (In : Goal → Type 0) where
   front_module : (k : Code) (b : Bool) (ds : Tree) (c m n : Place) → ExportFrontRule In k b ds c m n → sees kind.At c ≡ false → ExportFrontRule In (in_module k) b ds c m n
@@ -100,22 +101,22 @@ module _ (In : Goal → Type 0) where
       behind_only In (in_module k) (spanned m d) ds c i n (is_led x) r s l o (λ h. words_step m i w (subst (λ p. InOrder p.left) (sym e) h))
 
   exported_walk : (env : Env) (s : Span) (k : Code) (ds x y : Tree) (c d : Place) → ExportedRule In k ds y c d → x ≡ tree.export_decl s y → supported_behind s ds ≡ true
-      → walk (walks_of.in_module env) x ≡ walk env x
+      → walk (walks_of.env_in_module env) x ≡ walk env x
   exported_walk env s k ds x y c d (exports.exported_class name z r a e) is h = class_same env x y z name ds _ _ _ _ is e r.is h
   exported_walk env s k ds x y c d (exports.exported_function name z r a e) is h = function_same env x y z name ds _ _ _ _ _ _ is e r.is h
   exported_walk env s k ds x y c d (exports.exported_variables v xs m e r g i) is h = rw (is, i) refl
 
   default_walk : (env : Env) (s : Span) (k : Code) (ds x y : Tree) (c d : Place) → DefaultRule In k ds y c d → x ≡ tree.export_default_decl s y → supported_behind s ds ≡ true
-      → walk (walks_of.in_module env) x ≡ walk env x
+      → walk (walks_of.env_in_module env) x ≡ walk env x
   default_walk env s k ds x y c d (exports.default_class name z r e) is h = class_default_same env x y z name ds _ _ _ _ _ is e r.is h
   default_walk env s k ds x y c d (exports.default_function name z r e) is h = function_default_same env x y z name ds _ _ _ _ _ _ _ is e r.is h
 
   -- an import is module code whatever stands around it
-  pub import_walk : (env : Env) (k : Code) (x : Tree) (c d : Place) → ImportRule In k x c d → walk (walks_of.in_module env) x ≡ walk env x
+  pub import_walk : (env : Env) (k : Code) (x : Tree) (c d : Place) → ImportRule In k x c d → walk (walks_of.env_in_module env) x ≡ walk env x
   import_walk env k x c d (imports.bare_import_rule src attributes m i e r t g is) = rw is refl
   import_walk env k x c d (imports.import_rule p xs src attributes i l m j e q r t u g is) = rw is refl
 
-  pub export_walk : (env : Env) (k : Code) (x : Tree) (c d : Place) → ExportRule In k x c d → sees kind.At c ≡ false → supported_item x ≡ true → OrderedFor (is_led x) c → walk (walks_of.in_module env) x ≡ walk env x
+  pub export_walk : (env : Env) (k : Code) (x : Tree) (c d : Place) → ExportRule In k x c d → sees kind.At c ≡ false → supported_item x ≡ true → OrderedFor (is_led x) c → walk (walks_of.env_in_module env) x ≡ walk env x
   export_walk env k x c d (exports.export_declaration_rule ds y m n f r is) off h o =
       exported_walk env (spanned m d) (in_module k) ds x y n d r is
       (front_behind k false ds x c m n d f off (exported_behind (in_module k) ds x y (spanned m d) n d r is h) (led_exported (in_module k) ds x y (spanned m d) n d r is) o)
@@ -144,7 +145,7 @@ item_module (suc n) k y c d e off (import_item_rule r) = import_item_rule r
 item_module (suc n) k y c d e off (export_item_rule r) = export_item_rule (export_module (Reads n) k y c d r off)
 
 pub item_same_walk : (n : ℕ) (env : Env) (k : Code) (y : Tree) (c d : Place) → is_module_decl y ≡ true → sees kind.At c ≡ false → supported_item y ≡ true → OrderedFor (is_led y) c → Reads n (item_goal k y c d)
-    → walk (walks_of.in_module env) y ≡ walk env y
+    → walk (walks_of.env_in_module env) y ≡ walk env y
 item_same_walk zero env k y c d e off s o r = absurd r
 item_same_walk (suc n) env k y c d e off s o (statement_rule r) = absurd (true≢false (sym e ∙ statement_told (Reads n) k top_item y c d r.1))
 item_same_walk (suc n) env k y c d e off s o (import_item_rule r) = import_walk (Reads n) env (in_module k) y c d r
@@ -200,7 +201,7 @@ pub record Parts (n : ℕ) (k : Code) (b : Bool) (xs : List Tree) (awaits : Bool
   pub middle : Place
   pub others : Bool
   pub reads_before : ReadsItems (Item n) k b before c middle
-  pub awaited : awaits ≡ (items_await (Item n) k b before c middle reads_before || others)
+  pub awaited : awaits ≡ (small_items_await (Item n) k b before c middle reads_before || others)
   -- in the code around
   pub reads_behind : ModuleItemsRule (Reads n) (code_behind k b before) true behind others middle d
   pub plain : list_any is_module_decl before ≡ false
@@ -250,7 +251,7 @@ module _ (n : ℕ) where
     reads_behind = p.reads_behind;
     plain = ap (λ v. v || list_any is_module_decl p.before) e ∙ p.plain;
     begins = p.begins;
-    walked = λ l. ap (λ v. walk (env_of k l) x ++ walk_items v (directs_on b x) (trees xs)) (stated_env (walks_of.directed (env_of k l) b x) x e ∙ sym (directed_walk k b x l))
+    walked = λ l. ap (λ v. walk (env_of k l) x ++ walk_items v (directs_on b x) (trees xs)) (stated_env (walks_of.env_directed (env_of k l) b x) x e ∙ sym (directed_walk k b x l))
         ∙ ap (λ v. walk (env_of k l) x ++ v) (p.walked l)
         ∙ ap (λ v. walk (env_of k l) x ++ (walks v (directs_on b x) (trees p.before) ++ walk_items (env_of (code_behind (directed k b x) (directs_on b x) p.before) l) true (trees p.behind))) (directed_walk k b x l)
         ∙ sym (append_assoc (walk (env_of k l) x) _ _);

@@ -20,7 +20,7 @@ use Rattle.swc_ecma_parser_module_reader.specs.Modules.{begins_import}
 use Rattle.swc_ecma_parser_module_reader.specs.Programs.{begins_module, before_module, program_body, program_whole, front, front_turn}
 use Rattle.swc_ecma_parser_module_reader.proofs.Refusals.{before, set_to}
 use Rattle.swc_ecma_parser_module_reader.specs.Decorated.{begins_decorators}
-use Rattle.swc_ecma_parser_grammar.specs.Using.{is_await_using_declaration}
+use Rattle.swc_ecma_parser_grammar.specs.scaffold.Using.{is_await_using_declaration}
 
 -- nothing but the fault is answered, in however many levels
 refused_by : (n : ℕ) (b : Bool) (recorded : List Fault) (s : State) (t : TokenAndSpan) (e : Error) (ts : List TokenAndSpan)

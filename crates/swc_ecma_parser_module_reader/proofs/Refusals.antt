@@ -19,7 +19,7 @@ use Rattle.swc_ecma_parser_reader.specs.Words.{begins_async_call}
 use Rattle.swc_ecma_parser_reader.specs.Reader.{other_stmt, begins_label, expr, at_end, items_turn, items, expr_stmt, expr_stmt_at, stmt_level, stmt, top_await, whole_stmt, shebang, await_using_or}
 use Rattle.swc_ecma_parser_module_reader.specs.Modules.{begins_import, module_item, module_body, module_whole}
 use Rattle.swc_ecma_parser_module_reader.specs.Decorated.{begins_decorators}
-use Rattle.swc_ecma_parser_grammar.specs.Using.{is_await_using_declaration}
+use Rattle.swc_ecma_parser_grammar.specs.scaffold.Using.{is_await_using_declaration}
 
 -- a state with this token in first place
 abbrev pub before : State → TokenAndSpan → Token → List TokenAndSpan → State

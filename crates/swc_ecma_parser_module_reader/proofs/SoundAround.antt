@@ -116,7 +116,7 @@ module _ (n : ℕ) (m u : State) (v : Leading) (l : SoundLeading n m v u) (may :
     env = env_of m.code m.scope.labels
 
     -- the walk of the items behind it
-    rest_walk : walk_items (env_of i.code i.scope.labels) true (trees zs) ≡ walk_items (walks.behind_item (walks.directed env true x) x) (directs_on true x) (trees zs)
+    rest_walk : walk_items (env_of i.code i.scope.labels) true (trees zs) ≡ walk_items (walks.env_behind_item (walks.env_directed env true x) x) (directs_on true x) (trees zs)
     rest_walk = undirected_walk (env_of i.code i.scope.labels) is_inner.1 zs true (directs_on true x)
         ∙ ap (λ z. walk_items z (directs_on true x) (trees zs)) ((λ j. env_of (inner j) (p.scope j).labels) ∙ sym (declared_env env true x p.declared))
 
@@ -158,7 +158,7 @@ module _ (n : ℕ) (m u : State) (v : Leading) (l : SoundLeading n m v u) (may :
           let c = same-between (error_tokens m.at.left) (error_tokens i.at.left) (error_tokens t.at.left) p.fewer q.fewer g in
           ap tabled (sym (append_assoc l.reads.added p.behind q.added)) ∙ tabled-append (l.reads.added ++ p.behind) q.added ∙ ap (λ z. z ++ tabled q.added) (p.walked c.0 a.0)
           ∙ ap (λ z. walk env x ++ z) (q.walked c.1 a.1 ∙ rest_walk);
-      clean = λ g. let a = split g in ap (λ z. z ++ walk_items (walks.behind_item (walks.directed env true x) x) (directs_on true x) (trees zs)) (p.clean a.0) ∙ sym rest_walk ∙ q.clean a.1;
+      clean = λ g. let a = split g in ap (λ z. z ++ walk_items (walks.env_behind_item (walks.env_directed env true x) x) (directs_on true x) (trees zs)) (p.clean a.0) ∙ sym rest_walk ∙ q.clean a.1;
       fewer = fewer-then (error_tokens m.at.left) (error_tokens i.at.left) (error_tokens t.at.left) p.fewer q.fewer;
       remembers = λ h. p.remembers (q.remembers h);
       found = q.found ∙ ap (λ z. z || (any_has_meta (trees zs) || b)) p.found ∙ or_third m.notes.found_module_item (has_meta x) (any_has_meta (trees zs)) b;

@@ -182,10 +182,10 @@ named_notes : (span : Span) (xs src given : Tree) → notes_of xs ≡ no_notes �
 named_notes span xs src given h g = sym (ap (λ z. (z ⊕ notes_of src) ⊕ notes_of given) h ∙ ap (λ z. (no_notes ⊕ z) ⊕ notes_of given) g)
 
 -- and its faults, with those of the names behind them
-named_walk : (env : Env) (span : Span) (xs src given : Tree) → walk (walks.in_module env) xs ≡ [] → walk (walks.in_module env) src ≡ []
-    → walk (walks.in_module env) given ++ export_faults src xs ≡ walk env (tree.export_named span xs src given)
-named_walk env span xs src given h g = let inner = walk (walks.in_module env) given in
-    sym (ap (λ z. ((z ++ walk (walks.in_module env) src) ++ inner) ++ export_faults src xs) h ∙ ap (λ z. (z ++ inner) ++ export_faults src xs) g)
+named_walk : (env : Env) (span : Span) (xs src given : Tree) → walk (walks.env_in_module env) xs ≡ [] → walk (walks.env_in_module env) src ≡ []
+    → walk (walks.env_in_module env) given ++ export_faults src xs ≡ walk env (tree.export_named span xs src given)
+named_walk env span xs src given h g = let inner = walk (walks.env_in_module env) given in
+    sym (ap (λ z. ((z ++ walk (walks.env_in_module env) src) ++ inner) ++ export_faults src xs) h ∙ ap (λ z. (z ++ inner) ++ export_faults src xs) g)
 
 -- what stands behind the word
 abbrev Clause : Bool → List Tree → Code → Place → Place → Type 0
@@ -226,7 +226,7 @@ module _ (n : ℕ) (s : State) (o : IsModule s.code) (start : Span) where
   From R k c d = (kind_at c ≡ kind.Export) × (start ≡ span_at c) × R k (after c) d
 
   -- attributes are walked as module code
-  given_walk : (given : Tree) → walk (env_of s.code s.scope.labels) given ≡ walk (walks.in_module (env_of s.code s.scope.labels)) given
+  given_walk : (given : Tree) → walk (env_of s.code s.scope.labels) given ≡ walk (walks.env_in_module (env_of s.code s.scope.labels)) given
   given_walk given = sym (ap (λ z. walk z given) (module_env s.code s.scope.labels o))
 
   names_from_sound : (b : Bool) (xs : List Tree) (m : State) → SoundStep (From (Clause b xs)) s m → AreLeaves xs → Meets (SoundExport n s) (names_from (object_alone n) start xs m)
@@ -236,8 +236,8 @@ module _ (n : ℕ) (s : State) (o : IsModule s.code) (start : Span) where
       meets_then _ (end faults.Expected v) _ (end_sound faults.Expected v) (λ _ t z.
       let span : Span = record { lo = start.lo; hi = t.at.last.hi } in
       let env : Env = env_of s.code s.scope.labels in (
-        sound_as s t refl (given_walk given ∙ sym (ap (λ w. walk (walks.in_module env) given ++ w) (f (listed xs)) ∙ append-nil (walk (walks.in_module env) given))
-            ∙ named_walk env span (listed xs) x given (l.empty (walks.in_module env)) (h.empty (walks.in_module env))) (named_notes span (listed xs) x given l.unnoted h.unnoted)
+        sound_as s t refl (given_walk given ∙ sym (ap (λ w. walk (walks.env_in_module env) given ++ w) (f (listed xs)) ∙ append-nil (walk (walks.env_in_module env) given))
+            ∙ named_walk env span (listed xs) x given (l.empty (walks.env_in_module env)) (h.empty (walks.env_in_module env))) (named_notes span (listed xs) x given l.unnoted h.unnoted)
             (λ (i, (j, (y, a, c), (d, w)), g). (
               export_from_rule b xs x given y j i a.0 a.2 c (subst (λ k. AttributesRule (Reads n) k given j i) (sym (in_module_same s.code o)) d) g
                   (ap (λ k. tree.export_named (record { lo = k.lo; hi = t.at.last.hi }) (listed xs) x given) a.1),
@@ -254,7 +254,7 @@ module _ (n : ℕ) (s : State) (o : IsModule s.code) (start : Span) where
       meets_then _ (end faults.Expected u) _ (end_sound faults.Expected u) (λ _ t z.
       let span : Span = record { lo = start.lo; hi = t.at.last.hi } in
       let env : Env = env_of s.code s.scope.labels in (
-        sound_as s t refl (named_walk env span (listed xs) tree.absent tree.absent (l.empty (walks.in_module env)) refl) (named_notes span (listed xs) tree.absent tree.absent l.unnoted refl)
+        sound_as s t refl (named_walk env span (listed xs) tree.absent tree.absent (l.empty (walks.env_in_module env)) refl) (named_notes span (listed xs) tree.absent tree.absent l.unnoted refl)
             (λ ((a, b), c). (
               export_names_rule xs m.at a.0 a.2 h (subst (λ w. Ends w t.at) b c)
                   (ap (λ k. tree.export_named (record { lo = k.lo; hi = t.at.last.hi }) (listed xs) tree.absent tree.absent) a.1),
@@ -300,7 +300,7 @@ module _ (n : ℕ) (s : State) (o : IsModule s.code) (start : Span) where
         meets_then _ (attributes (object_alone n) v) _ (attributes_sound (Reads n) (object_alone n) (object_sound n) v) (λ given j r.
         meets_then _ (end faults.Expected j) _ (end_sound faults.Expected j) (λ _ t z.
         let env : Env = env_of s.code s.scope.labels in (
-          sound_as s t refl (given_walk given ∙ sym (ap (λ w. w ++ walk (walks.in_module env) given) (h.empty (walks.in_module env)))) (sym (ap (λ w. w ⊕ notes_of given) h.unnoted))
+          sound_as s t refl (given_walk given ∙ sym (ap (λ w. w ++ walk (walks.env_in_module env) given) (h.empty (walks.env_in_module env)))) (sym (ap (λ w. w ⊕ notes_of given) h.unnoted))
               (λ (a, (i, (l, b, (d, y)), g)). (
                 export_all_rule x given l i a.0 (subst (λ z. kind_at z ≡ kind.Mul) a.2 f) (subst (λ z. FromRule x (after z) l) a.2 b)
                     (subst (λ k. AttributesRule (Reads n) k given l i) (sym (in_module_same s.code o)) d) g (ap (λ k. tree.export_all (record { lo = k.lo; hi = t.at.last.hi }) x given) a.1),

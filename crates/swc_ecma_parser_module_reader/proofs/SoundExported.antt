@@ -24,14 +24,16 @@ use Rattle.swc_ecma_parser_grammar.specs.Follows.{is_async_function}
 use Rattle.swc_ecma_parser_grammar.specs.Variables.{begins_variables}
 use Rattle.swc_ecma_parser_grammar.specs.Notes.{notes}
 use Rattle.swc_ecma_parser_grammar.specs.Parameters.{parameters}
-use Rattle.swc_ecma_parser_grammar.specs.Supported.{supported, supported_in, all_supported}
-use Rattle.swc_ecma_parser_grammar.specs.Reads.{with_in, nested_item, DeclaratorRule, plain_rule, initialized_rule, ReadsSeparated, ReadsFunction, ReadsFunctionExpr, OwnNameRule, no_own_name_rule, own_name_rule, variables_rule, function_rule, class_rule}
-use Rattle.swc_ecma_parser_grammar.specs.Decorated.{plain_statement}
-use Rattle.swc_ecma_parser_grammar.specs.ReadsSupported.{ReadsClass, ReadsPat, ReadsStmt, ReadsParams, ReadsNamedClass}
+use Rattle.swc_ecma_parser_grammar.specs.scaffold.Supported.{supported, supported_in, all_supported}
+use Rattle.swc_ecma_parser_grammar.specs.scaffold.Reads.{SmallDeclaratorRule, plain_rule, initialized_rule, ReadsFunction, ReadsFunctionExpr, OwnNameRule, no_own_name_rule, own_name_rule, variables_rule, function_rule, class_rule}
+use Rattle.swc_ecma_parser_grammar.specs.scaffold.Decorated.{plain_statement}
+use Rattle.swc_ecma_parser_grammar.specs.scaffold.ReadsSupported.{ReadsClass, ReadsPat, ReadsStmt, ReadsParams, ReadsNamedClass}
 use Rattle.swc_ecma_parser_grammar.specs.Walk as walks
 use Rattle.swc_ecma_parser_grammar.specs.Walk.{Env, walk, env_of}
+use Rattle.swc_ecma_parser_grammar.specs.language.Lists.{ReadsSeparated}
+use Rattle.swc_ecma_parser_grammar.specs.language.Items.{nested_item}
 use Rattle.swc_ecma_parser_grammar.specs.language.Goals.{Goal, expression, assignment, left_side}
-use Rattle.swc_ecma_parser_grammar.specs.language.Contexts.{named_by, in_parameters, in_class}
+use Rattle.swc_ecma_parser_grammar.specs.language.Contexts.{named_by, in_parameters, in_class, with_in}
 use Rattle.swc_ecma_parser_grammar.specs.language.Classes.{ClassRule}
 use Rattle.swc_ecma_parser_grammar.specs.language.Declarations as declarations
 use Rattle.swc_ecma_parser_grammar.specs.language.Parts as parts
@@ -84,7 +86,7 @@ SoundExport n s x t = Sound same (λ k l. walk (env_of k l) x) (notes_of x) (Exp
 
 -- no decorators stand before what is exported
 abbrev IsPlain : Tree → Type 0
-IsPlain x = (env : Env) (s : Span) → walks.walk_exported env s (walk (walks.in_module env) x) x ≡ walk (walks.in_module env) x
+IsPlain x = (env : Env) (s : Span) → walks.walk_exported env s (walk (walks.env_in_module env) x) x ≡ walk (walks.env_in_module env) x
 
 -- variables that are exported, in the code of the export
 abbrev VariablesRead : ℕ → Tree → Code → Place → Place → Type 0
@@ -113,19 +115,19 @@ SoundDefault n s x t = Sound same (λ k l. walk (env_of k l) x) (notes_of x) (De
 
 -- ---- variables
 
-declarator_widens : (n : ℕ) (k : Code) (loop : Bool) (word : VarDeclKind) (x : Tree) (c d : Place) → DeclaratorRule (ReadsClass n assignment) (ReadsPat n) k loop word x c d
+declarator_widens : (n : ℕ) (k : Code) (loop : Bool) (word : VarDeclKind) (x : Tree) (c d : Place) → SmallDeclaratorRule (ReadsClass n assignment) (ReadsPat n) k loop word x c d
     → declarations.DeclaratorRule (Reads n) k loop word x c d
 declarator_widens n k loop word x c d (plain_rule p r h b e) = declarations.plain_rule p r.0 h b e
 declarator_widens n k loop word x c d (initialized_rule p y m r h s e) = declarations.initialized_rule p y m r.0 h s.0 e
 
 declarators_widen : (n : ℕ) (k : Code) (loop : Bool) (word : VarDeclKind) (xs : List Tree) (c d : Place)
-    → ReadsSeparated (DeclaratorRule (ReadsClass n assignment) (ReadsPat n) k loop word) xs c d → ReadsSeparated (declarations.DeclaratorRule (Reads n) k loop word) xs c d
+    → ReadsSeparated (SmallDeclaratorRule (ReadsClass n assignment) (ReadsPat n) k loop word) xs c d → ReadsSeparated (declarations.DeclaratorRule (Reads n) k loop word) xs c d
 declarators_widen n k loop word [] c d h = h
 declarators_widen n k loop word (x ∷ []) c d (r, e) = (declarator_widens n k loop word x c d r, e)
 declarators_widen n k loop word (x ∷ y ∷ ys) c d (m, r, e, rs) = (m, declarator_widens n k loop word x c m r, e, declarators_widen n k loop word (y ∷ ys) (after m) d rs)
 
 variables_read : (n : ℕ) (word : VarDeclKind) (k : Code) (x : Tree) (xs : List Tree) (c m d : Place) → begins_variables word c ≡ true
-    → ReadsSeparated (DeclaratorRule (ReadsClass n assignment) (ReadsPat n) (with_in k) false word) xs (after c) m → Ends m d → x ≡ tree.var (spanned c d) word (listed xs) → VariablesRead n x k c d
+    → ReadsSeparated (SmallDeclaratorRule (ReadsClass n assignment) (ReadsPat n) (with_in k) false word) xs (after c) m → Ends m d → x ≡ tree.var (spanned c d) word (listed xs) → VariablesRead n x k c d
 variables_read n word k x xs c m d b r z e = let small : ReadsStmt (suc n) k nested_item x c d = plain_statement (variables_rule word xs m refl b r z e) in (
   exports.exported_variables word xs m refl (b, declarators_widen n (with_in k) false word xs (after c) m r) z e,
   λ span. ap (λ v. supported_item (tree.export_decl span v)) e ∙ sym (ap supported e) ∙ lower k.flags.module x (stmt_supported (suc n) k nested_item x c d small),
@@ -136,7 +138,7 @@ pub variables_sound : (n : ℕ) (word : VarDeclKind) (s : State) → begins_vari
 unfolding variables
 variables_sound n word s e = meets_then _ (within with_in (declarators (expr n) (pattern n) false word) (moved s)) _
     (within_sound (λ xs k l. walks.walks (env_of k l) false (trees xs)) (λ xs. all_notes_of (trees xs))
-    (λ xs k. ReadsSeparated (DeclaratorRule (ReadsClass n assignment) (ReadsPat n) k false word) xs) with_in (λ k. refl) (declarators (expr n) (pattern n) false word) (moved s)
+    (λ xs k. ReadsSeparated (SmallDeclaratorRule (ReadsClass n assignment) (ReadsPat n) k false word) xs) with_in (λ k. refl) (declarators (expr n) (pattern n) false word) (moved s)
     (declarators_sound (ReadsClass n) (ReadsPat n) (expr n) (pattern n) (expr_sound n) (pattern_sound n) false word (coded (with_in s.code) (moved s)))) (λ xs m p.
     meets_then _ (declaration_end (expr n expression) m) _ (declaration_end_sound (expr n expression) (expr_keeps n expression) m) (λ _ t q. (
       sound_after s t refl (variables_stand word s.at e) refl refl (λ (i, r, z). variables_read n word s.code (tree.var (spanned s.at t.at) word (listed xs)) xs s.at i t.at e r z refl) (sound_more p q),

@@ -13,13 +13,13 @@ use Rattle.swc_ecma_parser_grammar.specs.Looks.{kind_at, sees, span_at, spanned}
 use Rattle.swc_ecma_parser_grammar.specs.Names.{Code}
 use Rattle.swc_ecma_parser_grammar.specs.Follows.{word_at, is_let_declaration, is_async_function}
 use Rattle.swc_ecma_parser_grammar.specs.Notes.{notes}
-use Rattle.swc_ecma_parser_grammar.specs.Reads.{with_in, nested_item}
-use Rattle.swc_ecma_parser_grammar.specs.Supported.{all_supported, all_supported_in}
+use Rattle.swc_ecma_parser_grammar.specs.scaffold.Supported.{all_supported, all_supported_in}
 use Rattle.swc_ecma_parser_grammar.specs.Walk as walks
 use Rattle.swc_ecma_parser_grammar.specs.Walk.{walk, env_of}
+use Rattle.swc_ecma_parser_grammar.specs.language.Items.{nested_item}
 use Rattle.swc_ecma_parser_grammar.specs.language.Classes as classes
 use Rattle.swc_ecma_parser_grammar.specs.language.Classes.{DecoratorsRule}
-use Rattle.swc_ecma_parser_grammar.specs.language.Contexts.{in_module}
+use Rattle.swc_ecma_parser_grammar.specs.language.Contexts.{in_module, with_in}
 use Rattle.swc_ecma_parser_grammar.specs.language.Exports as exports
 use Rattle.swc_ecma_parser_grammar.specs.language.Exports.{all_before, ExportRule, ExportedRule, DefaultRule, ExportFrontRule, decorated_behind, export_word, export_default_words, may_begin_default}
 use Rattle.swc_ecma_parser_grammar.specs.language.Goals.{Goal, expr_goal, assignment, left_side}
@@ -27,7 +27,7 @@ use Rattle.swc_ecma_parser_grammar.specs.language.Reads.{Reads}
 use Rattle.swc_ecma_parser_grammar.proofs.SupportedIn.{lower}
 use Rattle.swc_ecma_parser_grammar.proofs.Tests.{and_yes, and_both, or_no}
 use Rattle.swc_ecma_parser_grammar.proofs.Unnoted.{joined, expr_unnoted, decorators_unnoted}
-use Rattle.swc_ecma_parser_grammar.specs.ReadsSupported.{ReadsClass, ReadsPat}
+use Rattle.swc_ecma_parser_grammar.specs.scaffold.ReadsSupported.{ReadsClass, ReadsPat}
 use Rattle.swc_ecma_parser_reader.specs.DecoratorLevels.{decorated_in}
 use Rattle.swc_ecma_parser_reader.specs.Decorators.{Leading, leading, has_any, misplaced}
 use Rattle.swc_ecma_parser_reader.specs.Members.{class_decl, class_expr}
@@ -82,10 +82,10 @@ module _ (n : ℕ) (s : State) (o : IsModule s.code) (start : Span) where
   -- the walk of what is exported, behind that of its decorators
   pub front_walk : (span : Span) (ds : List Tree) (x : Tree) → none_before span.lo (trees ds) ≡ true → Takes x
       → walk (env_of s.code s.scope.labels) (listed ds) ++ walk (env_of s.code s.scope.labels) x
-      ≡ walks.walk_exported (env_of s.code s.scope.labels) span (walk (walks.in_module (env_of s.code s.scope.labels)) (with_decorators ds x)) (with_decorators ds x)
+      ≡ walks.walk_exported (env_of s.code s.scope.labels) span (walk (walks.env_in_module (env_of s.code s.scope.labels)) (with_decorators ds x)) (with_decorators ds x)
   front_walk span ds x h f = let env = env_of s.code s.scope.labels in
       ap (λ z. walk z (listed ds) ++ walk z x) (sym (module_env s.code s.scope.labels o))
-      ∙ sym (ap (λ z. z ++ walk (walks.in_module env) x) (behind_walk env span ds h)) ∙ sym (f.walked ds env span)
+      ∙ sym (ap (λ z. z ++ walk (walks.env_in_module env) x) (behind_walk env span ds h)) ∙ sym (f.walked ds env span)
 
   front_notes : (ds : List Tree) (x : Tree) → Takes x → notes (listed ds) ≡ [] → notes x ≡ [] → notes (with_decorators ds x) ≡ []
   front_notes ds x f a b = sym (ap (λ z. z.held_back) (f.noted ds)) ∙ joined (notes (listed ds)) (notes x) a b

@@ -22,7 +22,7 @@ use Rattle.swc_ecma_parser_grammar.specs.Names.{Code, is_name, is_reserved, is_i
 use Rattle.swc_ecma_parser_grammar.specs.Ends.{Ends}
 use Rattle.swc_ecma_parser_grammar.specs.Follows.{token_is, word_at}
 use Rattle.swc_ecma_parser_grammar.specs.Notes.{notes}
-use Rattle.swc_ecma_parser_grammar.specs.Supported.{supported}
+use Rattle.swc_ecma_parser_grammar.specs.scaffold.Supported.{supported}
 use Rattle.swc_ecma_parser_grammar.specs.Walk as walks
 use Rattle.swc_ecma_parser_grammar.specs.Walk.{Env, walk, env_of}
 use Rattle.swc_ecma_parser_grammar.specs.language.Contexts.{in_module, outside_functions}
@@ -212,15 +212,15 @@ module _ (In : Goal → Type 0) (object : Reader Tree) (objects : (s : State) �
 
   -- its faults and notes are those of its attributes
   record IsImport (given x : Tree) : Type 0 where
-    walked : (env : Env) → walk env x ≡ walk (walks.in_module env) given
+    walked : (env : Env) → walk env x ≡ walk (walks.env_in_module env) given
     noted : notes_of x ≡ notes_of given
     supports : supported_item x ≡ supported given
     is_decl : is_module_decl x ≡ true
 
   import_is : (s : Span) (xs : List Tree) (src given : Tree) (p : ImportPhase) → AreLeaves xs → IsLeaf src → IsImport given (tree.import s (listed xs) src given p)
   import_is s xs src given p l h = record {
-    walked = λ env. let inner = walk (walks.in_module env) given in
-        ap (λ z. z ++ walk (walks.in_module env) src ++ inner) (l.empty (walks.in_module env)) ∙ ap (λ z. z ++ inner) (h.empty (walks.in_module env));
+    walked = λ env. let inner = walk (walks.env_in_module env) given in
+        ap (λ z. z ++ walk (walks.env_in_module env) src ++ inner) (l.empty (walks.env_in_module env)) ∙ ap (λ z. z ++ inner) (h.empty (walks.env_in_module env));
     noted = ap (λ z. z ⊕ notes_of src ⊕ notes_of given) l.unnoted ∙ ap (λ z. z ⊕ notes_of given) h.unnoted;
     supports = refl;
     is_decl = refl;

@@ -7,8 +7,8 @@ use Rattle.swc_ecma_parser_model.specs.Kinds.{is_module_decl}
 use Rattle.swc_ecma_parser_model.specs.Tree.{Tree, listed}
 use Rattle.swc_ecma_parser_grammar.specs.Looks.{kind_at, sees, same_kind}
 use Rattle.swc_ecma_parser_grammar.specs.Notes.{notes, as_note}
-use Rattle.swc_ecma_parser_grammar.specs.Reads.{nested_item, top_item}
 use Rattle.swc_ecma_parser_grammar.specs.Walk.{walk, env_of}
+use Rattle.swc_ecma_parser_grammar.specs.language.Items.{nested_item, top_item}
 use Rattle.swc_ecma_parser_grammar.specs.language.Contexts.{in_module}
 use Rattle.swc_ecma_parser_grammar.specs.language.Goals.{item_goal}
 use Rattle.swc_ecma_parser_grammar.specs.language.ModuleItems.{import_item_rule, export_item_rule}

@@ -10,9 +10,9 @@ use Rattle.swc_ecma_parser_model.specs.Tree as tree
 use Rattle.swc_ecma_parser_model.specs.Tree.{Tree, listed}
 use Rattle.swc_ecma_parser_grammar.specs.Looks.{kind_at, sees, span_at, spanned}
 use Rattle.swc_ecma_parser_grammar.specs.Names.{Code}
-use Rattle.swc_ecma_parser_grammar.specs.Reads.{nested_item}
 use Rattle.swc_ecma_parser_grammar.specs.Walk as walks
 use Rattle.swc_ecma_parser_grammar.specs.Walk.{walk, env_of, drops}
+use Rattle.swc_ecma_parser_grammar.specs.language.Items.{nested_item}
 use Rattle.swc_ecma_parser_grammar.specs.language.Exports.{begin_before}
 use Rattle.swc_ecma_parser_grammar.specs.language.Goals.{left_side}
 use Rattle.swc_ecma_parser_grammar.proofs.Tests.{or_no}
@@ -114,10 +114,10 @@ kept_meets g (Err e) h = tt
 
 module _ (n : ℕ) (m : State) (o : IsModule m.code) (start : Span) (begins : start.lo ≡ (span_at m.at).lo) (v : Leading) (any : has_any v.found ≡ true) where
   -- its walk without decorators
-  bare_walk : (span : Span) (z : Tree) → Takes z → walk (env_of m.code m.scope.labels) z ≡ walks.walk_exported (env_of m.code m.scope.labels) span (walk (walks.in_module (env_of m.code m.scope.labels)) z) z
+  bare_walk : (span : Span) (z : Tree) → Takes z → walk (env_of m.code m.scope.labels) z ≡ walks.walk_exported (env_of m.code m.scope.labels) span (walk (walks.env_in_module (env_of m.code m.scope.labels)) z) z
   bare_walk span z f = let env = env_of m.code m.scope.labels in
       sym (ap (λ e. walk e z) (module_env m.code m.scope.labels o))
-      ∙ sym (subst (λ y. walks.walk_exported env span (walk (walks.in_module env) y) y ≡ walk (walks.in_module env) z) f.bare (f.walked [] env span))
+      ∙ sym (subst (λ y. walks.walk_exported env span (walk (walks.env_in_module env) y) y ≡ walk (walks.env_in_module env) z) f.bare (f.walked [] env span))
 
   taken_sound : (u : State) → SoundStep (Words start) m u → (declaration : Reader Tree) → Meets (SoundExported n u) (declaration u)
       → Meets (SoundBehind n v m) (exported (stmt n nested_item) (expr n) (pattern n) (reader.parameters n) (member n) start (decorating v.found declaration) u)

@@ -14,7 +14,7 @@ use Rattle.swc_ecma_parser_model.specs.Tree.{Tree, Trees, none, also, listed, tr
 use Rattle.swc_ecma_parser_grammar.specs.Looks.{kind_at, sees, span_at, spanned}
 use Rattle.swc_ecma_parser_grammar.specs.Names.{Code}
 use Rattle.swc_ecma_parser_grammar.specs.Notes.{notes}
-use Rattle.swc_ecma_parser_grammar.specs.Supported.{all_supported}
+use Rattle.swc_ecma_parser_grammar.specs.scaffold.Supported.{all_supported}
 use Rattle.swc_ecma_parser_grammar.specs.Walk as walks
 use Rattle.swc_ecma_parser_grammar.specs.Walk.{Env, walk, env_of, walk_exported, tabled, drops}
 use Rattle.swc_ecma_parser_grammar.specs.language.Contexts.{in_module}
@@ -74,23 +74,23 @@ one_side false b h = h
 -- ---- the walk and the notes of the whole
 
 -- in module code what is exported without decorators is walked as it stands
-bare_code : (env : Env) (span : Span) (z : Tree) → Takes z → walk_exported (walks.in_module env) span (walk (walks.in_module env) z) z ≡ walk (walks.in_module env) z
-bare_code env span z f = let m = walks.in_module env in
-    subst (λ y. walk_exported m span (walk (walks.in_module m) y) y ≡ walk (walks.in_module m) z) f.bare (f.walked [] m span)
+bare_code : (env : Env) (span : Span) (z : Tree) → Takes z → walk_exported (walks.env_in_module env) span (walk (walks.env_in_module env) z) z ≡ walk (walks.env_in_module env) z
+bare_code env span z f = let m = walks.env_in_module env in
+    subst (λ y. walk_exported m span (walk (walks.env_in_module m) y) y ≡ walk (walks.env_in_module m) z) f.bare (f.walked [] m span)
 
 -- behind its decorators, which are walked as the code around
 led_walk : (env : Env) (span : Span) (ds : List Tree) (z : Tree) → Takes z → all_before span (trees ds) ≡ true
-    → walk env (listed ds) ++ walk_exported (walks.in_module env) span (walk (walks.in_module env) z) z ≡ walk_exported env span (walk (walks.in_module env) (with_decorators ds z)) (with_decorators ds z)
+    → walk env (listed ds) ++ walk_exported (walks.env_in_module env) span (walk (walks.env_in_module env) z) z ≡ walk_exported env span (walk (walks.env_in_module env) (with_decorators ds z)) (with_decorators ds z)
 led_walk env span ds z f h =
-    ap (λ v. walk env (listed ds) ++ v) (bare_code env span z f) ∙ ap (λ v. v ++ walk (walks.in_module env) z) (sym (before_walk env span ds h)) ∙ sym (f.walked ds env span)
+    ap (λ v. walk env (listed ds) ++ v) (bare_code env span z f) ∙ ap (λ v. v ++ walk (walks.env_in_module env) z) (sym (before_walk env span ds h)) ∙ sym (f.walked ds env span)
 
 -- the same of a tree of either form
 form_walk : (env : Env) (w : Span) (ds : List Tree) (z x y : Tree) → Takes z → (form : IsExportOf y z) → form.0.lo ≡ w.lo → all_before w (trees ds) ≡ true → x ≡ exported_with ds y
-    → walk env (listed ds) ++ walk (walks.in_module env) y ≡ walk env x
+    → walk env (listed ds) ++ walk (walks.env_in_module env) y ≡ walk env x
 form_walk env w ds z x y f (span, inl e) l h i = let all : all_before span (trees ds) ≡ true = subst (λ b. all_before (record { lo = b; hi = span.hi }) (trees ds) ≡ true) (sym l) (before_one w span.hi ds h) in
-    ap (λ v. walk env (listed ds) ++ walk (walks.in_module env) v) e ∙ led_walk env span ds z f all ∙ sym (ap (walk env) (i ∙ ap (exported_with ds) e))
+    ap (λ v. walk env (listed ds) ++ walk (walks.env_in_module env) v) e ∙ led_walk env span ds z f all ∙ sym (ap (walk env) (i ∙ ap (exported_with ds) e))
 form_walk env w ds z x y f (span, inr e) l h i = let all : all_before span (trees ds) ≡ true = subst (λ b. all_before (record { lo = b; hi = span.hi }) (trees ds) ≡ true) (sym l) (before_one w span.hi ds h) in
-    ap (λ v. walk env (listed ds) ++ walk (walks.in_module env) v) e ∙ led_walk env span ds z f all ∙ sym (ap (walk env) (i ∙ ap (exported_with ds) e))
+    ap (λ v. walk env (listed ds) ++ walk (walks.env_in_module env) v) e ∙ led_walk env span ds z f all ∙ sym (ap (walk env) (i ∙ ap (exported_with ds) e))
 
 form_notes : (ds : List Tree) (z x y : Tree) → Takes z → IsExportOf y z → x ≡ exported_with ds y → notes_of (listed ds) ⊕ notes_of y ≡ notes_of x
 form_notes ds z x y f (span, inl e) i = ap (λ v. notes_of (listed ds) ⊕ notes_of v) e ∙ f.noted ds ∙ sym (ap notes_of (i ∙ ap (exported_with ds) e))

@@ -16,7 +16,7 @@ use Rattle.swc_ecma_parser_grammar.specs.Looks.{kind_at, breaks_at, sees}
 use Rattle.swc_ecma_parser_grammar.specs.Names.{Code, is_name}
 use Rattle.swc_ecma_parser_grammar.specs.Follows.{word_at}
 use Rattle.swc_ecma_parser_grammar.specs.Notes.{notes}
-use Rattle.swc_ecma_parser_grammar.specs.Supported.{supported}
+use Rattle.swc_ecma_parser_grammar.specs.scaffold.Supported.{supported}
 use Rattle.swc_ecma_parser_grammar.specs.Walk.{Env, walk}
 use Rattle.swc_ecma_parser_grammar.specs.language.Goals.{Goal, attributes_goal}
 use Rattle.swc_ecma_parser_grammar.specs.language.Lists.{ReadsListed}

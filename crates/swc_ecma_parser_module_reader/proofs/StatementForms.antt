@@ -13,10 +13,10 @@ use Rattle.swc_ecma_parser_model.specs.Tree.{Tree}
 use Rattle.swc_ecma_parser_grammar.specs.declared.position.Position.{Position}
 use Rattle.swc_ecma_parser_grammar.specs.Looks.{kind_at, breaks_at, sees, span_at}
 use Rattle.swc_ecma_parser_grammar.specs.Follows.{word_at, may_begin_expression_statement, begins_import_expression, is_let_declaration, is_async_function}
-use Rattle.swc_ecma_parser_grammar.specs.Reads.{with_in}
-use Rattle.swc_ecma_parser_grammar.specs.language.Contexts.{in_class, in_loop, in_breakable, in_with}
+use Rattle.swc_ecma_parser_grammar.specs.language.Declarations.{is_using_declaration}
+use Rattle.swc_ecma_parser_grammar.specs.language.Contexts.{in_class, in_loop, in_breakable, in_with, with_in}
 use Rattle.swc_ecma_parser_grammar.specs.language.Goals.{Class, expression, assignment}
-use Rattle.swc_ecma_parser_grammar.specs.Decorated.{decorated_by}
+use Rattle.swc_ecma_parser_grammar.specs.scaffold.Decorated.{decorated_by}
 use Rattle.swc_ecma_parser_reader.specs.Decorators.{Leading, leading, misplaced as misplaced_list}
 use Rattle.swc_ecma_parser_reader.specs.DecoratedStatements.{begins_declared, declared_behind, exported_behind, other_behind, stmt_behind, decorated_stmt, either_stmt}
 use Rattle.swc_ecma_parser_reader.specs.Members.{class_parts, named_class, class_decl, class_stmt}
@@ -28,7 +28,6 @@ use Rattle.swc_ecma_parser_reader.specs.Reader.{decorated_in, declarators, items
 use Rattle.swc_ecma_parser_reader.proofs.Meets.{Meets, always, meets_then, meets_if, wanted_meets, too_deep_meets, refuse_meets}
 use Rattle.swc_ecma_parser_reader.proofs.SoundParts.{after_return_meets}
 use Rattle.swc_ecma_parser_reader.proofs.expressions.SoundSteps.{reject_meets}
-use Rattle.swc_ecma_parser_grammar.specs.Using.{is_using_declaration}
 use Rattle.swc_ecma_parser_reader.proofs.First.{first_meets}
 
 -- neither an import nor an export

@@ -7,7 +7,7 @@ use Rattle.swc_ecma_parser_model.specs.Tree as tree
 use Rattle.swc_ecma_parser_model.specs.Tree.{Tree, Text, listed}
 use Rattle.swc_ecma_parser_grammar.specs.Looks.{sees}
 use Rattle.swc_ecma_parser_grammar.specs.Names.{Code}
-use Rattle.swc_ecma_parser_grammar.specs.Reads.{directed, top_item}
+use Rattle.swc_ecma_parser_grammar.specs.language.Items.{directed, top_item}
 use Rattle.swc_ecma_parser_grammar.specs.language.Programs.{entry_code, program, code_behind}
 use Rattle.swc_ecma_parser_reader.specs.Reader.{items, at_end, whole_stmt, shebang, directs, items_turn, plain_stmt}
 use Rattle.swc_ecma_parser_reader.specs.State.{State, Reader, ◌>>=◌, ◌>>◌, pure, here, spanned_from, coded, flagged, too_deep, Step, More, Done, loop}

@@ -5,7 +5,7 @@ use Rattle.swc_ecma_parser_input.specs.Place.{Place}
 use Rattle.swc_ecma_parser_input.specs.TokenSource.{ordered_from}
 use Rattle.swc_ecma_parser_model.specs.Tree as tree
 use Rattle.swc_ecma_parser_model.specs.Tree.{Tree, Trees, none, also}
-use Rattle.swc_ecma_parser_grammar.specs.Supported.{supported, all_supported}
+use Rattle.swc_ecma_parser_grammar.specs.scaffold.Supported.{supported, all_supported}
 use Rattle.swc_ecma_parser_grammar.specs.language.Exports.{all_before}
 use Rattle.swc_ecma_parser_module_reader.specs.Decorated.{none_before}
 

@@ -1,7 +1,7 @@
 -- One turn of the loop over the statements of a program, alone: a statement, or the decorators of an import or export.
 use Rattle.std.specs.Prelude.{ℕ, zero, suc, if◌then◌else◌, Ok}
 use Rattle.swc_ecma_parser_model.specs.Tree.{Tree}
-use Rattle.swc_ecma_parser_grammar.specs.Reads.{top_item}
+use Rattle.swc_ecma_parser_grammar.specs.language.Items.{top_item}
 use Rattle.swc_ecma_parser_reader.specs.DecoratedStatements.{stmt_behind}
 use Rattle.swc_ecma_parser_reader.specs.DecoratorLevels.{decorated_in}
 use Rattle.swc_ecma_parser_reader.specs.Decorators.{Leading, leading}

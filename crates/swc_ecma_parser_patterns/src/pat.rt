@@ -1,7 +1,7 @@
 //! Binding patterns: ECMA-262, section 14.3.3.
 
 ghost use Rattle.std.specs.Prelude.{map};
-ghost use Rattle.swc_ecma_parser_grammar.specs.Reads as language;
+ghost use Rattle.swc_ecma_parser_grammar.specs.language.Contexts as language;
 ghost use Rattle.swc_ecma_parser_inner.specs.Nests.{Nests};
 ghost use Rattle.swc_ecma_parser_inner.specs.Patterns.{read_pat};
 ghost use Rattle.swc_ecma_parser_reader.specs.Patterns as patterns;

@@ -3,7 +3,7 @@ use Rattle.std.proofs.Common.{ℕ, List}
 use Rattle.swc_ecma_parser_input.specs.Place.{Place}
 use Rattle.swc_ecma_parser_model.specs.Tree.{Tree}
 use Rattle.swc_ecma_parser_grammar.specs.Names.{Code}
-use Rattle.swc_ecma_parser_grammar.specs.ReadsSupported.{ReadsClass, ReadsPat, ReadsTarget, ReadsParams, ReadsDecorated}
+use Rattle.swc_ecma_parser_grammar.specs.scaffold.ReadsSupported.{ReadsClass, ReadsPat, ReadsTarget, ReadsParams, ReadsDecorated}
 use Rattle.swc_ecma_parser_grammar.specs.language.Goals.{Class, expression}
 use Rattle.swc_ecma_parser_grammar.specs.language.Reads as language
 use Rattle.swc_ecma_parser_reader.specs.Reader.{expr, cover, head_cover, pattern, element, decorated_in, parameters}

@@ -20,11 +20,10 @@ use Rattle.swc_ecma_parser_model.specs.Tree.{Tree, Text, listed}
 use Rattle.swc_ecma_parser_grammar.specs.Looks.{kind_at}
 use Rattle.swc_ecma_parser_grammar.specs.Names.{Code, is_reserved, is_name, is_identifier}
 use Rattle.swc_ecma_parser_grammar.specs.Follows.{word_at, token_is, first_is, AsyncWord, not_async, async_word}
-use Rattle.swc_ecma_parser_grammar.specs.Reads.{ReadsToken}
 use Rattle.swc_ecma_parser_grammar.specs.language.Goals.{Goal, Class, expression, assignment, operator, unary, left_side, callee, Purpose, expr_goal, pattern_goal, binding, assigning}
 use Rattle.swc_ecma_parser_grammar.specs.language.Operators.{unary_operator, update_operator}
 use Rattle.swc_ecma_parser_grammar.specs.language.Begins.{begins_operand, awaits}
-use Rattle.swc_ecma_parser_grammar.specs.language.Parts.{ReadsName}
+use Rattle.swc_ecma_parser_grammar.specs.language.Parts.{ReadsName, ReadsToken}
 use Rattle.swc_ecma_parser_grammar.specs.language.Functions.{FunctionRule}
 use Rattle.swc_ecma_parser_grammar.specs.language.LeftSides.{PrimaryRule, name_rule, string_rule, true_rule, false_rule, null_rule, number_rule, big_int_rule, this_rule, array_rule, object_rule, function_rule, class_rule, paren_rule, LeftSideRule, primary_rule, import_meta_rule, member_rule, super_property_rule, call_rule, super_call_rule, import_call_rule, new_rule, bare_new_rule}
 use Rattle.swc_ecma_parser_grammar.specs.language.Patterns.{PatternRule, binding_name_rule, target_name_rule, target_rule, array_rule, object_rule}

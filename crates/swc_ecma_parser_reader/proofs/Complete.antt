@@ -2,15 +2,18 @@
 use Rattle.swc_ecma_parser_reader.proofs.Words.{plain_function, async_stands, async_kind, or_earlier}
 use Rattle.swc_ecma_parser_reader.proofs.SoundFunctions.{parameters_walk, parameters_notes}
 use Rattle.swc_ecma_parser_grammar.specs.Parameters.{parameters as parameter_trees}
-use Rattle.swc_ecma_parser_grammar.specs.Walk.{in_body as walks_in_body, in_params, walk_body, Env, env_of, walk, walks}
+use Rattle.swc_ecma_parser_grammar.specs.Walk.{env_in_body, env_in_parameters, walk_body, Env, env_of, walk, walks}
 use Rattle.swc_ecma_parser_token.specs.Text.{word_text}
 use Rattle.swc_ecma_parser_token.specs.declared.token.Word.{Word}
 use Rattle.swc_ecma_parser_grammar.proofs.Tests.{and_yes, and_both, and_no}
 use Rattle.swc_ecma_parser_grammar.proofs.SupportedBegins.{word_begins, name_begins, opens, expr_opens}
 use Rattle.swc_ecma_parser_grammar.specs.Own.{labelled_function, duplicates, misplaced_directive, head_faults}
-use Rattle.swc_ecma_parser_grammar.specs.Reads.{labeled_rule, with_rule, class_rule, function_rule, ReadsFunction, ReadsFunctionExpr, ReadsParts, OwnNameRule, no_own_name_rule, own_name_rule, ReadsBraced, InitRule, LeftRule, OfLeftRule, PartRule, no_part_rule, part_rule, for_rule, for_in_rule, for_of_rule, with_in, nested_item, ReadsToken, ReadsItems, break_rule, continue_rule, return_rule, StmtRule, block_rule, empty_rule, debugger_rule, variables_rule, if_statement_rule, CaseRule, case_clause_rule, default_clause_rule, ReadsCases, switch_rule, throw_rule, try_rule, while_rule, do_while_rule, expr_rule, import_rule, ReadsBlock, CatchRule, no_catch_rule, catch_rule, catch_parameter_rule, FinallyRule, no_finally_rule, finally_rule, ReadsHead, IfRule, if_rule, no_else_rule, else_rule, else_if_rule, using_rule, ReadsSeparated, DeclaratorRule}
+use Rattle.swc_ecma_parser_grammar.specs.scaffold.Reads.{labeled_rule, with_rule, class_rule, function_rule, ReadsFunction, ReadsFunctionExpr, ReadsParts, OwnNameRule, no_own_name_rule, own_name_rule, ReadsBraced, SmallInitRule, SmallLeftRule, SmallOfLeftRule, SmallPartRule, no_part_rule, part_rule, for_rule, for_in_rule, for_of_rule, ReadsItems, break_rule, continue_rule, return_rule, SmallStmtRule, block_rule, empty_rule, debugger_rule, variables_rule, if_statement_rule, SmallCaseRule, case_clause_rule, default_clause_rule, ReadsCases, switch_rule, throw_rule, try_rule, while_rule, do_while_rule, expr_rule, import_rule, ReadsBlock, SmallCatchRule, no_catch_rule, catch_rule, catch_parameter_rule, SmallFinallyRule, no_finally_rule, finally_rule, ReadsHead, SmallIfRule, if_rule, no_else_rule, else_rule, else_if_rule, using_rule, SmallDeclaratorRule}
 use Rattle.swc_ecma_parser_grammar.specs.Names.{is_name, first_is_identifier, identifier_at, Code}
-use Rattle.swc_ecma_parser_grammar.specs.language.Items.{labelled_item, sub_statement}
+use Rattle.swc_ecma_parser_grammar.specs.language.Declarations.{is_using_declaration}
+use Rattle.swc_ecma_parser_grammar.specs.language.Lists.{ReadsSeparated}
+use Rattle.swc_ecma_parser_grammar.specs.language.Parts.{ReadsToken}
+use Rattle.swc_ecma_parser_grammar.specs.language.Items.{labelled_item, sub_statement, nested_item}
 use Rattle.swc_ecma_parser_reader.specs.Reader.{begins_label, relabels, labelled_body, labeled_stmt, other_stmt, with_stmt, await_here, misdirected, function_body, function_parts, function_decl, function_stmt, function_word, async_or_other, head_part, misdeclared, for_parts, for_in, for_of, for_behind, for_stmt, const_stmt, let_stmt, getter, setter, plain_method, arrow_block, named, own_name, function_expr, expr, cover, head_cover, pattern, element, decorated_in, member, parameters, function, function_by, closes, block_from, block, braced, expr_stmt_at, import_stmt_at, while_stmt, do_while, goes_on, closed_link, alternative, link_from, link, if_stmt, begins_clause, closes_clause, clause_from, default_clause, case_clause, clause, clauses_turn, clauses, switch_stmt, is_handled, handled, bound, parameter, finalizer, caught, handler, try_stmt, stmt_level, stmt, using_or_other, operators, plain_stmt}
 use Rattle.swc_ecma_parser_grammar.proofs.Marks.{no_word}
 use Rattle.swc_ecma_parser_reader.proofs.Opens.{unopened, let_stands, let_before_colon, opened, no_block_or_import, import_stands, stmt_goes}
@@ -32,9 +35,9 @@ use Rattle.swc_ecma_parser_model.specs.Forms.{is_absent, is_rest, is_binding_nam
 use Rattle.swc_ecma_parser_grammar.specs.declared.position.Position.{Position}
 use Rattle.swc_ecma_parser_grammar.specs.Looks.{kind_at, sees, same_kind, span_at, spanned}
 use Rattle.swc_ecma_parser_grammar.specs.Ends.{OptionalEnds}
-use Rattle.swc_ecma_parser_grammar.specs.ReadsSupported.{ReadsClass, ReadsPat, ReadsTarget, ReadsStmt, ReadsParams, ReadsDecorated, ReadsMember, ReadsNamedClass}
-use Rattle.swc_ecma_parser_grammar.specs.language.Contexts.{in_loop, in_breakable, in_with, named_by, in_parameters, in_body, in_arrow}
-use Rattle.swc_ecma_parser_grammar.specs.language.Goals.{Goal, Purpose, binding, expression, assignment, pattern_goal}
+use Rattle.swc_ecma_parser_grammar.specs.scaffold.ReadsSupported.{ReadsClass, ReadsPat, ReadsTarget, ReadsStmt, ReadsParams, ReadsDecorated, ReadsMember, ReadsNamedClass}
+use Rattle.swc_ecma_parser_grammar.specs.language.Contexts.{in_loop, in_breakable, in_with, named_by, in_parameters, in_body, in_arrow, with_in}
+use Rattle.swc_ecma_parser_grammar.specs.language.Goals.{binding, expression, assignment, pattern_goal}
 use Rattle.swc_ecma_parser_grammar.specs.Notes.{notes, with_note}
 use Rattle.swc_ecma_parser_grammar.specs.language.Noted.{has_meta}
 use Rattle.swc_ecma_parser_reader.specs.Notes.{Notes, ◌⊕◌, notes_of, all_notes_of, held}
@@ -69,17 +72,14 @@ use Rattle.swc_ecma_parser_grammar.proofs.Arrows.{block_narrows}
 use Rattle.swc_ecma_parser_grammar.proofs.MethodParts.{parts_narrow}
 use Rattle.swc_ecma_parser_grammar.proofs.Unnoted.{clean_is}
 use Rattle.swc_ecma_parser_grammar.proofs.Widens.{parameters_same}
-use Rattle.swc_ecma_parser_grammar.specs.Supported.{supported_in, is_supported_key_in, has_no_note}
-use Rattle.swc_ecma_parser_grammar.specs.language.Functions as formal
-use Rattle.swc_ecma_parser_grammar.specs.language.Functions.{PatternItemRule, ParametersRule}
-use Rattle.swc_ecma_parser_grammar.specs.language.Patterns as patterns
-use Rattle.swc_ecma_parser_grammar.specs.language.Patterns.{PatternRule, PatternElementRule}
+use Rattle.swc_ecma_parser_grammar.specs.scaffold.Supported.{supported_in, is_supported_key_in, has_no_note}
 use Rattle.swc_ecma_parser_grammar.specs.language.Reads as language
 use Rattle.swc_ecma_parser_reader.proofs.Loops.{stmt_shorter, clauses_done, clauses_more}
 use Rattle.swc_ecma_parser_reader.proofs.Chains.{if_last, if_more}
+use Rattle.swc_ecma_parser_reader.proofs.PlainParameters.{parameter_plain}
 use Rattle.swc_ecma_parser_reader.proofs.CompleteParts.{behind_setting, break_reads, clause_ends, close_reads, closes_at, code_stays, condition_reads, continue_reads, debugger_reads, empty_reads, expect_reads, expr_stmt_reads, head_reads, import_stmt_reads, items_read, name_no_function, name_no_class, no_brace, no_label_here, optional_end_reads, return_reads, statement_calm, throw_reads, variables_reads, note_with_reads, code_behind, using_reads}
 use Rattle.swc_ecma_parser_grammar.proofs.Naming.{name_is_free}
-use Rattle.swc_ecma_parser_grammar.specs.Using.{is_await_using_declaration, is_using_declaration}
+use Rattle.swc_ecma_parser_grammar.specs.scaffold.Using.{is_await_using_declaration}
 use Rattle.swc_ecma_parser_reader.proofs.CompleteFor.{no_arrow, opening_reads_init, opening_reads_in, opening_reads_of}
 use Rattle.swc_ecma_parser_grammar.proofs.ExpressionBegins.{expressions_begin}
 use Rattle.swc_ecma_parser_reader.proofs.CompleteFirst.{declares, placed, declares_so, plain_reads}
@@ -119,7 +119,7 @@ module _ (n : ℕ) (below : Below n) (reads : (at : Position) (k : Code) (x : Tr
   -- a body has labels of its own, and what is found in it is not told
   function_body_reads : (a g : Bool) (k : Code) (x : Tree) (c d : Place) (w : Scope) (f : List Fault) (h : Notes) → ReadsBraced (ReadsStmt n) true (in_body k a g) x c d
       → function_body (stmt n nested_item) (parameters n) a g (st c k w f h)
-      ≡ Ok (x, st d k w (f ++ walk_body (walks_in_body (env_of k w.labels)) x) (record { held_back = h.held_back ++ notes x; found_module_item = h.found_module_item }))
+      ≡ Ok (x, st d k w (f ++ walk_body (env_in_body (env_of k w.labels)) x) (record { held_back = h.held_back ++ notes x; found_module_item = h.found_module_item }))
   unfolding function_body
   function_body_reads a g k x c d w f h r =
       rw (body_reads true (in_body k a g) x c d (record w { labels = [] }) f h r, behind_setting (in_body k a g) true r.items, r.is) refl
@@ -138,8 +138,8 @@ module _ (n : ℕ) (below : Below n) (reads : (at : Position) (k : Code) (x : Tr
   unfolding function_decl function_parts misdirected spanned
   function_reads k x c d r w f h q =
       let env = env_of k w.labels in
-      let a = walks (in_params env) false (trees r.patterns) in
-      let b = walk_body (walks_in_body env) r.body in
+      let a = walks (env_in_parameters env) false (trees r.patterns) in
+      let b = walk_body (env_in_body env) r.body in
       let l = misplaced_directive (has_plain_params (parameter_trees r.patterns)) r.body in
       rw (
         word_reads k c r.word w f h r.reads_async r.is_function,
@@ -147,9 +147,9 @@ module _ (n : ℕ) (below : Below n) (reads : (at : Position) (k : Code) (x : Tr
         name_reads faults.ExpectedIdent r.name r.name_span r.behind_word r.behind_name k w f h r.reads_name r.is_named,
         parameters_reads n below (in_parameters k r.is_async r.is_generator) r.patterns r.behind_name r.middle r.reads_parameters w f h,
         function_body_reads r.is_async r.is_generator k r.body r.middle d w (f ++ a) (h ⊕ all_notes_of (trees r.patterns)) r.reads_body,
-        told_reads l d k w (f ++ a ++ b) _ (calm_last d (a ++ b) l (walk env x) (ap (walk env) r.is ∙ ap (λ z. z ++ b ++ l) (parameters_walk (in_params env) r.patterns)) q),
+        told_reads l d k w (f ++ a ++ b) _ (calm_last d (a ++ b) l (walk env x) (ap (walk env) r.is ∙ ap (λ z. z ++ b ++ l) (parameters_walk (env_in_parameters env) r.patterns)) q),
         r.is,
-        parameters_walk (in_params env) r.patterns,
+        parameters_walk (env_in_parameters env) r.patterns,
         ap (λ z. z.held_back) (parameters_notes r.patterns),
         ap (λ z. z.found_module_item) (parameters_notes r.patterns),
       ) (simp (append_assoc) refl)
@@ -176,8 +176,8 @@ module _ (n : ℕ) (below : Below n) (reads : (at : Position) (k : Code) (x : Tr
   function_expr_reads k x c d r w f h q =
       let env = env_of k w.labels in
       let fn = tree.function (spanned c d) (listed []) (parameter_trees r.patterns) r.body r.is_async r.is_generator in
-      let a = walks (in_params env) false (trees r.patterns) in
-      let b = walk_body (walks_in_body env) r.body in
+      let a = walks (env_in_parameters env) false (trees r.patterns) in
+      let b = walk_body (env_in_body env) r.body in
       let l = misplaced_directive (has_plain_params (parameter_trees r.patterns)) r.body in
       let here = calm_last d (walk env r.name) (walk env fn) (walk env x) (ap (walk env) r.is) q in
       let quiet = own_name_quiet env r.reads_name in
@@ -187,12 +187,12 @@ module _ (n : ℕ) (below : Below n) (reads : (at : Position) (k : Code) (x : Tr
         own_name_reads r.is_async r.is_generator r.name k r.behind_word r.behind_name w f h r.reads_name,
         parameters_reads n below (in_parameters k r.is_async r.is_generator) r.patterns r.behind_name r.middle r.reads_parameters w f h,
         function_body_reads r.is_async r.is_generator k r.body r.middle d w (f ++ a) (h ⊕ all_notes_of (trees r.patterns)) r.reads_body,
-        told_reads l d k w (f ++ a ++ b) _ (calm_last d (a ++ b) l (walk env fn) (ap (λ z. z ++ b ++ l) (parameters_walk (in_params env) r.patterns)) here),
+        told_reads l d k w (f ++ a ++ b) _ (calm_last d (a ++ b) l (walk env fn) (ap (λ z. z ++ b ++ l) (parameters_walk (env_in_parameters env) r.patterns)) here),
         r.is,
         quiet.0,
         quiet.1,
         quiet.2,
-        parameters_walk (in_params env) r.patterns,
+        parameters_walk (env_in_parameters env) r.patterns,
         ap (λ z. z.held_back) (parameters_notes r.patterns),
         ap (λ z. z.found_module_item) (parameters_notes r.patterns),
       ) (simp (append_assoc, append-nil) refl)
@@ -221,9 +221,9 @@ module _ (n : ℕ) (below : Below n) (reads : (at : Position) (k : Code) (x : Tr
       rw (
         parameters_reads n below (in_parameters k false false) (p ∷ []) m r.middle r.reads_parameters w f' h',
         q,
-        function_body_reads false false k body r.middle d w (f' ++ walks (in_params env) false (trees (p ∷ []))) (h' ⊕ all_notes_of (trees (p ∷ []))) r.reads_body,
+        function_body_reads false false k body r.middle d w (f' ++ walks (env_in_parameters env) false (trees (p ∷ []))) (h' ⊕ all_notes_of (trees (p ∷ []))) r.reads_body,
         ← s,
-        told_reads (misplaced_directive (is_plain_param p) body) d k w (f' ++ walks (in_params env) false (trees (p ∷ [])) ++ walk_body (walks_in_body env) body) _ (inr z),
+        told_reads (misplaced_directive (is_plain_param p) body) d k w (f' ++ walks (env_in_parameters env) false (trees (p ∷ [])) ++ walk_body (env_in_body env) body) _ (inr z),
         e,
       ) (simp (append_assoc, append-nil, or_assoc, or_nil) refl)
 
@@ -237,10 +237,10 @@ module _ (n : ℕ) (below : Below n) (reads : (at : Position) (k : Code) (x : Tr
       let h' = h ⊕ notes_of key in
       rw (
         parameters_reads n below (in_parameters k a g) ps m r.middle r.reads_parameters w f' h',
-        function_body_reads a g k body r.middle d w (f' ++ walks (in_params env) false (trees ps)) (h' ⊕ all_notes_of (trees ps)) r.reads_body,
-        told_reads (misplaced_directive (has_plain_params (parameter_trees ps)) body) d k w (f' ++ walks (in_params env) false (trees ps) ++ walk_body (walks_in_body env) body) _ (inr z),
+        function_body_reads a g k body r.middle d w (f' ++ walks (env_in_parameters env) false (trees ps)) (h' ⊕ all_notes_of (trees ps)) r.reads_body,
+        told_reads (misplaced_directive (has_plain_params (parameter_trees ps)) body) d k w (f' ++ walks (env_in_parameters env) false (trees ps) ++ walk_body (env_in_body env) body) _ (inr z),
         e,
-        parameters_walk (in_params env) ps,
+        parameters_walk (env_in_parameters env) ps,
         ap (λ z. z.held_back) (parameters_notes ps),
         ap (λ z. z.found_module_item) (parameters_notes ps),
       ) (simp (append_assoc, append-nil, or_assoc) refl)
@@ -266,7 +266,7 @@ module _ (n : ℕ) (below : Below n) (reads : (at : Position) (k : Code) (x : Tr
         code_stays k xs,
       ) refl
 
-  clause_reads : (k : Code) (b : Bool) (x : Tree) (c d : Place) (w : Scope) (f : List Fault) (h : Notes) → CaseRule (ReadsStmt n) (ReadsClass n) k b x c d → closes_clause d ≡ true
+  clause_reads : (k : Code) (b : Bool) (x : Tree) (c d : Place) (w : Scope) (f : List Fault) (h : Notes) → SmallCaseRule (ReadsStmt n) (ReadsClass n) k b x c d → closes_clause d ≡ true
       → clause (stmt n nested_item) (expr n expression) b (st c k w f h) ≡ Ok (x, st d k w (f ++ walk (env_of k w.labels) x) (h ⊕ notes_of x))
   unfolding clause case_clause default_clause same_kind spanned
   clause_reads k b x c d w f h (case_clause_rule test xs m a r i s e) z =
@@ -280,7 +280,7 @@ module _ (n : ℕ) (below : Below n) (reads : (at : Position) (k : Code) (x : Tr
   clause_reads k b x c d w f h (default_clause_rule xs o a i s e) z =
       rw (ap (λ j. same_kind j kind.Case) a, o, clause_from_reads (span_at c) tree.absent xs k (after c) d w f h i s z, e) refl
 
-  clause_begins : {k : Code} {b : Bool} {x : Tree} {c d : Place} → CaseRule (ReadsStmt n) (ReadsClass n) k b x c d → begins_clause c ≡ true
+  clause_begins : {k : Code} {b : Bool} {x : Tree} {c d : Place} → SmallCaseRule (ReadsStmt n) (ReadsClass n) k b x c d → begins_clause c ≡ true
   unfolding begins_clause same_kind
   clause_begins (case_clause_rule test xs m a r i s e) = rw a refl
   clause_begins (default_clause_rule xs o a i s e) = rw a refl
@@ -328,7 +328,7 @@ module _ (n : ℕ) (below : Below n) (reads : (at : Position) (k : Code) (x : Tr
   unfolding same_kind
   no_paren c e = rw e refl
 
-  handler_reads : (k : Code) (x : Tree) (c d : Place) → CatchRule (ReadsStmt n) (ReadsPat n) k x c d → Reads (handler (stmt n nested_item) (pattern n)) k x c d
+  handler_reads : (k : Code) (x : Tree) (c d : Place) → SmallCatchRule (ReadsStmt n) (ReadsPat n) k x c d → Reads (handler (stmt n nested_item) (pattern n)) k x c d
   unfolding handler caught parameter bound
   handler_reads k x c d (no_catch_rule a b e) w f h = rw (a, b, e, append-nil f, append-nil h.held_back, or_nil h.found_module_item) refl
   handler_reads k x c d (catch_rule body a r e) w f h =
@@ -346,13 +346,13 @@ module _ (n : ℕ) (below : Below n) (reads : (at : Position) (k : Code) (x : Tr
         or_assoc h.found_module_item (has_meta p) (has_meta body),
       ) refl
 
-  finalizer_reads : (k : Code) (x : Tree) (c d : Place) → FinallyRule (ReadsStmt n) k x c d → Reads (finalizer (stmt n nested_item)) k x c d
+  finalizer_reads : (k : Code) (x : Tree) (c d : Place) → SmallFinallyRule (ReadsStmt n) k x c d → Reads (finalizer (stmt n nested_item)) k x c d
   unfolding finalizer
   finalizer_reads k x c d (no_finally_rule a b e) w f h = rw (a, b, e, append-nil f, append-nil h.held_back, or_nil h.found_module_item) refl
   finalizer_reads k x c d (finally_rule a r) w f h = rw (seen c kind.Finally a) (braced_reads k x (after c) d r w f h)
 
   -- what the tree has stands there
-  one_seen : {k : Code} {x y : Tree} {c m d : Place} → CatchRule (ReadsStmt n) (ReadsPat n) k x c m → FinallyRule (ReadsStmt n) k y m d → is_absent x && is_absent y ≡ false → is_handled c ≡ true
+  one_seen : {k : Code} {x y : Tree} {c m d : Place} → SmallCatchRule (ReadsStmt n) (ReadsPat n) k x c m → SmallFinallyRule (ReadsStmt n) k y m d → is_absent x && is_absent y ≡ false → is_handled c ≡ true
   unfolding is_handled
   one_seen {c = c} (catch_rule body i r e) f h = rw (seen c kind.Catch i) refl
   one_seen {c = c} (catch_parameter_rule p body i j l r t u e) f h = rw (seen c kind.Catch j) refl
@@ -362,8 +362,8 @@ module _ (n : ℕ) (below : Below n) (reads : (at : Position) (k : Code) (x : Tr
       true_false : true ≡ false → ⊥
       true_false h = cc
 
-  try_reads : (y z v : Tree) (m i : Place) (k : Code) (x : Tree) (c d : Place) → ReadsBlock (ReadsStmt n) k y (after c) m → CatchRule (ReadsStmt n) (ReadsPat n) k z m i
-      → FinallyRule (ReadsStmt n) k v i d → is_absent z && is_absent v ≡ false → x ≡ tree.try (spanned c d) y z v → Reads (try_stmt (stmt n nested_item) (pattern n)) k x c d
+  try_reads : (y z v : Tree) (m i : Place) (k : Code) (x : Tree) (c d : Place) → ReadsBlock (ReadsStmt n) k y (after c) m → SmallCatchRule (ReadsStmt n) (ReadsPat n) k z m i
+      → SmallFinallyRule (ReadsStmt n) k v i d → is_absent z && is_absent v ≡ false → x ≡ tree.try (spanned c d) y z v → Reads (try_stmt (stmt n nested_item) (pattern n)) k x c d
   unfolding try_stmt handled
   try_reads y z v m i k x c d r s t b e w f h =
       let a = f ++ walk (env_of k w.labels) y in
@@ -404,7 +404,7 @@ module _ (n : ℕ) (below : Below n) (reads : (at : Position) (k : Code) (x : Tr
 
   -- ---- `for`
 
-  part_reads : (j : TokenKind) → opens j ≡ false → is_error j ≡ false → (k : Code) (x : Tree) (c d : Place) → PartRule (ReadsClass n) k x c d → kind_at d ≡ j → Reads (head_part j (expr n expression)) k x c d
+  part_reads : (j : TokenKind) → opens j ≡ false → is_error j ≡ false → (k : Code) (x : Tree) (c d : Place) → SmallPartRule (ReadsClass n) k x c d → kind_at d ≡ j → Reads (head_part j (expr n expression)) k x c d
   unfolding head_part
   part_reads j o i k x c d (no_part_rule b e) z w f h = rw (seen c j (ap kind_at (sym b) ∙ z), e, b, append-nil f, append-nil h.held_back, or_nil h.found_module_item) refl
   part_reads j o i k x c d (part_rule r) z w f h = rw (unopened c j (expr_opens n (with_in k) x c d r) o, expr_reads n below expression (with_in k) x c d r w f h (inr (ap is_error z ∙ i))) refl
@@ -429,8 +429,8 @@ module _ (n : ℕ) (below : Below n) (reads : (at : Position) (k : Code) (x : Tr
   await_reads v k c l w f h (no_await e i) o = (None, rw (no_await_here c (ap kind_at (sym i) ∙ o), i) refl, sym e)
   await_reads v k c l w f h (await_word e i g) o = (Some (span_at c), rw (seen c kind.Await i, g) refl, sym e)
 
-  for_reads : (a b g y : Tree) (l m i : Place) (k : Code) (x : Tree) (c d : Place) → kind_at (after c) ≡ kind.LParen → InitRule (ReadsClass n) (ReadsPat n) k a (after (after c)) l
-      → kind_at l ≡ kind.Semi → PartRule (ReadsClass n) k b (after l) m → kind_at m ≡ kind.Semi → PartRule (ReadsClass n) k g (after m) i → kind_at i ≡ kind.RParen
+  for_reads : (a b g y : Tree) (l m i : Place) (k : Code) (x : Tree) (c d : Place) → kind_at (after c) ≡ kind.LParen → SmallInitRule (ReadsClass n) (ReadsPat n) k a (after (after c)) l
+      → kind_at l ≡ kind.Semi → SmallPartRule (ReadsClass n) k b (after l) m → kind_at m ≡ kind.Semi → SmallPartRule (ReadsClass n) k g (after m) i → kind_at i ≡ kind.RParen
       → ReadsStmt n (in_loop k) sub_statement y (after i) d → x ≡ tree.for (spanned c d) a b g y
       → ReadsCalm (for_stmt (stmt n sub_statement) (expr n) (pattern n) (head_cover n)) k x c d
   unfolding for_stmt for_behind for_parts await_here spanned
@@ -462,7 +462,7 @@ module _ (n : ℕ) (below : Below n) (reads : (at : Position) (k : Code) (x : Tr
 
   -- the faults of what is declared stand before `in` or `of`, which is no error token
   for_in_reads : (a b y : Tree) (m i : Place) (k : Code) (x : Tree) (c d : Place) → kind_at (after c) ≡ kind.LParen
-      → LeftRule (ReadsClass n) (ReadsPat n) (ReadsTarget n) k a (after (after c)) m → kind_at m ≡ kind.In → ReadsClass n expression (with_in k) b (after m) i → kind_at i ≡ kind.RParen
+      → SmallLeftRule (ReadsClass n) (ReadsPat n) (ReadsTarget n) k a (after (after c)) m → kind_at m ≡ kind.In → ReadsClass n expression (with_in k) b (after m) i → kind_at i ≡ kind.RParen
       → ReadsStmt n (in_loop k) sub_statement y (after i) d → x ≡ tree.for_in (spanned c d) a b y
       → ReadsCalm (for_stmt (stmt n sub_statement) (expr n) (pattern n) (head_cover n)) k x c d
   unfolding for_stmt for_behind for_in misdeclared await_here spanned
@@ -490,7 +490,7 @@ module _ (n : ℕ) (below : Below n) (reads : (at : Position) (k : Code) (x : Tr
       ) (simp (append_assoc, or_assoc) refl)
 
   for_of_reads : (v : Bool) (a b y : Tree) (p m i : Place) (k : Code) (x : Tree) (c d : Place) → AwaitWord v (after c) p → kind_at p ≡ kind.LParen
-      → OfLeftRule (ReadsClass n) (ReadsPat n) (ReadsTarget n) k v a (after p) m → word_at (codes "of") m ≡ true
+      → SmallOfLeftRule (ReadsClass n) (ReadsPat n) (ReadsTarget n) k v a (after p) m → word_at (codes "of") m ≡ true
       → ReadsClass n assignment (with_in k) b (after m) i → kind_at i ≡ kind.RParen → ReadsStmt n (in_loop k) sub_statement y (after i) d → x ≡ tree.for_of (spanned c d) v a b y
       → ReadsCalm (for_stmt (stmt n sub_statement) (expr n) (pattern n) (head_cover n)) k x c d
   unfolding for_stmt for_behind for_of misdeclared spanned
@@ -585,7 +585,7 @@ module _ (n : ℕ) (below : Below n) (reads : (at : Position) (k : Code) (x : Tr
   unfolding spanned
   closed_reads t y z x k c d w f h o e g = rw (g, e) (simp (append_assoc, or_assoc) refl)
 
-  if_begins : {k : Code} {x : Tree} {c d : Place} → IfRule (ReadsStmt n) (ReadsClass n) k x c d → kind_at c ≡ kind.If
+  if_begins : {k : Code} {x : Tree} {c d : Place} → SmallIfRule (ReadsStmt n) (ReadsClass n) k x c d → kind_at c ≡ kind.If
   if_begins (if_rule t y z m i g r s o e) = g
 
   -- the parts of an `if` that end where it does
@@ -598,7 +598,7 @@ module _ (n : ℕ) (below : Below n) (reads : (at : Position) (k : Code) (x : Tr
       let g = calm_first d (walk (env_of k l) t ++ walk (env_of k l) y) (walk (env_of k l) z) (walk (env_of k l) x) (ap (walk (env_of k l)) e) q in
       subst (λ v. Calm k l y v) b (calm_last d (walk (env_of k l) t) (walk (env_of k l) y) (walk (env_of k l) t ++ walk (env_of k l) y) refl g)
 
-  if_reads : {k : Code} {x : Tree} {c d : Place} → IfRule (ReadsStmt n) (ReadsClass n) k x c d → ReadsCalm (if_stmt (stmt n sub_statement) (expr n expression)) k x c d
+  if_reads : {k : Code} {x : Tree} {c d : Place} → SmallIfRule (ReadsStmt n) (ReadsClass n) k x c d → ReadsCalm (if_stmt (stmt n sub_statement) (expr n expression)) k x c d
   unfolding alternative goes_on
   if_reads {k = k} {x = x} {c = c} {d = d} (if_rule t y z m i g r s (no_else_rule a b j) e) w f h q =
       if_last n (st c k w f h) _ (linked k w f h t y i) (link_reads t y m k c i w f h r s (unelsed k w.labels c i d e b q)) (rw a refl)
@@ -625,7 +625,7 @@ module _ (n : ℕ) (below : Below n) (reads : (at : Position) (k : Code) (x : Tr
   function_statement at k x c d m a (async_word i j l o) e reads w f h q = let v = async_stands c m j l o e in rw (async_kind c v, v) (reads w f h q)
 
   -- `await using` is read before
-  by_rules : (at : Position) (k : Code) (x : Tree) (c d : Place) → is_await_using_declaration at k c ≡ false → StmtRule (ReadsStmt n) (ReadsClass n) (ReadsPat n) (ReadsTarget n) (ReadsParams n) (ReadsNamedClass n) k at x c d
+  by_rules : (at : Position) (k : Code) (x : Tree) (c d : Place) → is_await_using_declaration at k c ≡ false → SmallStmtRule (ReadsStmt n) (ReadsClass n) (ReadsPat n) (ReadsTarget n) (ReadsParams n) (ReadsNamedClass n) k at x c d
       → ReadsCalm (stmt_level (stmt n) (expr n) (pattern n) (head_cover n) (parameters n) (member n) (operators n) at) k x c d
   unfolding stmt_level other_stmt const_stmt let_stmt expr_stmt_at import_stmt_at function_stmt class_stmt async_or_other using_or_other
   by_rules at k x c d n' (class_rule name y a r b e) w f h q = rw (r.0.is_class, a) (class_decl_reads n below members k x c d name y r b e w f h)
@@ -639,7 +639,7 @@ module _ (n : ℕ) (below : Below n) (reads : (at : Position) (k : Code) (x : Tr
   by_rules at k x c d n' (using_rule v xs m p a (no_await l i) t b r e s g) w f h q =
       let b' = subst (λ z. is_using_declaration k z ≡ true) i b in
       rw (using_stands k c b', using_no_function k c b', placed at v l a, b')
-      (using_reads n below xs p k x c d (subst (λ z. ReadsSeparated (DeclaratorRule (ReadsClass n assignment) (ReadsPat n) (with_in k) false decl.Var) xs (after z) p) i r) e s (g ∙ ap (λ z. tree.using (spanned c d) z (listed xs)) l) w f h q)
+      (using_reads n below xs p k x c d (subst (λ z. ReadsSeparated (SmallDeclaratorRule (ReadsClass n assignment) (ReadsPat n) (with_in k) false decl.Var) xs (after z) p) i r) e s (g ∙ ap (λ z. tree.using (spanned c d) z (listed xs)) l) w f h q)
   by_rules at k x c d n' (using_rule v xs m p a (await_word l i j) t b r e s g) w f h q =
       absurd (true≢false (sym (declares_so at k c m v a l i j t b) ∙ n'))
   by_rules at k x c d n' (if_statement_rule r) w f h q = rw (if_begins r) (if_reads r w f h q)
@@ -667,28 +667,6 @@ module _ (n : ℕ) (below : Below n) (reads : (at : Position) (k : Code) (x : Tr
       (and_no at.include_decl _ (no_using_here n k (with_in k) e c m d r.0 g))
       ∙ rw (no_label_here n below k w.labels e c m r l (statement_calm k w.labels e m x d (spanned c d) g j q), b) (expr_stmt_reads n below e m k x c d r l i g j w f h q)
   by_rules at k x c d n' (import_rule e m b r g j) w f h q = rw (import_stands c b, b) (import_stmt_reads n below e m k x c d b r g j w f h q)
-
--- ---- the parameter of a setter
-
--- a pattern is no parameter that holds one
-pattern_plain : {In : Goal → Type 0} {purpose : Purpose} (k : Code) (p : Tree) (c d : Place) → PatternRule In purpose k p c d → is_plain_param p ≡ is_binding_name p
-pattern_plain k p c d (patterns.binding_name_rule text s i r e) = ap is_plain_param e ∙ ap is_binding_name (sym e)
-pattern_plain k p c d (patterns.target_name_rule text s i a r e) = ap is_plain_param e ∙ ap is_binding_name (sym e)
-pattern_plain k p c d (patterns.target_rule y i r t u e) = ap is_plain_param e ∙ ap is_binding_name (sym e)
-pattern_plain k p c d (patterns.array_rule xs m i r j g e) = ap is_plain_param e ∙ ap is_binding_name (sym e)
-pattern_plain k p c d (patterns.object_rule xs m i r j g e) = ap is_plain_param e ∙ ap is_binding_name (sym e)
-
-element_plain : {In : Goal → Type 0} {purpose : Purpose} (k : Code) (p : Tree) (c d : Place) → PatternElementRule In purpose k p c d → is_plain_param p ≡ is_binding_name p
-element_plain k p c d (patterns.bare_rule r e) = pattern_plain k p c d r
-element_plain k p c d (patterns.initialized_rule y z m r i v e) = ap is_plain_param e ∙ ap is_binding_name (sym e)
-
-item_plain : (n : ℕ) (k : Code) (p : Tree) (c d : Place) → PatternItemRule (language.Reads n) binding k p c d → is_plain_param p ≡ is_binding_name p
-item_plain zero k p c d (formal.element_rule r) = absurd r
-item_plain (suc n) k p c d (formal.element_rule r) = element_plain k p c d r
-item_plain n k p c d (formal.rest_rule y o r e) = ap is_plain_param e ∙ ap is_binding_name (sym e)
-
-parameter_plain : {k : Code} {c d : Place} (n : ℕ) (p : Tree) → ParametersRule (language.Reads n) k (p ∷ []) c d → is_plain_param p ≡ is_binding_name p
-parameter_plain {k = k} {c = c} n p r = let (m, one, l) = r.reads_patterns in item_plain n (with_in k) p (after c) m one
 
 -- what is tested in module code
 in_module : (m b : Bool) → (not m || b) ≡ true → m ≡ true → b ≡ true

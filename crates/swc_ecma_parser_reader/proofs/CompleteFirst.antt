@@ -13,9 +13,12 @@ use Rattle.swc_ecma_parser_grammar.specs.Looks.{kind_at, same_kind, spanned, bre
 use Rattle.swc_ecma_parser_grammar.specs.Names.{Code}
 use Rattle.swc_ecma_parser_grammar.specs.Follows.{no_await, await_word, AsyncWord, not_async, async_word}
 use Rattle.swc_ecma_parser_grammar.specs.Variables.{begins_variables}
-use Rattle.swc_ecma_parser_grammar.specs.Using.{is_using_declaration, is_await_using_declaration}
-use Rattle.swc_ecma_parser_grammar.specs.Reads.{with_in, DeclaratorRule, ReadsSeparated, IfRule, if_rule, StmtRule, class_rule, function_rule, block_rule, empty_rule, debugger_rule, variables_rule, using_rule, if_statement_rule, switch_rule, break_rule, continue_rule, return_rule, for_rule, for_in_rule, for_of_rule, labeled_rule, throw_rule, try_rule, with_rule, while_rule, do_while_rule, expr_rule, import_rule}
-use Rattle.swc_ecma_parser_grammar.specs.ReadsSupported.{ReadsClass, ReadsPat, ReadsTarget, ReadsStmt, ReadsParams, ReadsNamedClass}
+use Rattle.swc_ecma_parser_grammar.specs.scaffold.Using.{is_await_using_declaration}
+use Rattle.swc_ecma_parser_grammar.specs.scaffold.Reads.{SmallDeclaratorRule, SmallIfRule, if_rule, SmallStmtRule, class_rule, function_rule, block_rule, empty_rule, debugger_rule, variables_rule, using_rule, if_statement_rule, switch_rule, break_rule, continue_rule, return_rule, for_rule, for_in_rule, for_of_rule, labeled_rule, throw_rule, try_rule, with_rule, while_rule, do_while_rule, expr_rule, import_rule}
+use Rattle.swc_ecma_parser_grammar.specs.scaffold.ReadsSupported.{ReadsClass, ReadsPat, ReadsTarget, ReadsStmt, ReadsParams, ReadsNamedClass}
+use Rattle.swc_ecma_parser_grammar.specs.language.Lists.{ReadsSeparated}
+use Rattle.swc_ecma_parser_grammar.specs.language.Contexts.{with_in}
+use Rattle.swc_ecma_parser_grammar.specs.language.Declarations.{is_using_declaration}
 use Rattle.swc_ecma_parser_grammar.specs.language.Goals.{assignment}
 use Rattle.swc_ecma_parser_grammar.proofs.StatementBegins.{word_place}
 use Rattle.swc_ecma_parser_grammar.proofs.Using.{using_stands}
@@ -73,7 +76,7 @@ pub declares_so : (at : Position) (k : Code) (c m : Place) (v : Bool) → at.inc
     → is_await_using_declaration at k c ≡ true
 declares_so at k c m v a l i j o b = behind_await_declares at k c (anywhere at v a) i (ap breaks_at (sym j) ∙ ap (λ t. t && breaks_at m) (sym l) ∙ o) (subst (λ z. is_using_declaration k z ≡ true) j b)
 
-if_kind : (n : ℕ) {k : Code} {x : Tree} {c d : Place} → IfRule (ReadsStmt n) (ReadsClass n) k x c d → kind_at c ≡ kind.If
+if_kind : (n : ℕ) {k : Code} {x : Tree} {c d : Place} → SmallIfRule (ReadsStmt n) (ReadsClass n) k x c d → kind_at c ≡ kind.If
 if_kind n (if_rule t y z m i g r s o e) = g
 
 module _ (n : ℕ) (below : Below n) where
@@ -87,11 +90,11 @@ module _ (n : ℕ) (below : Below n) where
   AwaitUsing k x c d = ReadsCalm (await_using_stmt (declarators (expr n) (pattern n) false decl.Var)) k x c d × (nests n ≡ true)
 
   pub first_reads : (at : Position) (k : Code) (x : Tree) (c d : Place) → kind_at c ≡ kind.Await → is_using_declaration k (after c) ≡ true
-      → StmtRule (ReadsStmt n) (ReadsClass n) (ReadsPat n) (ReadsTarget n) (ReadsParams n) (ReadsNamedClass n) k at x c d → AwaitUsing k x c d
+      → SmallStmtRule (ReadsStmt n) (ReadsClass n) (ReadsPat n) (ReadsTarget n) (ReadsParams n) (ReadsNamedClass n) k at x c d → AwaitUsing k x c d
   unfolding same_kind
   first_reads at k x c d o u (using_rule v xs m n' a (no_await l i) t b r e s g) = apart c kind.Ident (sym (ap kind_at i) ∙ using_stands k m b) o refl
   first_reads at k x c d o u (using_rule v xs m n' a (await_word l i j) t b r e s g) =
-      let y = subst (λ z. ReadsSeparated (DeclaratorRule (ReadsClass n assignment) (ReadsPat n) (with_in k) false decl.Var) xs (after z) n') j r in
+      let y = subst (λ z. ReadsSeparated (SmallDeclaratorRule (ReadsClass n assignment) (ReadsPat n) (with_in k) false decl.Var) xs (after z) n') j r in
       (λ w f h q. await_using_reads n below xs n' k x c d y e s (g ∙ ap (λ z. tree.using (spanned c d) z (listed xs)) l) w f h q, declarators_nest n (with_in k) xs (after (after c)) n' y)
   first_reads at k x c d o u (class_rule name y a r b e) = apart c kind.Class r.0.is_class o refl
   first_reads at k x c d o u (function_rule a r) = function_apart c r.word r.reads_async r.is_function o
@@ -117,7 +120,7 @@ module _ (n : ℕ) (below : Below n) where
   first_reads at k x c d o u (import_rule e m b r g j) = apart c kind.Import (import_stands c b) o refl
 
   -- so a statement is read, where any other is
-  pub plain_reads : (at : Position) (k : Code) (x : Tree) (c d : Place) → StmtRule (ReadsStmt n) (ReadsClass n) (ReadsPat n) (ReadsTarget n) (ReadsParams n) (ReadsNamedClass n) k at x c d
+  pub plain_reads : (at : Position) (k : Code) (x : Tree) (c d : Place) → SmallStmtRule (ReadsStmt n) (ReadsClass n) (ReadsPat n) (ReadsTarget n) (ReadsParams n) (ReadsNamedClass n) k at x c d
       → (is_await_using_declaration at k c ≡ false → ReadsCalm (rest at) k x c d) → ReadsCalm (plain_stmt n at) k x c d
   plain_reads at k x c d r other w f h q = by_test (is_await_using_declaration at k c) refl
     where

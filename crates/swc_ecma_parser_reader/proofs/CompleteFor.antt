@@ -20,14 +20,15 @@ use Rattle.swc_ecma_parser_model.specs.Tree.{Tree, Text, listed, trees}
 use Rattle.swc_ecma_parser_model.specs.Forms.{is_binding_name}
 use Rattle.swc_ecma_parser_grammar.specs.Looks.{kind_at, breaks_at, sees, same_kind, spanned, span_at}
 use Rattle.swc_ecma_parser_grammar.specs.Names.{Code, identifier_at}
-use Rattle.swc_ecma_parser_grammar.specs.Follows.{word_at, token_is, may_begin_head, is_bare_async, is_async_of, begins_async_of, is_async_function, is_let_declaration}
+use Rattle.swc_ecma_parser_grammar.specs.Follows.{word_at, token_is, may_begin_head, is_bare_async, is_async_of, is_async_function, is_let_declaration}
 use Rattle.swc_ecma_parser_grammar.specs.Variables.{begins_variables}
-use Rattle.swc_ecma_parser_grammar.specs.Using.{may_declare_using, awaits_using, declares_behind, stands_in_head}
-use Rattle.swc_ecma_parser_grammar.specs.Reads.{with_in, head_code, HeadVariables, InitRule, no_init_rule, init_variables_rule, init_expression_rule, LeftRule, declared_rule, left_target_rule, OfLeftRule, of_left_rule, of_using_rule, of_await_rule, DeclaratorRule, ReadsSeparated}
-use Rattle.swc_ecma_parser_grammar.specs.ReadsSupported.{ReadsClass, ReadsPat, ReadsTarget}
+use Rattle.swc_ecma_parser_grammar.specs.scaffold.Using.{may_declare_using, awaits_using, declares_behind, stands_in_head}
+use Rattle.swc_ecma_parser_grammar.specs.scaffold.Reads.{HeadVariables, SmallInitRule, no_init_rule, init_variables_rule, init_expression_rule, SmallLeftRule, declared_rule, left_target_rule, SmallOfLeftRule, of_left_rule, of_using_rule, of_await_rule, SmallDeclaratorRule}
+use Rattle.swc_ecma_parser_grammar.specs.scaffold.ReadsSupported.{ReadsClass, ReadsPat, ReadsTarget}
 use Rattle.swc_ecma_parser_grammar.specs.Walk.{env_of, walk, walks}
+use Rattle.swc_ecma_parser_grammar.specs.language.Lists.{ReadsSeparated}
 use Rattle.swc_ecma_parser_grammar.specs.language.Begins.{begins_expression, begins_unary}
-use Rattle.swc_ecma_parser_grammar.specs.language.Contexts.{without_in}
+use Rattle.swc_ecma_parser_grammar.specs.language.Contexts.{without_in, with_in, head_code}
 use Rattle.swc_ecma_parser_grammar.specs.language.Goals.{Class, expression, assignment, assigning, pattern_goal}
 use Rattle.swc_ecma_parser_grammar.specs.language.Parts.{ReadsName}
 use Rattle.swc_ecma_parser_grammar.specs.language.Patterns.{binding_name_rule, target_name_rule, target_rule, array_rule, object_rule}
@@ -37,6 +38,7 @@ use Rattle.swc_ecma_parser_grammar.proofs.StatementBegins.{word_place}
 use Rattle.swc_ecma_parser_grammar.proofs.Using.{no_other, word_target, word_no_function, using_alone}
 use Rattle.swc_ecma_parser_grammar.proofs.UsingParts.{target_bound, using_read, declares_in_head, bound_stands}
 use Rattle.swc_ecma_parser_grammar.proofs.AwaitHeads.{awaited_words, declares_so, undeclared_unnamed, undeclared_of}
+use Rattle.swc_ecma_parser_reader.specs.Words.{begins_async_of}
 use Rattle.swc_ecma_parser_reader.specs.Notes.{Notes, no_notes, ◌⊕◌, notes_of, all_notes_of}
 use Rattle.swc_ecma_parser_reader.specs.State.{Scope, State, Outcome, Reader, coded, flagged, loop}
 use Rattle.swc_ecma_parser_reader.specs.Expressions.{Cover}
@@ -251,7 +253,7 @@ module _ (inner_expr : Class → Reader Tree) (inner_pat : Reader Tree) (inner_c
 module _ (n : ℕ) (below : Below n) where
   -- where no error token stands behind them, declarators and an expression are read
   declarators_settled : (word : VarDeclKind) (xs : List Tree) (k : Code) (c d : Place) (w : Scope) (f : List Fault) (h : Notes)
-      → ReadsSeparated (DeclaratorRule (ReadsClass n assignment) (ReadsPat n) k true word) xs c d → is_error (kind_at d) ≡ false
+      → ReadsSeparated (SmallDeclaratorRule (ReadsClass n assignment) (ReadsPat n) k true word) xs c d → is_error (kind_at d) ≡ false
       → loop (declarators_turn (expr n) (pattern n) true word) [] (st c k w f h) ≡ Ok (xs, st d k w (f ++ walks (env_of k w.labels) false (trees xs)) (h ⊕ all_notes_of (trees xs)))
   declarators_settled word xs k c d w f h r q = many_declarators n below true word xs [] k c d w f h r (inr q)
 
@@ -263,7 +265,7 @@ module _ (n : ℕ) (below : Below n) where
   head_awaited k x c d r a w f h = below.heads k x c d r w f h (inl (awaited_walk x k w.labels a))
 
   declared_reads : (word : VarDeclKind) (xs : List Tree) (k : Code) (x : Tree) (c d : Place) (w : Scope) (f : List Fault) (h : Notes)
-      → ReadsSeparated (DeclaratorRule (ReadsClass n assignment) (ReadsPat n) (head_code word k) true word) xs (after c) d → x ≡ tree.var (spanned c d) word (listed xs) → is_error (kind_at d) ≡ false
+      → ReadsSeparated (SmallDeclaratorRule (ReadsClass n assignment) (ReadsPat n) (head_code word k) true word) xs (after c) d → x ≡ tree.var (spanned c d) word (listed xs) → is_error (kind_at d) ≡ false
       → head_variables (expr n) (pattern n) word (st c k w f h) ≡ Ok (Variables x, st d k w (f ++ walk (env_of k w.labels) x) (h ⊕ notes_of x))
   unfolding head_variables declarators spanned
   declared_reads decl.Var xs k x c d w f h r e q = rw (declarators_settled decl.Var xs (without_in k) (after c) d w f h r q, e) refl
@@ -299,7 +301,7 @@ module _ (n : ℕ) (below : Below n) where
         is = head_stays false k c d w f (walk (env_of (without_in k) w.labels) x) h (notes_of x) a u refl g.value g.is o ∙ rw g.is refl;
       }
 
-  pub opening_reads_init : (k : Code) (x : Tree) (c d : Place) → InitRule (ReadsClass n) (ReadsPat n) k x c d → kind_at d ≡ kind.Semi → ReadsAs (AsInit x) (opening (expr n) (pattern n) (head_cover n) false) k x c d
+  pub opening_reads_init : (k : Code) (x : Tree) (c d : Place) → SmallInitRule (ReadsClass n) (ReadsPat n) k x c d → kind_at d ≡ kind.Semi → ReadsAs (AsInit x) (opening (expr n) (pattern n) (head_cover n) false) k x c d
   unfolding opening
   opening_reads_init k x c d (no_init_rule a b e) z w f h =
       record { value = Nothing; holds = λ s. rw e refl; is = rw (seen c kind.Semi a, e, b, append-nil f, append-nil h.held_back, or_nil h.found_module_item) refl }
@@ -331,7 +333,7 @@ module _ (n : ℕ) (below : Below n) where
       let e = (word_target k.flags c (word_place (codes "using") c u) (word_no_function k c u i) i n (without_in k) x d r.0).0 in
       true≢false (sym (o (ap (identifier_at k.flags) e ∙ i)) ∙ ap (word_at (codes "of")) e ∙ b))
 
-  pub opening_reads_in : (k : Code) (x : Tree) (c d : Place) → LeftRule (ReadsClass n) (ReadsPat n) (ReadsTarget n) k x c d → kind_at d ≡ kind.In
+  pub opening_reads_in : (k : Code) (x : Tree) (c d : Place) → SmallLeftRule (ReadsClass n) (ReadsPat n) (ReadsTarget n) k x c d → kind_at d ≡ kind.In
       → ReadsAs (AsLeftSide x) (opening (expr n) (pattern n) (head_cover n) false) k x c d
   opening_reads_in k x c d (declared_rule r) e w f h = record { value = Variables x; holds = λ s. refl; is = head_variables_read false k x c d w f h r (ap is_error e) }
   opening_reads_in k x c d (left_target_rule a r) e w f h =
@@ -435,7 +437,7 @@ module _ (n : ℕ) (below : Below n) where
       (e ∙ ap (λ p. tree.using (spanned c d) true (listed (tree.declarator (spanned m d) p tree.absent ∷ []))) z.is) o
 
   -- behind it `of` stands, and no `=>` behind that
-  pub opening_reads_of : (v : Bool) (k : Code) (x : Tree) (c d : Place) → OfLeftRule (ReadsClass n) (ReadsPat n) (ReadsTarget n) k v x c d → word_at (codes "of") d ≡ true → sees kind.Arrow (after d) ≡ false
+  pub opening_reads_of : (v : Bool) (k : Code) (x : Tree) (c d : Place) → SmallOfLeftRule (ReadsClass n) (ReadsPat n) (ReadsTarget n) k v x c d → word_at (codes "of") d ≡ true → sees kind.Arrow (after d) ≡ false
       → ReadsAs (AsLeftSide x) (opening (expr n) (pattern n) (head_cover n) v) k x c d
   opening_reads_of v k x c d (of_left_rule (declared_rule r) i) o a w f h = record { value = Variables x; holds = λ s. refl; is = head_variables_read v k x c d w f h r (ap is_error (word_place (codes "of") d o)) }
   opening_reads_of v k x c d (of_left_rule (left_target_rule b r) i) o a w f h = by_test (v && begins_async_of c) refl

@@ -35,10 +35,14 @@ use Rattle.swc_ecma_parser_model.specs.Forms.{is_ident, is_ident_named, span_of}
 use Rattle.swc_ecma_parser_grammar.specs.Looks.{kind_at, breaks_at, sees, same_kind, spanned}
 use Rattle.swc_ecma_parser_grammar.specs.Ends.{Ends, by_semicolon, by_insertion, OptionalEnds, by_a_semicolon, by_nothing}
 use Rattle.swc_ecma_parser_grammar.specs.Follows.{begins_import_expression}
-use Rattle.swc_ecma_parser_grammar.specs.Reads.{with_in, in_strict, ReadsToken, DeclaratorRule, plain_rule, initialized_rule, ReadsSeparated, directed, directs_on, ReadsItems, TargetRule, no_target_rule, target_rule, OperandRule, no_operand_rule, operand_rule, ReadsHead}
-use Rattle.swc_ecma_parser_grammar.specs.ReadsSupported.{ReadsClass, ReadsPat}
+use Rattle.swc_ecma_parser_grammar.specs.scaffold.Reads.{SmallDeclaratorRule, plain_rule, initialized_rule, ReadsItems, SmallTargetRule, no_target_rule, target_rule, SmallReturnedRule, no_operand_rule, operand_rule, ReadsHead}
+use Rattle.swc_ecma_parser_grammar.specs.scaffold.ReadsSupported.{ReadsClass, ReadsPat}
+use Rattle.swc_ecma_parser_grammar.specs.language.Items.{directed, directs_on}
+use Rattle.swc_ecma_parser_grammar.specs.language.Lists.{ReadsSeparated}
+use Rattle.swc_ecma_parser_grammar.specs.language.Parts.{ReadsToken}
+use Rattle.swc_ecma_parser_grammar.specs.language.Contexts.{with_in, in_strict}
 use Rattle.swc_ecma_parser_grammar.specs.language.Goals.{expression, assignment}
-use Rattle.swc_ecma_parser_grammar.specs.Entries.{ReadsShebang, some_shebang, no_shebang}
+use Rattle.swc_ecma_parser_grammar.specs.scaffold.Entries.{ReadsShebang, some_shebang, no_shebang}
 use Rattle.swc_ecma_parser_grammar.specs.Notes.{notes, statement_note, as_note, with_note}
 use Rattle.swc_ecma_parser_grammar.specs.language.Noted.{has_meta}
 use Rattle.swc_ecma_parser_grammar.specs.Walk as walks_of
@@ -60,7 +64,7 @@ use Rattle.swc_ecma_parser_grammar.proofs.Naming.{name_is_free}
 use Rattle.swc_ecma_parser_reader.proofs.CleanStarts.{Starts, expressions_start}
 use Rattle.swc_ecma_parser_grammar.proofs.Ended.{ends_name, ended_awaits}
 use Rattle.swc_ecma_parser_grammar.specs.language.Begins.{awaits}
-use Rattle.swc_ecma_parser_grammar.specs.Using.{using_faults}
+use Rattle.swc_ecma_parser_grammar.specs.scaffold.Using.{using_faults}
 
 -- ---- fixed tokens and ends
 
@@ -87,17 +91,17 @@ close_reads c k w f h e = rw (seen c kind.RBrace e) refl
 
 -- ---- `break`, `continue` and `return`
 
-pub target_reads : (x : Tree) (c d : Place) (k : Code) (w : Scope) (f : List Fault) (h : Notes) → TargetRule k x c d → target (st c k w f h) ≡ Ok (x, st d k w f h)
+pub target_reads : (x : Tree) (c d : Place) (k : Code) (w : Scope) (f : List Fault) (h : Notes) → SmallTargetRule k x c d → target (st c k w f h) ≡ Ok (x, st d k w f h)
 unfolding target
 target_reads x c d k w f h (no_target_rule e g i) = rw (e, g, i) refl
 target_reads x c d k w f h (target_rule v sp e r n i) = rw (e, name_reads faults.ExpectedIdent v sp c d k w f h r n, i) refl
 
 -- a label has no notes
-pub target_quiet : {k : Code} {x : Tree} {c d : Place} → TargetRule k x c d → (notes x ≡ []) × (has_meta x ≡ false)
+pub target_quiet : {k : Code} {x : Tree} {c d : Place} → SmallTargetRule k x c d → (notes x ≡ []) × (has_meta x ≡ false)
 target_quiet (no_target_rule e g i) = (ap notes i, ap has_meta i)
 target_quiet (target_rule v sp e r n i) = (ap notes i, ap has_meta i)
 
-pub break_reads : (y : Tree) (m : Place) (k : Code) (x : Tree) (c d : Place) → TargetRule k y (after c) m → Ends m d → x ≡ tree.break (spanned c d) y → ReadsCalm break_stmt k x c d
+pub break_reads : (y : Tree) (m : Place) (k : Code) (x : Tree) (c d : Place) → SmallTargetRule k y (after c) m → Ends m d → x ≡ tree.break (spanned c d) y → ReadsCalm break_stmt k x c d
 unfolding break_stmt unbroken spanned
 break_reads y m k x c d r g e w f h q =
     let l = break_faults k.flags.is_break_allowed w.labels y (spanned c d) in
@@ -112,7 +116,7 @@ break_reads y m k x c d r g e w f h q =
       or_nil h.found_module_item,
     ) refl
 
-pub continue_reads : (y : Tree) (m : Place) (k : Code) (x : Tree) (c d : Place) → TargetRule k y (after c) m → Ends m d → x ≡ tree.continue (spanned c d) y → ReadsCalm continue_stmt k x c d
+pub continue_reads : (y : Tree) (m : Place) (k : Code) (x : Tree) (c d : Place) → SmallTargetRule k y (after c) m → Ends m d → x ≡ tree.continue (spanned c d) y → ReadsCalm continue_stmt k x c d
 unfolding continue_stmt uncontinued spanned
 continue_reads y m k x c d r g e w f h q =
     let l = continue_faults k.flags.is_continue_allowed w.labels y (spanned c d) in
@@ -127,12 +131,12 @@ continue_reads y m k x c d r g e w f h q =
       or_nil h.found_module_item,
     ) refl
 
-pub operand_reads : (n : ℕ) (below : Below n) (k : Code) (x : Tree) (c d : Place) → OperandRule (ReadsClass n) k x c d → ReadsCalm (operand (expr n expression)) k x c d
+pub operand_reads : (n : ℕ) (below : Below n) (k : Code) (x : Tree) (c d : Place) → SmallReturnedRule (ReadsClass n) k x c d → ReadsCalm (operand (expr n expression)) k x c d
 unfolding operand
 operand_reads n below k x c d (no_operand_rule e g i) w f h q = rw (e, i, g, append-nil f, append-nil h.held_back, or_nil h.found_module_item) refl
 operand_reads n below k x c d (operand_rule e r) w f h q = rw (e, expr_reads n below expression (with_in k) x c d r w f h q) refl
 
-pub return_reads : (n : ℕ) (below : Below n) (y : Tree) (m : Place) (k : Code) (x : Tree) (c d : Place) → OperandRule (ReadsClass n) k y (after c) m → Ends m d → x ≡ tree.return (spanned c d) y
+pub return_reads : (n : ℕ) (below : Below n) (y : Tree) (m : Place) (k : Code) (x : Tree) (c d : Place) → SmallReturnedRule (ReadsClass n) k y (after c) m → Ends m d → x ≡ tree.return (spanned c d) y
     → ReadsCalm (return_stmt (expr n expression)) k x c d
 unfolding return_stmt returned misplaced spanned
 return_reads n below y m k x c d r g e w f h q =
@@ -161,7 +165,7 @@ debugger_reads k x c d e g w f h = rw (ends_read faults.Expected (after c) d k w
 -- ---- declarators
 
 module _ (n : ℕ) (below : Below n) (in_head : Bool) (word : VarDeclKind) where
-  pub declarator_reads : (k : Code) (x : Tree) (c d : Place) → DeclaratorRule (ReadsClass n assignment) (ReadsPat n) k in_head word x c d
+  pub declarator_reads : (k : Code) (x : Tree) (c d : Place) → SmallDeclaratorRule (ReadsClass n assignment) (ReadsPat n) k in_head word x c d
       → ReadsCalm (declarator (expr n) (pattern n) in_head word) k x c d
   unfolding declarator initialized spanned
   declarator_reads k x c d (plain_rule p r e b g) w f h q = rw (pattern_reads n below (with_in k) p c d r w f h, e, b, g, append-nil (walk (env_of k w.labels) p), append-nil (notes p), or_nil (has_meta p)) refl
@@ -177,7 +181,7 @@ module _ (n : ℕ) (below : Below n) (in_head : Bool) (word : VarDeclKind) where
       ) refl
 
   pub many_declarators : (xs found : List Tree) (k : Code) (c d : Place) (w : Scope) (f : List Fault) (h : Notes)
-      → ReadsSeparated (DeclaratorRule (ReadsClass n assignment) (ReadsPat n) k in_head word) xs c d
+      → ReadsSeparated (SmallDeclaratorRule (ReadsClass n assignment) (ReadsPat n) k in_head word) xs c d
       → (walks (env_of k w.labels) false (trees xs) ≡ []) ⊎ (is_error (kind_at d) ≡ false)
       → loop (declarators_turn (expr n) (pattern n) in_head word) found (st c k w f h)
       ≡ Ok (found ++ xs, st d k w (f ++ walks (env_of k w.labels) false (trees xs)) (h ⊕ all_notes_of (trees xs)))
@@ -191,7 +195,7 @@ module _ (n : ℕ) (below : Below n) (in_head : Bool) (word : VarDeclKind) where
       (calm_last d (walk (env_of k w.labels) x) (walks (env_of k w.labels) false (trees (y ∷ ys))) (walks (env_of k w.labels) false (trees (x ∷ y ∷ ys))) refl q) ∙ simp (append_assoc, or_assoc) refl
 
 pub variables_reads : (n : ℕ) (below : Below n) (word : VarDeclKind) (xs : List Tree) (m : Place) (k : Code) (x : Tree) (c d : Place)
-    → ReadsSeparated (DeclaratorRule (ReadsClass n assignment) (ReadsPat n) (with_in k) false word) xs (after c) m → Ends m d
+    → ReadsSeparated (SmallDeclaratorRule (ReadsClass n assignment) (ReadsPat n) (with_in k) false word) xs (after c) m → Ends m d
     → x ≡ tree.var (spanned c d) word (listed xs) → ReadsCalm (variables (expr n) (pattern n) word) k x c d
 unfolding variables declarators
 variables_reads n below word xs m k x c d r e g w f h q =
@@ -203,7 +207,7 @@ variables_reads n below word xs m k x c d r e g w f h q =
     ) refl
 
 pub using_reads : (n : ℕ) (below : Below n) (xs : List Tree) (m : Place) (k : Code) (x : Tree) (c d : Place)
-    → ReadsSeparated (DeclaratorRule (ReadsClass n assignment) (ReadsPat n) (with_in k) false decl.Var) xs (after c) m
+    → ReadsSeparated (SmallDeclaratorRule (ReadsClass n assignment) (ReadsPat n) (with_in k) false decl.Var) xs (after c) m
     → using_faults k.setting.explicit_resource_management (spanned c m) xs ≡ [] → Ends m d → x ≡ tree.using (spanned c d) false (listed xs)
     → ReadsCalm (using_stmt (declarators (expr n) (pattern n) false decl.Var)) k x c d
 unfolding using_stmt using_from misusing declarators spanned
@@ -217,7 +221,7 @@ using_reads n below xs m k x c d r e o g w f h q =
     ) refl
 
 pub await_using_reads : (n : ℕ) (below : Below n) (xs : List Tree) (m : Place) (k : Code) (x : Tree) (c d : Place)
-    → ReadsSeparated (DeclaratorRule (ReadsClass n assignment) (ReadsPat n) (with_in k) false decl.Var) xs (after (after c)) m
+    → ReadsSeparated (SmallDeclaratorRule (ReadsClass n assignment) (ReadsPat n) (with_in k) false decl.Var) xs (after (after c)) m
     → using_faults k.setting.explicit_resource_management (spanned c m) xs ≡ [] → Ends m d → x ≡ tree.using (spanned c d) true (listed xs)
     → ReadsCalm (await_using_stmt (declarators (expr n) (pattern n) false decl.Var)) k x c d
 unfolding await_using_stmt using_from misusing declarators spanned
@@ -231,7 +235,7 @@ await_using_reads n below xs m k x c d r e o g w f h q =
     ) refl
 
 -- where a declarator is read, a part of it can be
-pub declarators_nest : (n : ℕ) (k : Code) (xs : List Tree) (c d : Place) → ReadsSeparated (DeclaratorRule (ReadsClass n assignment) (ReadsPat n) k false decl.Var) xs c d → nests n ≡ true
+pub declarators_nest : (n : ℕ) (k : Code) (xs : List Tree) (c d : Place) → ReadsSeparated (SmallDeclaratorRule (ReadsClass n assignment) (ReadsPat n) k false decl.Var) xs c d → nests n ≡ true
 declarators_nest (suc n) k xs c d r = refl
 declarators_nest zero k [] c d r = absurd r
 declarators_nest zero k (x ∷ []) c d (plain_rule p r e b g, o) = absurd r.0
@@ -269,7 +273,7 @@ pub strict_walk : (b : Bool) (k : Code) (labels : List Text) → env_of (cond b 
 strict_walk true k labels = refl
 strict_walk false k labels = refl
 
-pub directed_walk : (k : Code) (directives : Bool) (x : Tree) (labels : List Text) → env_of (directed k directives x) labels ≡ walks_of.directed (env_of k labels) directives x
+pub directed_walk : (k : Code) (directives : Bool) (x : Tree) (labels : List Text) → env_of (directed k directives x) labels ≡ walks_of.env_directed (env_of k labels) directives x
 directed_walk k directives x labels = strict_walk (directives && is_use_strict x) k labels
 
 module _ (Inner : Code → Tree → Place → Place → Type 0) (inner : Reader Tree)

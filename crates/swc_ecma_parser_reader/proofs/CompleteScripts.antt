@@ -8,10 +8,12 @@ use Rattle.swc_ecma_parser_model.specs.Tree.{Tree, trees}
 use Rattle.swc_ecma_parser_grammar.specs.declared.position.Position.{Position}
 use Rattle.swc_ecma_parser_grammar.specs.Looks.{kind_at, sees}
 use Rattle.swc_ecma_parser_grammar.specs.Names.{Code}
-use Rattle.swc_ecma_parser_grammar.specs.Reads.{directed, directs_on, top_item, ReadsItems}
-use Rattle.swc_ecma_parser_grammar.specs.ReadsSupported.{ReadsTop}
-use Rattle.swc_ecma_parser_grammar.specs.Entries.{ReadsScript, script_code, items_await, script_awaits}
+use Rattle.swc_ecma_parser_grammar.specs.scaffold.Reads.{ReadsItems}
+use Rattle.swc_ecma_parser_grammar.specs.scaffold.ReadsSupported.{ReadsTop}
+use Rattle.swc_ecma_parser_grammar.specs.scaffold.Entries.{ReadsScript, small_items_await, small_script_awaits}
 use Rattle.swc_ecma_parser_grammar.specs.Walk.{env_of, walk, walks}
+use Rattle.swc_ecma_parser_grammar.specs.language.Contexts.{script_code}
+use Rattle.swc_ecma_parser_grammar.specs.language.Items.{directed, directs_on, top_item}
 use Rattle.swc_ecma_parser_grammar.specs.language.Statements.{may_begin_at_top}
 use Rattle.swc_ecma_parser_reader.specs.Notes.{Notes, ◌⊕◌, notes_of, notes_with, all_notes_with}
 use Rattle.swc_ecma_parser_reader.specs.State.{Scope, State, Outcome, module_found, loop}
@@ -74,7 +76,7 @@ module _ (n : ℕ) (stops : Place → Bool) (begins : (k : Code) (x : Tree) (c d
 
   many_read : (xs found : List Tree) (b : Bool) (k : Code) (c d : Place) (w : Scope) (f : List Fault) (h : Notes) → directs true found ≡ b → (r : ReadsItems (Item n) k b xs c d) → stops d ≡ true
       → is_error (kind_at d) ≡ false → loop (items_turn (whole_stmt n top_item) stops true) found (st c k w f h)
-      ≡ Ok (found ++ xs, st d (code_behind k b xs) w (f ++ walks (env_of k w.labels) b (trees xs)) (h ⊕ all_notes_with (trees xs) (items_await (Item n) k b xs c d r)))
+      ≡ Ok (found ++ xs, st d (code_behind k b xs) w (f ++ walks (env_of k w.labels) b (trees xs)) (h ⊕ all_notes_with (trees xs) (small_items_await (Item n) k b xs c d r)))
   many_read [] found b k c d w f h p r e a =
       rw (append-nil found, append-nil f, append-nil h.held_back, or_nil h.found_module_item, r) (items_stop (whole_stmt n top_item) stops true found (st c k w f h) (rw (← r) e))
   many_read (x ∷ xs) found b k c d w f h p (m, r, more) e a =
@@ -87,13 +89,13 @@ module _ (n : ℕ) (stops : Place → Bool) (begins : (k : Code) (x : Tree) (c d
 
   pub tops_read : (xs : List Tree) (k : Code) (c d : Place) (w : Scope) (f : List Fault) (h : Notes) (r : ReadsItems (Item n) k true xs c d) → stops d ≡ true → is_error (kind_at d) ≡ false
       → items (whole_stmt n top_item) stops true (st c k w f h)
-      ≡ Ok (xs, st d (code_behind k true xs) w (f ++ walks (env_of k w.labels) true (trees xs)) (h ⊕ all_notes_with (trees xs) (items_await (Item n) k true xs c d r)))
+      ≡ Ok (xs, st d (code_behind k true xs) w (f ++ walks (env_of k w.labels) true (trees xs)) (h ⊕ all_notes_with (trees xs) (small_items_await (Item n) k true xs c d r)))
   unfolding items
   tops_read xs k c d w f h r e a = many_read xs [] true k c d w f h refl r e a
 
 -- ---- a script
 
-pub script_reads : (n : ℕ) (s : State) (x : Tree) (d : Place) (r : ReadsScript n s.code x s.at d) → script n s ≡ Ok (x, script_left s x d (script_awaits n s.code x s.at d r))
+pub script_reads : (n : ℕ) (s : State) (x : Tree) (d : Place) (r : ReadsScript n s.code x s.at d) → script n s ≡ Ok (x, script_left s x d (small_script_awaits n s.code x s.at d r))
 unfolding script script_body
 script_reads n s x d r =
     rw (

@@ -15,8 +15,9 @@ use Rattle.swc_ecma_parser_model.specs.declared.leaves.VarDeclKind.{VarDeclKind}
 use Rattle.swc_ecma_parser_model.specs.Tree.{Tree, Text}
 use Rattle.swc_ecma_parser_grammar.specs.Looks.{kind_at, same_kind}
 use Rattle.swc_ecma_parser_grammar.specs.Names.{Code}
-use Rattle.swc_ecma_parser_grammar.specs.Reads.{with_in, DeclaratorRule, plain_rule, initialized_rule}
-use Rattle.swc_ecma_parser_grammar.specs.ReadsSupported.{ReadsClass, ReadsPat}
+use Rattle.swc_ecma_parser_grammar.specs.scaffold.Reads.{SmallDeclaratorRule, plain_rule, initialized_rule}
+use Rattle.swc_ecma_parser_grammar.specs.scaffold.ReadsSupported.{ReadsClass, ReadsPat}
+use Rattle.swc_ecma_parser_grammar.specs.language.Contexts.{with_in}
 use Rattle.swc_ecma_parser_grammar.specs.language.Goals.{Goal, assignment, binding}
 use Rattle.swc_ecma_parser_grammar.specs.language.Parts.{ReadsName}
 use Rattle.swc_ecma_parser_grammar.specs.language.Patterns as patterns
@@ -57,7 +58,7 @@ binding_begins : (n : ℕ) (k : Code) (x : Tree) (c d : Place) → ReadsPat n k 
 binding_begins zero k x c d r = absurd r.0
 binding_begins (suc n) k x c d r = pattern_begins (language.Reads n) k x c d r.0
 
-pub declarator_begins : (n : ℕ) (k : Code) (in_head : Bool) (word : VarDeclKind) (x : Tree) (c d : Place) → DeclaratorRule (ReadsClass n assignment) (ReadsPat n) k in_head word x c d
+pub declarator_begins : (n : ℕ) (k : Code) (in_head : Bool) (word : VarDeclKind) (x : Tree) (c d : Place) → SmallDeclaratorRule (ReadsClass n assignment) (ReadsPat n) k in_head word x c d
     → ends_declarators c ≡ false
 declarator_begins n k in_head word x c d (plain_rule p r e b g) = binding_begins n (with_in k) p c d r
 declarator_begins n k in_head word x c d (initialized_rule p y m r e s g) = binding_begins n (with_in k) p c m r

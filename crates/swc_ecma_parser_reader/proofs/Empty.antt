@@ -6,7 +6,8 @@ use Rattle.swc_ecma_parser_model.specs.Tree as tree
 use Rattle.swc_ecma_parser_model.specs.Tree.{Tree, Text, listed}
 use Rattle.swc_ecma_parser_grammar.specs.Looks.{kind_at, sees, same_kind, spanned}
 use Rattle.swc_ecma_parser_grammar.specs.Names.{Code}
-use Rattle.swc_ecma_parser_grammar.specs.Entries.{script_code, ReadsScript, no_shebang}
+use Rattle.swc_ecma_parser_grammar.specs.scaffold.Entries.{ReadsScript, no_shebang}
+use Rattle.swc_ecma_parser_grammar.specs.language.Contexts.{script_code}
 use Rattle.swc_ecma_parser_reader.proofs.Notes.{notes_nil}
 use Rattle.swc_ecma_parser_reader.specs.State.{State, Outcome, coded}
 use Rattle.swc_ecma_parser_reader.specs.Reader.{at_end, shebang, script}

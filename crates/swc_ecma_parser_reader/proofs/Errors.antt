@@ -19,8 +19,7 @@ use Rattle.swc_ecma_parser_token.specs.declared.token.TokenAndSpan.{TokenAndSpan
 use Rattle.swc_ecma_parser_token.specs.Kind.{token_kind, word_kind, keyword_kind, bin_op_kind, assign_op_kind}
 use Rattle.swc_ecma_parser_input.specs.TokenSource.{is_out_of_memory}
 use Rattle.swc_ecma_parser_input.specs.Place.{Place, after, past}
-use Rattle.swc_ecma_parser_grammar.specs.Looks.{kind_at, first_kind, same_kind}
-use Rattle.swc_ecma_parser_grammar.specs.Entries.{has_error_token}
+use Rattle.swc_ecma_parser_grammar.specs.Looks.{kind_at, first_kind, same_kind, has_error_token}
 use Rattle.swc_ecma_parser_reader.specs.Entry.{error_tokens}
 use Rattle.swc_ecma_parser_reader.specs.Limits.{has_out_of_memory_token}
 

@@ -4,14 +4,16 @@ use Rattle.swc_ecma_parser_grammar.specs.Own.{misplaced_directive}
 use Rattle.swc_ecma_parser_grammar.specs.Parameters.{parameters}
 use Rattle.swc_ecma_parser_reader.proofs.Errors.{is_error, fault_here}
 use Rattle.swc_ecma_parser_reader.proofs.patterns.Falls as patterns
+use Rattle.swc_ecma_parser_reader.specs.Words.{begins_async_of}
 use Rattle.swc_ecma_parser_reader.specs.Members.{class_expr}
 use Rattle.swc_ecma_parser_reader.proofs.classes.Falls as classes
 use Rattle.swc_ecma_parser_reader.proofs.decorators.Falls.{decorated_falls}
 use Rattle.swc_ecma_parser_reader.proofs.decorators.Taking.{either_falls}
 use Rattle.swc_ecma_parser_reader.specs.State.{Scope, and_then, below, relabelled, below_label, enclosed, unlabelled, fault_at, noted, module_found, reference, State, Outcome, Reader, moved, coded, within, fault, labelled, labelled_as, name, expect, end}
-use Rattle.swc_ecma_parser_grammar.specs.language.Items.{labelled_item, sub_statement}
+use Rattle.swc_ecma_parser_grammar.specs.language.Declarations.{is_using_declaration}
+use Rattle.swc_ecma_parser_grammar.specs.language.Items.{labelled_item, sub_statement, nested_item, top_item}
 use Rattle.swc_ecma_parser_reader.specs.Reader.{begins_label, right_operand, relabels, labelled_body, labeled_stmt, other_stmt, note_with, with_stmt, await_here, unless_awaited, function_body, function_decl, function_parts, function_stmt, misdirected, function_word, async_or_other, missing_initializer, Opening, Nothing, Variables, Expression, as_init, as_left, head_variables, head_expression, opening, head_part, misdeclared, for_parts, for_in, for_of, for_behind, for_stmt, const_stmt, let_stmt, no_parameter, one_parameter, getter, setter, plain_method, arrow_block, function_by, named, own_name, function_expr, expr, cover, head_cover, pattern, element, decorated_in, member, function, empty, debugger, uninitialized, initialized, ends_declarators, missing_at, no_declarator, declarator, declarators_turn, declarators, declaration_end, variables, closes, at_end, close, items_turn, items, block_from, block, braced, note_statement, no_label, stmt_end, expr_stmt, expr_stmt_at, told, target, unbroken, break_stmt, uncontinued, continue_stmt, misplaced, after_return, operand, returned, return_stmt, optional_end, import_stmt_at, thrown, throw, head, while_stmt, do_while, Link, goes_on, condition, alternative, link_from, link, behind_link, links, if_stmt, begins_clause, closes_clause, Clauses, clause_from, default_clause, case_clause, clause, clauses_turn, clauses, switch_stmt, is_handled, handled, bound, parameter, finalizer, caught, handler, try_stmt, stmt_by, stmt_level, stmt, top_await_fault, top_await, whole_stmt, shebang_in, shebang_taken, shebang, script_body, script, misusing, using_from, using_stmt, using_or_other, Resource, Named, undeclared, using_head, named_head, await_or_expression, await_head, async_head, unfollowed, async_or_expression, head_target, begins_await_head}
-use Rattle.swc_ecma_parser_grammar.specs.language.Contexts.{without_in, named_by, in_body, in_arrow, in_parameters, in_loop, in_breakable, in_with}
+use Rattle.swc_ecma_parser_grammar.specs.language.Contexts.{without_in, named_by, in_body, in_arrow, in_parameters, in_loop, in_breakable, in_with, with_in, head_code, script_code}
 use Rattle.swc_ecma_parser_grammar.specs.Variables.{is_const, needs_no_initializer}
 use Rattle.swc_ecma_parser_model.specs.declared.leaves.VarDeclKind.{VarDeclKind}
 use Rattle.swc_ecma_parser_model.specs.declared.leaves.VarDeclKind.TheVariants as decl
@@ -27,10 +29,8 @@ use Rattle.swc_ecma_parser_model.specs.Tree.{Tree, Text}
 use Rattle.swc_ecma_parser_model.specs.Forms.{is_ident, is_binding_name, is_rest}
 use Rattle.swc_ecma_parser_grammar.specs.declared.position.Position.{Position}
 use Rattle.swc_ecma_parser_grammar.specs.Looks.{kind_at, breaks_at, sees, same_kind, span_at}
-use Rattle.swc_ecma_parser_grammar.specs.Follows.{word_at, may_begin_expression_statement, begins_import_expression, is_let_declaration, is_async_function, begins_async_of}
-use Rattle.swc_ecma_parser_grammar.specs.Reads.{with_in, head_code, nested_item, top_item}
+use Rattle.swc_ecma_parser_grammar.specs.Follows.{word_at, may_begin_expression_statement, begins_import_expression, is_let_declaration, is_async_function}
 use Rattle.swc_ecma_parser_grammar.specs.Ends.{ends_at}
-use Rattle.swc_ecma_parser_grammar.specs.Entries.{script_code}
 use Rattle.swc_ecma_parser_grammar.specs.language.Goals.{Class, expression, assignment, left_side}
 use Rattle.swc_ecma_parser_reader.specs.Expressions.{Cover}
 use Rattle.swc_ecma_parser_reader.specs.Reader as reader
@@ -45,7 +45,7 @@ use Rattle.swc_ecma_parser_reader.proofs.Strays.{stray_falls}
 use Rattle.swc_ecma_parser_reader.proofs.First.{first_falls}
 use Rattle.swc_ecma_parser_reader.proofs.expressions.Falls as exprs
 use Rattle.swc_ecma_parser_reader.proofs.expressions.Falls.{reject_falls, falls_when, expect_takes, star_falls, told_falls, FunctionsFall}
-use Rattle.swc_ecma_parser_grammar.specs.Using.{is_using_declaration, may_declare_using, awaits_using, declares_behind, stands_in_head}
+use Rattle.swc_ecma_parser_grammar.specs.scaffold.Using.{may_declare_using, awaits_using, declares_behind, stands_in_head}
 use Rattle.swc_ecma_parser_grammar.proofs.Using.{using_stands}
 use Rattle.swc_ecma_parser_grammar.proofs.Tests.{and_yes}
 

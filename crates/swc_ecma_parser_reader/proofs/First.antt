@@ -8,8 +8,9 @@ use Rattle.swc_ecma_parser_input.specs.Place.{after}
 use Rattle.swc_ecma_parser_model.specs.Tree.{Tree}
 use Rattle.swc_ecma_parser_grammar.specs.declared.position.Position.{Position}
 use Rattle.swc_ecma_parser_grammar.specs.Looks.{kind_at, breaks_at, sees, same_kind, span_at}
-use Rattle.swc_ecma_parser_grammar.specs.Reads.{with_in}
-use Rattle.swc_ecma_parser_grammar.specs.Using.{is_using_declaration, is_await_using_declaration}
+use Rattle.swc_ecma_parser_grammar.specs.language.Declarations.{is_using_declaration}
+use Rattle.swc_ecma_parser_grammar.specs.language.Contexts.{with_in}
+use Rattle.swc_ecma_parser_grammar.specs.scaffold.Using.{is_await_using_declaration}
 use Rattle.swc_ecma_parser_grammar.proofs.Tests.{and_yes}
 use Rattle.swc_ecma_parser_grammar.proofs.AwaitUsing.{declares_behind_await}
 use Rattle.swc_ecma_parser_grammar.proofs.Using.{using_stands}

@@ -15,10 +15,11 @@ use Rattle.swc_ecma_parser_grammar.specs.Looks.{breaks_at, sees, same_kind, span
 use Rattle.swc_ecma_parser_error.specs.Kind as faults
 use Rattle.swc_ecma_parser_grammar.specs.Own.{head_faults}
 use Rattle.swc_ecma_parser_grammar.specs.Names.{Code}
-use Rattle.swc_ecma_parser_grammar.specs.Follows.{word_at, token_is, first_is, begins_async_of}
+use Rattle.swc_ecma_parser_grammar.specs.Follows.{word_at, token_is, first_is}
 use Rattle.swc_ecma_parser_grammar.specs.language.Contexts.{without_in}
 use Rattle.swc_ecma_parser_grammar.specs.language.Goals.{Class}
 use Rattle.swc_ecma_parser_grammar.proofs.StatementBegins.{word_place}
+use Rattle.swc_ecma_parser_reader.specs.Words.{begins_async_of}
 use Rattle.swc_ecma_parser_reader.specs.State.{State, Outcome, Reader, and_then, moved, coded, flagged, name, too_deep, too_deep_in, too_deep_at}
 use Rattle.swc_ecma_parser_reader.specs.Methods.{FunctionForm, parameter_form}
 use Rattle.swc_ecma_parser_reader.specs.AsyncArrows.{async_named_arrow}

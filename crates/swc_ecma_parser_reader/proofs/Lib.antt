@@ -33,6 +33,7 @@ pub mod Using
 pub mod HeadWords
 pub mod AwaitWords
 pub mod Declarators
+pub mod PlainParameters
 pub mod CompleteParts
 mod CompleteFor
 mod CompleteFirst

@@ -7,6 +7,7 @@ use Rattle.swc_ecma_parser_reader.proofs.patterns.Limits as patterns
 use Rattle.swc_ecma_parser_reader.proofs.expressions.Limits as expressions
 use Rattle.swc_ecma_parser_reader.proofs.decorators.Limits.{decorated_shallow}
 use Rattle.swc_ecma_parser_reader.proofs.decorators.Taking.{either_shallow}
+use Rattle.swc_ecma_parser_reader.specs.Words.{begins_async_of}
 use Rattle.swc_ecma_parser_reader.specs.Reader as reader
 use Rattle.swc_ecma_parser_reader.specs.Methods.{MethodForm, getter_form, setter_form, method_form, property_form, star}
 use Rattle.swc_ecma_parser_reader.specs.Reader.{no_parameter, one_parameter, getter, setter, plain_method, arrow_block, function_by, named, own_name, function_expr, expr, cover, head_cover, pattern, element, decorated_in, member, operators, right_operand, function, function_word, async_or_other, begins_label, relabels, labelled_body, labeled_stmt, other_stmt, note_with, with_stmt, await_here, unless_awaited, function_decl, function_stmt, function_parts, function_body, misdirected, missing_initializer, variables, Opening, Nothing, Variables, Expression, as_init, as_left, head_variables, head_expression, opening, head_part, misdeclared, for_parts, for_in, for_of, for_behind, for_stmt, const_stmt, let_stmt, empty, debugger, initialized, ends_declarators, missing_at, no_declarator, declarator, declarators_turn, declarators, declaration_end, stray, closes, at_end, close, items_turn, items, block_from, block, braced, note_statement, no_label, stmt_end, expr_stmt, expr_stmt_at, optional_end, import_stmt_at, told, target, unbroken, break_stmt, uncontinued, continue_stmt, misplaced, after_return, operand, returned, return_stmt, thrown, throw, head, while_stmt, do_while, goes_on, condition, alternative, link_from, link, links, if_stmt, begins_clause, closes_clause, clause_from, default_clause, case_clause, clause, clauses_turn, clauses, switch_stmt, begins_at, is_handled, handled, bound, parameter, finalizer, caught, handler, try_stmt, stmt_by, stmt_level, stmt, top_await_fault, top_await, whole_stmt, shebang, script_body, script, misusing, using_from, using_stmt, using_or_other, Resource, Named, undeclared, using_head, named_head, await_or_expression, await_head, async_head, unfollowed, async_or_expression, head_target, begins_await_head}
@@ -14,15 +15,16 @@ use Rattle.swc_ecma_parser_grammar.specs.Names.{name_at}
 use Rattle.swc_ecma_parser_reader.proofs.Meets.{saw, Answers, answers_then, answers_if, loop_answers, meant}
 use Rattle.swc_ecma_parser_model.specs.Tree.{Text, Tree}
 use Rattle.swc_ecma_parser_reader.specs.State.{attempted, below, below_label, enclosed, unlabelled, module_found, reference, State, Outcome, Reader, moved, coded, within, noted, fault, fault_at, wanted, refused, says_out_of_memory, labelled, labelled_as, name, expect, end}
-use Rattle.swc_ecma_parser_grammar.specs.language.Items.{labelled_item, sub_statement}
+use Rattle.swc_ecma_parser_grammar.specs.language.Declarations.{is_using_declaration}
+use Rattle.swc_ecma_parser_grammar.specs.language.Items.{labelled_item, sub_statement, nested_item, top_item}
 use Rattle.swc_ecma_parser_reader.specs.Expressions as exprs
 use Rattle.swc_ecma_parser_model.specs.declared.leaves.VarDeclKind.{VarDeclKind}
 use Rattle.swc_ecma_parser_model.specs.declared.leaves.VarDeclKind.TheVariants as decl
 use Rattle.swc_ecma_parser_model.specs.Targets.{as_target}
 use Rattle.swc_ecma_parser_grammar.specs.Variables.{is_const, needs_no_initializer}
 use Rattle.swc_ecma_parser_grammar.specs.Own.{head_faults, misplaced_directive}
-use Rattle.swc_ecma_parser_grammar.specs.language.Contexts.{without_in, named_by, in_parameters, in_body, in_arrow, in_loop, in_breakable, in_with}
-use Rattle.swc_ecma_parser_grammar.specs.Follows.{word_at, is_let_declaration, is_async_function, may_begin_expression_statement, begins_import_expression, begins_async_of}
+use Rattle.swc_ecma_parser_grammar.specs.language.Contexts.{without_in, named_by, in_parameters, in_body, in_arrow, in_loop, in_breakable, in_with, with_in, head_code, script_code}
+use Rattle.swc_ecma_parser_grammar.specs.Follows.{word_at, is_let_declaration, is_async_function, may_begin_expression_statement, begins_import_expression}
 use Rattle.std.proofs.Common.{◌≡◌, ◌≢◌, ℕ, zero, suc, ◌+◌, ◌*◌, ◌-◌, ◌≤◌, Bool, true, false, cond, List, [], ◌∷◌, length, Option, Some, None, Ok, Err, refl, arith, ap}
 use Rattle.std.specs.Prelude.{◌&&◌, ◌||◌, is_some, codes}
 use Rattle.swc_ecma_parser_common.specs.declared.span.Span.{Span}
@@ -35,9 +37,7 @@ use Rattle.swc_ecma_parser_model.specs.Tree as tree
 use Rattle.swc_ecma_parser_model.specs.Forms.{is_ident, is_ident_named, is_binding_name, is_rest, span_of}
 use Rattle.swc_ecma_parser_grammar.specs.declared.position.Position.{Position}
 use Rattle.swc_ecma_parser_grammar.specs.Looks.{kind_at, breaks_at, sees, span_at}
-use Rattle.swc_ecma_parser_grammar.specs.Reads.{with_in, head_code, nested_item, top_item}
 use Rattle.swc_ecma_parser_grammar.specs.Ends.{ends_at}
-use Rattle.swc_ecma_parser_grammar.specs.Entries.{script_code}
 use Rattle.swc_ecma_parser_grammar.specs.language.Goals.{Class, expression, assignment, left_side}
 use Rattle.swc_ecma_parser_reader.specs.Expressions.{Cover}
 use Rattle.swc_ecma_parser_reader.specs.Limits.{has_too_deep_token}
@@ -51,7 +51,7 @@ use Rattle.swc_ecma_parser_reader.proofs.expressions.LimitSteps.{reject_shallow,
 use Rattle.swc_ecma_parser_reader.proofs.expressions.Limits.{star_shallow, FunctionsShallow}
 use Rattle.swc_ecma_parser_reader.proofs.classes.Limits as classes
 use Rattle.swc_ecma_parser_reader.specs.Members.{class_expr}
-use Rattle.swc_ecma_parser_grammar.specs.Using.{is_using_declaration, may_declare_using, awaits_using, declares_behind, stands_in_head}
+use Rattle.swc_ecma_parser_grammar.specs.scaffold.Using.{may_declare_using, awaits_using, declares_behind, stands_in_head}
 
 -- ---- statements: one level more, for an expression that begins with the same token
 

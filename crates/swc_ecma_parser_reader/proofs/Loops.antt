@@ -11,7 +11,7 @@ use Rattle.swc_ecma_parser_model.specs.Tree.{Tree}
 use Rattle.swc_ecma_parser_grammar.specs.declared.position.Position.{Position}
 use Rattle.swc_ecma_parser_grammar.specs.Looks.{sees}
 use Rattle.swc_ecma_parser_grammar.specs.Names.{name_at}
-use Rattle.swc_ecma_parser_grammar.specs.Reads.{directed, directs_on, nested_item}
+use Rattle.swc_ecma_parser_grammar.specs.language.Items.{directed, directs_on, nested_item}
 use Rattle.swc_ecma_parser_grammar.specs.language.Contexts.{named_by}
 use Rattle.swc_ecma_parser_grammar.specs.language.Goals.{expression}
 use Rattle.swc_ecma_parser_reader.specs.Members.{member_level}

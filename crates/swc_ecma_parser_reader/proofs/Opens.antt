@@ -24,10 +24,12 @@ use Rattle.swc_ecma_parser_grammar.specs.Looks.{kind_at, sees, same_kind, first_
 use Rattle.swc_ecma_parser_grammar.specs.Names.{Code}
 use Rattle.swc_ecma_parser_grammar.specs.Follows.{may_begin_expression_statement, begins_import_expression, may_begin_head, token_follows_let, first_follows_let, is_let_declaration, is_async_function, AsyncWord, not_async, async_word, no_await, await_word}
 use Rattle.swc_ecma_parser_grammar.specs.Variables.{begins_variables}
-use Rattle.swc_ecma_parser_grammar.specs.Reads.{with_in, StmtRule, block_rule, empty_rule, debugger_rule, variables_rule, if_statement_rule, switch_rule, labeled_rule, break_rule, continue_rule, return_rule, throw_rule, try_rule, while_rule, do_while_rule, for_rule, for_in_rule, for_of_rule, expr_rule, import_rule, if_rule, with_rule, class_rule, function_rule, using_rule}
+use Rattle.swc_ecma_parser_grammar.specs.scaffold.Reads.{SmallStmtRule, block_rule, empty_rule, debugger_rule, variables_rule, if_statement_rule, switch_rule, labeled_rule, break_rule, continue_rule, return_rule, throw_rule, try_rule, while_rule, do_while_rule, for_rule, for_in_rule, for_of_rule, expr_rule, import_rule, if_rule, with_rule, class_rule, function_rule, using_rule}
 use Rattle.swc_ecma_parser_grammar.specs.Notes.{statement_note}
-use Rattle.swc_ecma_parser_grammar.specs.ReadsSupported.{ReadsClass, ReadsPat, ReadsTarget, ReadsStmt, ReadsParams, ReadsNamedClass, ReadsDecorators, ReadsDeclared}
-use Rattle.swc_ecma_parser_grammar.specs.Decorated.{DecoratedRule, EitherRule, plain_statement, decorated_statement}
+use Rattle.swc_ecma_parser_grammar.specs.scaffold.ReadsSupported.{ReadsClass, ReadsPat, ReadsTarget, ReadsStmt, ReadsParams, ReadsNamedClass, ReadsDecorators, ReadsDeclared}
+use Rattle.swc_ecma_parser_grammar.specs.scaffold.Decorated.{SmallDecoratedRule, EitherRule, plain_statement, decorated_statement}
+use Rattle.swc_ecma_parser_grammar.specs.language.Declarations.{is_using_declaration}
+use Rattle.swc_ecma_parser_grammar.specs.language.Contexts.{with_in}
 use Rattle.swc_ecma_parser_grammar.specs.language.Classes.{no_decorators, some_decorators, decorator_rule}
 use Rattle.swc_ecma_parser_grammar.specs.language.Goals.{Class, expression}
 use Rattle.swc_ecma_parser_grammar.proofs.Tests.{and_yes, and_no}
@@ -38,7 +40,6 @@ use Rattle.swc_ecma_parser_reader.specs.Reader.{closes, at_end, begins_clause, c
 use Rattle.swc_ecma_parser_reader.proofs.Meets.{saw}
 use Rattle.swc_ecma_parser_reader.proofs.Errors.{is_error}
 use Rattle.swc_ecma_parser_reader.proofs.expressions.CompleteKinds.{import_unnamed}
-use Rattle.swc_ecma_parser_grammar.specs.Using.{is_using_declaration}
 use Rattle.swc_ecma_parser_grammar.proofs.Using.{using_stands}
 
 -- ---- an expression statement is read by its first token
@@ -219,7 +220,7 @@ function_goes c m (async_word i j l n) e = goes_by c kind.Ident (word_place (cod
 rule_goes : (Stmt : Code → Position → Tree → Place → Place → Type 0) (Expr : Class → Code → Tree → Place → Place → Type 0) (Pat Target : Code → Tree → Place → Place → Type 0)
     (Params : Code → List Tree → Place → Place → Type 0) (Named : Code → (name x : Tree) → Place → Place → Type 0) → ((k : Code) (x : Tree) (c d : Place) → Expr expression k x c d → opens (kind_at c) ≡ true)
     → ((k : Code) (name x : Tree) (c d : Place) → Named k name x c d → kind_at c ≡ kind.Class)
-    → (k : Code) (at : Position) (x : Tree) (c d : Place) → StmtRule Stmt Expr Pat Target Params Named k at x c d → GoesPlainly c
+    → (k : Code) (at : Position) (x : Tree) (c d : Place) → SmallStmtRule Stmt Expr Pat Target Params Named k at x c d → GoesPlainly c
 unfolding same_kind
 rule_goes Stmt Expr Pat Target Params Named h named k at x c d (class_rule name y a r b e) = goes_by c kind.Class (named k name y c d r) (refl, refl, refl, refl, refl, refl)
 rule_goes Stmt Expr Pat Target Params Named h named k at x c d (function_rule a r) = function_goes c r.word r.reads_async r.is_function
@@ -247,7 +248,7 @@ rule_goes Stmt Expr Pat Target Params Named h named k at x c d (expr_rule e m b 
 rule_goes Stmt Expr Pat Target Params Named h named k at x c d (import_rule e m b r g i) = goes_by c (kind_at c) refl (goes_open (kind_at c) (h (with_in k) e c m r))
 
 -- one without decorators
-pub plain_goes : (n : ℕ) (k : Code) (at : Position) (x : Tree) (c d : Place) → StmtRule (ReadsStmt n) (ReadsClass n) (ReadsPat n) (ReadsTarget n) (ReadsParams n) (ReadsNamedClass n) k at x c d → GoesPlainly c
+pub plain_goes : (n : ℕ) (k : Code) (at : Position) (x : Tree) (c d : Place) → SmallStmtRule (ReadsStmt n) (ReadsClass n) (ReadsPat n) (ReadsTarget n) (ReadsParams n) (ReadsNamedClass n) k at x c d → GoesPlainly c
 plain_goes n k at x c d h = rule_goes (ReadsStmt n) (ReadsClass n) (ReadsPat n) (ReadsTarget n) (ReadsParams n) (ReadsNamedClass n) (expr_opens n) (λ j name y a b r. r.0.is_class) k at x c d h
 
 -- a list of decorators begins with `@`
@@ -255,8 +256,8 @@ pub decorators_begin : (n : ℕ) (k : Code) (y : Tree) (ys : List Tree) (c d : P
 decorators_begin n k y ys c d (no_decorators i e, h) = cc
 decorators_begin n k y ys c d (some_decorators z zs o (m, decorator_rule w i r f, rs) e, h) = i
 
-either_goes : (n : ℕ) (k : Code) (at : Position) (x : Tree) (c d : Place) → EitherRule (StmtRule (ReadsStmt n) (ReadsClass n) (ReadsPat n) (ReadsTarget n) (ReadsParams n) (ReadsNamedClass n) k at x c d)
-    (DecoratedRule (ReadsDecorators n) (ReadsDeclared n) k at x c d) → Goes c
+either_goes : (n : ℕ) (k : Code) (at : Position) (x : Tree) (c d : Place) → EitherRule (SmallStmtRule (ReadsStmt n) (ReadsClass n) (ReadsPat n) (ReadsTarget n) (ReadsParams n) (ReadsNamedClass n) k at x c d)
+    (SmallDecoratedRule (ReadsDecorators n) (ReadsDeclared n) k at x c d) → Goes c
 unfolding same_kind
 either_goes n k at x c d (plain_statement r) = (plain_goes n k at x c d r).0
 either_goes n k at x c d (decorated_statement r) = goes c kind.At (decorators_begin n k r.first r.others c r.middle r.reads_decorators) (refl, refl, refl, refl, refl)

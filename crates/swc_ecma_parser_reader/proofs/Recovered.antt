@@ -15,7 +15,7 @@ use Rattle.swc_ecma_parser_input.specs.declared.context.Context.{Context}
 use Rattle.swc_ecma_parser_model.specs.Tree.{Tree, Text}
 use Rattle.swc_ecma_parser_grammar.specs.Looks.{kind_at, sees, same_kind, span_at}
 use Rattle.swc_ecma_parser_grammar.specs.Ends.{can_end}
-use Rattle.swc_ecma_parser_grammar.specs.Reads.{with_in}
+use Rattle.swc_ecma_parser_grammar.specs.language.Contexts.{with_in}
 use Rattle.swc_ecma_parser_grammar.proofs.Tests.{or_no}
 use Rattle.swc_ecma_parser_reader.specs.State.{State, Outcome, Reader, moved, coded, within, fault, fault_at, put_back, dropped_as, attempted, says_out_of_memory}
 use Rattle.swc_ecma_parser_reader.specs.Recovery.{passed_at, passed_in, any_token, behind_any, end_turn, up_to_end, no_end, declaration_end}

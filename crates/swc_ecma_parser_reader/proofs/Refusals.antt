@@ -17,7 +17,7 @@ use Rattle.swc_ecma_parser_reader.specs.Yields.{begins_yield}
 use Rattle.swc_ecma_parser_reader.specs.Arrows.{begins_named_arrow}
 use Rattle.swc_ecma_parser_reader.specs.AsyncArrows.{begins_async_arrow}
 use Rattle.swc_ecma_parser_reader.specs.Words.{begins_async_call}
-use Rattle.swc_ecma_parser_grammar.specs.Using.{is_await_using_declaration}
+use Rattle.swc_ecma_parser_grammar.specs.scaffold.Using.{is_await_using_declaration}
 
 -- a state with this token in first place
 abbrev before : State → TokenAndSpan → Token → List TokenAndSpan → State

@@ -16,10 +16,11 @@ use Rattle.std.proofs.Common.{append_assoc, ◌≡◌, ℕ, zero, suc, Bool, tru
 use Rattle.swc_ecma_parser_reader.specs.Notes.{no_notes, ◌⊕◌, notes_of, all_notes_of}
 use Rattle.swc_ecma_parser_reader.proofs.Between.{sound_below, sound_coded, Sound, SoundTree, SoundStep, no_faults, same, nil-split, sound_then, sound_more, sound_moved, sound_here, sound_as, sound_after, within_sound}
 use Rattle.swc_ecma_parser_reader.specs.State.{name, reference, below, below_label, State, Reader, moved, coded, within, fault_at, wanted, labelled, labelled_as, expect, end}
-use Rattle.swc_ecma_parser_grammar.specs.Reads.{labeled_rule, with_rule, class_rule, function_rule, with_in, nested_item, ReadsItems, TargetRule, OperandRule, no_operand_rule, operand_rule, break_rule, continue_rule, return_rule, StmtRule, block_rule, empty_rule, debugger_rule, if_statement_rule, CaseRule, case_clause_rule, default_clause_rule, ReadsCases, switch_rule, throw_rule, try_rule, while_rule, do_while_rule, ReadsBlock, CatchRule, no_catch_rule, catch_rule, catch_parameter_rule, FinallyRule, no_finally_rule, finally_rule, ReadsHead, IfRule, if_rule, ElseRule, no_else_rule, else_rule, else_if_rule}
+use Rattle.swc_ecma_parser_grammar.specs.scaffold.Reads.{labeled_rule, with_rule, class_rule, function_rule, ReadsItems, SmallTargetRule, SmallReturnedRule, no_operand_rule, operand_rule, break_rule, continue_rule, return_rule, SmallStmtRule, block_rule, empty_rule, debugger_rule, if_statement_rule, SmallCaseRule, case_clause_rule, default_clause_rule, ReadsCases, switch_rule, throw_rule, try_rule, while_rule, do_while_rule, ReadsBlock, SmallCatchRule, no_catch_rule, catch_rule, catch_parameter_rule, SmallFinallyRule, no_finally_rule, finally_rule, ReadsHead, SmallIfRule, if_rule, SmallElseRule, no_else_rule, else_rule, else_if_rule}
 use Rattle.swc_ecma_parser_grammar.specs.Own.{labelled_function, duplicates}
 use Rattle.swc_ecma_parser_reader.proofs.SoundParts.{labelled_meets, relabels_sound, SoundWith, note_with_sound, using_sound, end_sound, optional_end_sound, Declarators, declarators_sound, inside_sound, variables_sound, code_stays, items_sound, and_false, unbroken_sound, uncontinued_sound, misplaced_sound, target_sound, after_return_meets, first_sound}
-use Rattle.swc_ecma_parser_grammar.specs.language.Items.{labelled_item, sub_statement}
+use Rattle.swc_ecma_parser_grammar.specs.language.Declarations.{is_using_declaration}
+use Rattle.swc_ecma_parser_grammar.specs.language.Items.{labelled_item, sub_statement, nested_item}
 use Rattle.swc_ecma_parser_reader.specs.Reader.{begins_label, relabels, labelled_body, labeled_stmt, other_stmt, with_stmt, note_with, function_stmt, async_or_other, function_decl, variables, const_stmt, let_stmt, expr, cover, head_cover, pattern, element, decorated_in, member, operators, right_operand, function, function_by, getter, setter, plain_method, target, unbroken, break_stmt, uncontinued, continue_stmt, misplaced, operand, returned, return_stmt, empty, debugger, declarators, closes, close, items, block_from, block, braced, expr_stmt_at, optional_end, import_stmt_at, thrown, throw, head, while_stmt, do_while, Link, goes_on, condition, alternative, link_from, link, links, if_stmt, begins_clause, closes_clause, Clauses, clause_from, default_clause, case_clause, clause, clauses_turn, clauses, switch_stmt, begins_at, is_handled, handled, bound, parameter, finalizer, caught, handler, try_stmt, stmt_by, stmt_level, stmt, using_or_other}
 use Rattle.swc_ecma_parser_model.specs.declared.leaves.VarDeclKind.{VarDeclKind}
 use Rattle.swc_ecma_parser_model.specs.declared.leaves.VarDeclKind.TheVariants as decl
@@ -52,9 +53,9 @@ use Rattle.swc_ecma_parser_grammar.specs.Looks.{kind_at, breaks_at, sees, span_a
 use Rattle.swc_ecma_parser_grammar.specs.Names.{Code, name_at}
 use Rattle.swc_ecma_parser_grammar.specs.Ends.{Ends, ends_at}
 use Rattle.swc_ecma_parser_grammar.specs.Follows.{may_begin_expression_statement, begins_import_expression, is_let_declaration, is_async_function}
-use Rattle.swc_ecma_parser_grammar.specs.language.Contexts.{in_loop, in_breakable, in_with}
+use Rattle.swc_ecma_parser_grammar.specs.language.Contexts.{in_loop, in_breakable, in_with, with_in}
 use Rattle.swc_ecma_parser_grammar.specs.language.Goals.{Class, expression, left_side}
-use Rattle.swc_ecma_parser_grammar.specs.ReadsSupported.{ReadsClass, ReadsPat, ReadsElement, ReadsTarget, ReadsStmt, ReadsParams, ReadsDecorated, ReadsMember, ReadsNamedClass}
+use Rattle.swc_ecma_parser_grammar.specs.scaffold.ReadsSupported.{ReadsClass, ReadsPat, ReadsElement, ReadsTarget, ReadsStmt, ReadsParams, ReadsDecorated, ReadsMember, ReadsNamedClass}
 use Rattle.swc_ecma_parser_grammar.specs.Walk as walks
 use Rattle.swc_ecma_parser_grammar.specs.Walk.{walk, env_of}
 use Rattle.swc_ecma_parser_grammar.specs.Notes.{notes}
@@ -64,7 +65,7 @@ use Rattle.swc_ecma_parser_grammar.proofs.MethodParts.{parts_widen, params_suppo
 use Rattle.swc_ecma_parser_grammar.proofs.Arrows.{block_widens, block_supported, block_unnoted}
 use Rattle.swc_ecma_parser_grammar.proofs.Unnoted.{joined}
 use Rattle.swc_ecma_parser_grammar.specs.Parameters.{parameters}
-use Rattle.swc_ecma_parser_grammar.specs.Supported.{supported_in, is_supported_key_in, has_no_note, is_clean}
+use Rattle.swc_ecma_parser_grammar.specs.scaffold.Supported.{supported_in, is_supported_key_in, has_no_note, is_clean}
 use Rattle.swc_ecma_parser_grammar.specs.language.Expressions.{block_body}
 use Rattle.swc_ecma_parser_grammar.specs.language.Objects.{getter_rule, setter_rule, method_rule}
 use Rattle.swc_ecma_parser_model.specs.Targets.{as_properties}
@@ -76,7 +77,6 @@ use Rattle.swc_ecma_parser_reader.proofs.expressions.SoundSteps.{meets_as, FreeW
 use Rattle.swc_ecma_parser_reader.proofs.Notes.{or_true, notes_nil}
 use Rattle.swc_ecma_parser_reader.proofs.Meets.{Meets, Refuses, meets_then, meets_if, wanted_meets, too_deep_meets, refuse_meets, Turned, loop_answers, saw, meant}
 use Rattle.swc_ecma_parser_reader.proofs.Opens.{chain_goes, chain_stops}
-use Rattle.swc_ecma_parser_grammar.specs.Using.{is_using_declaration}
 
 -- ---- statements
 
@@ -93,7 +93,7 @@ module _ (Stmt : Code → Position → Tree → Place → Place → Type 0) (Exp
     (lossless : Lossless (inner nested_item) (inner_expr expression) inner_pat inner_operators) (at : Position) where
   -- a statement in its place
   abbrev SoundStmt : State → Tree → State → Type 0
-  SoundStmt s x t = SoundTree (λ k. StmtRule Stmt Expr Pat Target Params Named k at) s x t
+  SoundStmt s x t = SoundTree (λ k. SmallStmtRule Stmt Expr Pat Target Params Named k at) s x t
 
   empty_sound : (s : State) → kind_at s.at ≡ kind.Semi → Meets (SoundStmt s) (empty s)
   unfolding empty
@@ -143,7 +143,7 @@ module _ (Stmt : Code → Position → Tree → Place → Place → Type 0) (Exp
   break_sound s e = meets_then _ (target (moved s)) _ (target_sound (moved s)) (λ x m p.
       meets_then _ (end faults.Expected m) _ (end_sound faults.Expected m) (λ _ n q.
       meets_then _ (unbroken x (spanned s.at n.at) n) _ (unbroken_sound x (spanned s.at n.at) n) (λ _ t r.
-      let b : Sound same no_faults (notes_of x) (λ k c d. ((i : Place) × TargetRule k x c i × Ends i d) × (d ≡ n.at)) (moved s) n = sound_as (moved s) n refl refl refl (λ a. (a, refl)) (sound_more p q) in
+      let b : Sound same no_faults (notes_of x) (λ k c d. ((i : Place) × SmallTargetRule k x c i × Ends i d) × (d ≡ n.at)) (moved s) n = sound_as (moved s) n refl refl refl (λ a. (a, refl)) (sound_more p q) in
       sound_after s t e refl refl (notes_nil (notes_of x))
       (λ (j, ((i, a, g), h), z). break_rule x i e a (subst (Ends i) (sym z) g) (ap (λ v. tree.break (spanned s.at v) x) (sym (z ∙ h)))) (sound_then b r))))
 
@@ -152,18 +152,18 @@ module _ (Stmt : Code → Position → Tree → Place → Place → Type 0) (Exp
   continue_sound s e = meets_then _ (target (moved s)) _ (target_sound (moved s)) (λ x m p.
       meets_then _ (end faults.Expected m) _ (end_sound faults.Expected m) (λ _ n q.
       meets_then _ (uncontinued x (spanned s.at n.at) n) _ (uncontinued_sound x (spanned s.at n.at) n) (λ _ t r.
-      let b : Sound same no_faults (notes_of x) (λ k c d. ((i : Place) × TargetRule k x c i × Ends i d) × (d ≡ n.at)) (moved s) n = sound_as (moved s) n refl refl refl (λ a. (a, refl)) (sound_more p q) in
+      let b : Sound same no_faults (notes_of x) (λ k c d. ((i : Place) × SmallTargetRule k x c i × Ends i d) × (d ≡ n.at)) (moved s) n = sound_as (moved s) n refl refl refl (λ a. (a, refl)) (sound_more p q) in
       sound_after s t e refl refl (notes_nil (notes_of x))
       (λ (j, ((i, a, g), h), z). continue_rule x i e a (subst (Ends i) (sym z) g) (ap (λ v. tree.continue (spanned s.at v) x) (sym (z ∙ h)))) (sound_then b r))))
 
-  operand_sound : (s : State) → Meets (λ x t. SoundTree (OperandRule Expr) s x t) (operand (inner_expr expression) s)
+  operand_sound : (s : State) → Meets (λ x t. SoundTree (SmallReturnedRule Expr) s x t) (operand (inner_expr expression) s)
   unfolding operand
   operand_sound s = meets_if _ (ends_at s.at) _ _ (λ e. sound_here s (no_operand_rule e refl refl))
       (λ e. meets_as (within with_in (inner_expr expression) s) (inner_sound s) (λ x t p. sound_as s t refl refl refl (λ r. operand_rule e r) p))
 
   -- a `return` from behind its word
   SoundReturned : Place → State → Tree → State → Type 0
-  SoundReturned start s x t = (y : Tree) × Sound same (λ k l. walk (env_of k l) y) (notes_of y) (λ k c d. ((i : Place) × OperandRule Expr k y c i × Ends i d) × (d ≡ t.at)) s t
+  SoundReturned start s x t = (y : Tree) × Sound same (λ k l. walk (env_of k l) y) (notes_of y) (λ k c d. ((i : Place) × SmallReturnedRule Expr k y c i × Ends i d) × (d ≡ t.at)) s t
       × (x ≡ tree.return (spanned start t.at) y)
 
   returned_sound : (start : Place) (s : State) → Meets (SoundReturned start s) (returned (inner_expr expression) (span_at start) s)
@@ -235,10 +235,10 @@ module _ (Stmt : Code → Position → Tree → Place → Place → Type 0) (Exp
 
   -- a chain, and what stands behind a link
   abbrev SoundIf : State → Tree → State → Type 0
-  SoundIf s x t = SoundTree (λ k x c d. IfRule Stmt Expr k x c d) s x t
+  SoundIf s x t = SoundTree (λ k x c d. SmallIfRule Stmt Expr k x c d) s x t
 
   abbrev SoundElse : State → Tree → State → Type 0
-  SoundElse s x t = SoundTree (λ k x c d. ElseRule Stmt Expr k x c d) s x t
+  SoundElse s x t = SoundTree (λ k x c d. SmallElseRule Stmt Expr k x c d) s x t
 
   closed_sound : (s t u : State) (l : Link) (y : Tree) → SoundLink s l t → SoundElse t y u → SoundIf s (tree.if_stmt (record { lo = l.start.lo; hi = u.at.last.hi }) l.test l.cons y) u
   unfolding spanned LinkRule SoundLink
@@ -288,18 +288,18 @@ module _ (Stmt : Code → Position → Tree → Place → Place → Type 0) (Exp
 
   -- behind clauses with a `default` or without
   SoundCase : Bool → State → Tree → State → Type 0
-  SoundCase b s x t = SoundTree (λ k. CaseRule Stmt Expr k b) s x t
+  SoundCase b s x t = SoundTree (λ k. SmallCaseRule Stmt Expr k b) s x t
 
   case_clause_sound : (b : Bool) (s : State) → kind_at s.at ≡ kind.Case → Meets (SoundCase b s) (case_clause (inner nested_item) (inner_expr expression) s)
   unfolding case_clause SoundCase ClauseFrom SoundFrom spanned
   case_clause_sound b s e = meets_then _ (within with_in (inner_expr expression) (moved s)) _ (inner_sound (moved s)) (λ y m p.
-      meets_as (clause_from (inner nested_item) (span_at s.at) y m) (clause_from_sound (span_at s.at) y m) (λ x t (xs, q, g). subst (λ v. SoundTree (λ k. CaseRule Stmt Expr k b) s v t) (sym g)
+      meets_as (clause_from (inner nested_item) (span_at s.at) y m) (clause_from_sound (span_at s.at) y m) (λ x t (xs, q, g). subst (λ v. SoundTree (λ k. SmallCaseRule Stmt Expr k b) s v t) (sym g)
       (sound_after s t e refl refl refl (λ (i, r, (a, z)). case_clause_rule y xs i e r a z refl) (sound_then p q))))
 
   default_clause_sound : (b : Bool) (s : State) → kind_at s.at ≡ kind.Default → Meets (SoundCase b s) (default_clause (inner nested_item) b s)
   unfolding default_clause SoundCase ClauseFrom SoundFrom spanned
   default_clause_sound b s e = meets_if _ b _ _ (λ _. refuse_meets _ faults.MultipleDefault (moved s)) (λ h.
-      meets_as (clause_from (inner nested_item) (span_at s.at) tree.absent (moved s)) (clause_from_sound (span_at s.at) tree.absent (moved s)) (λ x t (xs, q, g). subst (λ v. SoundTree (λ k. CaseRule Stmt Expr k b) s v t) (sym g)
+      meets_as (clause_from (inner nested_item) (span_at s.at) tree.absent (moved s)) (clause_from_sound (span_at s.at) tree.absent (moved s)) (λ x t (xs, q, g). subst (λ v. SoundTree (λ k. SmallCaseRule Stmt Expr k b) s v t) (sym g)
       (sound_after s t e refl refl refl (λ (a, z). default_clause_rule xs h e a z refl) q)))
 
   clause_sound : (b : Bool) (s : State) → begins_clause s.at ≡ true → Meets (SoundCase b s) (clause (inner nested_item) (inner_expr expression) b s)
@@ -314,10 +314,10 @@ module _ (Stmt : Code → Position → Tree → Place → Place → Type 0) (Exp
   -- clauses so far, and whether a `default` stands before the next
   abbrev Cases : Code → Bool → List Tree → Bool → Place → Place → Type 0
   Cases k b [] h c d = (d ≡ c) × (h ≡ b)
-  Cases k b (x ∷ xs) h c d = (m : Place) × CaseRule Stmt Expr k b x c m × Cases k (b || sees kind.Default c) xs h m d
+  Cases k b (x ∷ xs) h c d = (m : Place) × SmallCaseRule Stmt Expr k b x c m × Cases k (b || sees kind.Default c) xs h m d
 
-  cases_push : (k : Code) (b h : Bool) (xs : List Tree) (x : Tree) (c m d : Place) → Cases k b xs h c m → CaseRule Stmt Expr k h x m d → Cases k b (xs ++ x ∷ []) (h || sees kind.Default m) c d
-  cases_push k b h [] x c m d (e, g) r = (d, subst (λ v. CaseRule Stmt Expr k v x c d) g (subst (λ v. CaseRule Stmt Expr k h x v d) e r), (refl, rw (e, g) refl))
+  cases_push : (k : Code) (b h : Bool) (xs : List Tree) (x : Tree) (c m d : Place) → Cases k b xs h c m → SmallCaseRule Stmt Expr k h x m d → Cases k b (xs ++ x ∷ []) (h || sees kind.Default m) c d
+  cases_push k b h [] x c m d (e, g) r = (d, subst (λ v. SmallCaseRule Stmt Expr k v x c d) g (subst (λ v. SmallCaseRule Stmt Expr k h x v d) e r), (refl, rw (e, g) refl))
   cases_push k b h (y ∷ ys) x c m d (i, a, more) r = (i, a, cases_push k (b || sees kind.Default c) h ys x i m d more r)
 
   cases_read : (k : Code) (b h : Bool) (xs : List Tree) (c d : Place) → Cases k b xs h c d → ReadsCases Stmt Expr k b xs c d
@@ -375,11 +375,11 @@ module _ (Stmt : Code → Position → Tree → Place → Place → Type 0) (Exp
       sound_after s t (saw s.at kind.LParen e) refl refl refl (λ (i, r, z). one_parameter i (saw s.at kind.LParen e) r z.0 z.1) (sound_more p q))))
       (λ e. sound_here s (no_parameter refl refl))
 
-  caught_as : {k : Code} {p body : Tree} {c m d : Place} → kind_at c ≡ kind.Catch → ParameterRule k p (after c) m → ReadsBlock Stmt k body m d → CatchRule Stmt Pat k (tree.catch (spanned c d) p body) c d
+  caught_as : {k : Code} {p body : Tree} {c m d : Place} → kind_at c ≡ kind.Catch → ParameterRule k p (after c) m → ReadsBlock Stmt k body m d → SmallCatchRule Stmt Pat k (tree.catch (spanned c d) p body) c d
   caught_as {k = k} {body = body} {c = c} {d = d} e (no_parameter h g) r = catch_rule body e (subst (λ v. ReadsBlock Stmt k body v d) g r) (ap (λ v. tree.catch (spanned c d) v body) h)
   caught_as {k = k} {p = p} {body = body} {d = d} e (one_parameter i h q g j) r = catch_parameter_rule p body i e h q g (subst (λ v. ReadsBlock Stmt k body v d) j r) refl
 
-  handler_sound : (s : State) → Meets (λ x t. SoundTree (λ k. CatchRule Stmt Pat k) s x t) (handler (inner nested_item) inner_pat s)
+  handler_sound : (s : State) → Meets (λ x t. SoundTree (λ k. SmallCatchRule Stmt Pat k) s x t) (handler (inner nested_item) inner_pat s)
   unfolding handler caught
   handler_sound s = meets_if _ (sees kind.Catch s.at) _ _
       (λ e. meets_then _ (parameter inner_pat (moved s)) _ (parameter_sound (moved s)) (λ x m p.
@@ -387,7 +387,7 @@ module _ (Stmt : Code → Position → Tree → Place → Place → Type 0) (Exp
       sound_after s t (saw s.at kind.Catch e) refl refl refl (λ (i, r, z). caught_as (saw s.at kind.Catch e) r z) (sound_then p q))))
       (λ e. sound_here s (no_catch_rule e refl refl))
 
-  finalizer_sound : (s : State) → Meets (λ x t. SoundTree (λ k. FinallyRule Stmt k) s x t) (finalizer (inner nested_item) s)
+  finalizer_sound : (s : State) → Meets (λ x t. SoundTree (λ k. SmallFinallyRule Stmt k) s x t) (finalizer (inner nested_item) s)
   unfolding finalizer
   finalizer_sound s = meets_if _ (sees kind.Finally s.at) _ _
       (λ e. meets_as (braced (inner nested_item) false (moved s)) (braced_sound (moved s)) (λ y t q.
@@ -403,7 +403,7 @@ module _ (Stmt : Code → Position → Tree → Place → Place → Type 0) (Exp
   handled_sound behind s = meets_if _ (is_handled behind) _ _ (λ e. sound_here s (e, refl)) (λ _. fault_sound (Handled behind) (fault_at (begins_at behind) faults.TS1005) s refl)
 
   -- so it is there in the tree
-  one_stands : {k : Code} {x y : Tree} {c m d : Place} → is_handled c ≡ true → CatchRule Stmt Pat k x c m → FinallyRule Stmt k y m d → is_absent x && is_absent y ≡ false
+  one_stands : {k : Code} {x y : Tree} {c m d : Place} → is_handled c ≡ true → SmallCatchRule Stmt Pat k x c m → SmallFinallyRule Stmt k y m d → is_absent x && is_absent y ≡ false
   unfolding is_handled
   one_stands h (catch_rule body i r e) f = rw e refl
   one_stands h (catch_parameter_rule p body i j l r t u e) f = rw e refl
@@ -423,7 +423,7 @@ module _ (Stmt : Code → Position → Tree → Place → Place → Type 0) (Exp
       let b : Sound same (λ k l. walk (env_of k l) x) (notes_of x) (λ k c d. ReadsBlock Stmt k x c d × (d ≡ m.at)) (moved s) m = sound_as (moved s) m refl refl refl (λ a. (a, refl)) p in
       sound_after s t e refl refl refl
       (λ (i, (g, (a, (b, c), h), j), (l, v)).
-      try_rule x y z a g e b h (subst (λ w. FinallyRule Stmt s.code z g w) (sym v) j) (one_stands (subst (λ w. is_handled w ≡ true) (sym c) l) h j) refl)
+      try_rule x y z a g e b h (subst (λ w. SmallFinallyRule Stmt s.code z g w) (sym v) j) (one_stands (subst (λ w. is_handled w ≡ true) (sym c) l) h j) refl)
       (sound_more (sound_then (sound_then b q) r) o)))))
 
   -- ---- labels

@@ -15,9 +15,10 @@ use Rattle.swc_ecma_parser_grammar.specs.Looks.{sees, span_at, spanned}
 use Rattle.swc_ecma_parser_grammar.specs.Names.{Code}
 use Rattle.swc_ecma_parser_grammar.specs.Ends.{Ends}
 use Rattle.swc_ecma_parser_grammar.specs.Follows.{may_begin_expression_statement, begins_import_expression}
-use Rattle.swc_ecma_parser_grammar.specs.Reads.{with_in, StmtRule, expr_rule, import_rule}
+use Rattle.swc_ecma_parser_grammar.specs.scaffold.Reads.{SmallStmtRule, expr_rule, import_rule}
 use Rattle.swc_ecma_parser_grammar.specs.Notes.{notes, statement_note}
 use Rattle.swc_ecma_parser_grammar.specs.Walk.{walk, env_of, is_dropping, drops}
+use Rattle.swc_ecma_parser_grammar.specs.language.Contexts.{with_in}
 use Rattle.swc_ecma_parser_grammar.specs.language.Goals.{Class, expression}
 use Rattle.swc_ecma_parser_grammar.specs.language.Noted.{has_meta}
 use Rattle.swc_ecma_parser_reader.specs.Notes.{Notes, notes_of}
@@ -94,13 +95,13 @@ module _ (operators : Span → Tree → Reader Tree) (sound_operators : (start :
     -- by a rule that has an expression and its end
     ended_sound : (s : State)
         → ((x : Tree) (m d : Place) → Expr expression (with_in s.code) x s.at m → is_ident x && sees kind.Colon m ≡ false → s.code.flags.module && is_ident_named (codes "interface") x ≡ false → Ends m d
-        → StmtRule Stmt Expr Pat Target Params Named s.code at (tree.expr_stmt (spanned s.at d) x) s.at d) → Meets (λ x t. SoundTree (λ k. StmtRule Stmt Expr Pat Target Params Named k at) s x t) (expr_stmt expr operators s)
+        → SmallStmtRule Stmt Expr Pat Target Params Named s.code at (tree.expr_stmt (spanned s.at d) x) s.at d) → Meets (λ x t. SoundTree (λ k. SmallStmtRule Stmt Expr Pat Target Params Named k at) s x t) (expr_stmt expr operators s)
     unfolding expr_stmt stmt_end SoundNote NoNote NoLabel
     ended_sound s rule = meets_then _ (within with_in expr s) _
         (within_sound (λ x k l. walk (env_of k l) x) notes_of (λ x k. Expr expression k x) with_in (λ k. refl) expr s (sound_expr (coded (with_in s.code) s))) (λ x i p.
         meets_then _ (no_label x i) _ (no_label_sound x i) (λ _ j q.
         meets_then _ (note_statement x j) _ (note_sound x j) (λ _ m r.
-        meets_then {P = λ y t. SoundTree (λ k. StmtRule Stmt Expr Pat Target Params Named k at) s (tree.expr_stmt (spanned s.at t.at) y) t} _ (stmt_end operators (span_at s.at) x m) _
+        meets_then {P = λ y t. SoundTree (λ k. SmallStmtRule Stmt Expr Pat Target Params Named k at) s (tree.expr_stmt (spanned s.at t.at) y) t} _ (stmt_end operators (span_at s.at) x m) _
         (meets_if _ (lacks_end m.at) _ _
         (λ _. meets_as (operators_on operators (span_at s.at) x m) (operators_on_sound (span_at s.at) x s m (or_nil (has_meta x)) (sound_then (sound_more p q) r)) (λ y t z. sound_never s t refl refl z))
         (λ _. meets_then _ (end faults.ExpectedSemiForExprStmt m) _ (end_sound faults.ExpectedSemiForExprStmt m) (λ _ t z.
@@ -109,8 +110,8 @@ module _ (operators : Span → Tree → Reader Tree) (sound_operators : (start :
         (sound_more (sound_then (sound_more p q) r) z))))
         (λ y t z. z))))
 
-    pub expr_stmt_sound : (s : State) → may_begin_expression_statement at s.at ≡ true → Meets (λ x t. SoundTree (λ k. StmtRule Stmt Expr Pat Target Params Named k at) s x t) (expr_stmt expr operators s)
+    pub expr_stmt_sound : (s : State) → may_begin_expression_statement at s.at ≡ true → Meets (λ x t. SoundTree (λ k. SmallStmtRule Stmt Expr Pat Target Params Named k at) s x t) (expr_stmt expr operators s)
     expr_stmt_sound s e = ended_sound s (λ x m d r l i g. expr_rule x m e r l i g refl)
 
-    pub import_stmt_sound : (s : State) → begins_import_expression s.at ≡ true → Meets (λ x t. SoundTree (λ k. StmtRule Stmt Expr Pat Target Params Named k at) s x t) (expr_stmt expr operators s)
+    pub import_stmt_sound : (s : State) → begins_import_expression s.at ≡ true → Meets (λ x t. SoundTree (λ k. SmallStmtRule Stmt Expr Pat Target Params Named k at) s x t) (expr_stmt expr operators s)
     import_stmt_sound s e = ended_sound s (λ x m d r l i g. import_rule x m e r g refl)

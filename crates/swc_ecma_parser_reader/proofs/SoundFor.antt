@@ -21,16 +21,18 @@ use Rattle.swc_ecma_parser_model.specs.Targets.{as_target}
 use Rattle.swc_ecma_parser_grammar.specs.declared.position.Position.{Position}
 use Rattle.swc_ecma_parser_grammar.specs.Looks.{kind_at, first_kind, sees, span_at, spanned, breaks_at}
 use Rattle.swc_ecma_parser_grammar.specs.Names.{Code, identifier_at}
-use Rattle.swc_ecma_parser_grammar.specs.Follows.{token_is, first_is, word_at, is_let_declaration, may_begin_head, is_async_of, begins_async_of, AwaitWord, no_await, await_word}
+use Rattle.swc_ecma_parser_grammar.specs.Follows.{token_is, first_is, word_at, is_let_declaration, may_begin_head, is_async_of, AwaitWord, no_await, await_word}
 use Rattle.swc_ecma_parser_grammar.specs.Variables.{begins_variables}
 use Rattle.swc_ecma_parser_grammar.specs.Own.{only, head_faults}
-use Rattle.swc_ecma_parser_grammar.specs.Using.{may_declare_using, awaits_using, declares_behind, stands_in_head}
-use Rattle.swc_ecma_parser_grammar.specs.language.Contexts.{in_loop, without_in}
+use Rattle.swc_ecma_parser_grammar.specs.scaffold.Using.{may_declare_using, awaits_using, declares_behind, stands_in_head}
+use Rattle.swc_ecma_parser_grammar.specs.language.Lists.{ReadsSeparated}
+use Rattle.swc_ecma_parser_grammar.specs.language.Contexts.{in_loop, without_in, with_in, head_code}
 use Rattle.swc_ecma_parser_grammar.specs.language.Goals.{Class, expression, assignment}
 use Rattle.swc_ecma_parser_grammar.specs.language.Items.{sub_statement}
-use Rattle.swc_ecma_parser_grammar.specs.Reads.{with_in, head_code, DeclaratorRule, ReadsSeparated, HeadVariables, InitRule, no_init_rule, init_variables_rule, init_expression_rule, LeftRule, declared_rule, left_target_rule, OfLeftRule, of_left_rule, of_using_rule, of_await_rule, PartRule, no_part_rule, part_rule, StmtRule, for_rule, for_in_rule, for_of_rule}
+use Rattle.swc_ecma_parser_grammar.specs.scaffold.Reads.{SmallDeclaratorRule, HeadVariables, SmallInitRule, no_init_rule, init_variables_rule, init_expression_rule, SmallLeftRule, declared_rule, left_target_rule, SmallOfLeftRule, of_left_rule, of_using_rule, of_await_rule, SmallPartRule, no_part_rule, part_rule, SmallStmtRule, for_rule, for_in_rule, for_of_rule}
 use Rattle.swc_ecma_parser_grammar.specs.Walk as walks
 use Rattle.swc_ecma_parser_grammar.specs.Walk.{walk, env_of}
+use Rattle.swc_ecma_parser_reader.specs.Words.{begins_async_of}
 use Rattle.swc_ecma_parser_reader.specs.Notes.{no_notes, ◌⊕◌, notes_of, all_notes_of}
 use Rattle.swc_ecma_parser_reader.specs.State.{State, Reader, moved, coded, within, expect}
 use Rattle.swc_ecma_parser_reader.specs.Expressions as exprs
@@ -195,8 +197,8 @@ module _ (Stmt : Code → Position → Tree → Place → Place → Type 0) (Exp
   abbrev Opens : (is_await : Bool) → Opening → Code → Place → Place → Type 0
   Opens w Nothing k c d = (kind_at c ≡ kind.Semi) × (d ≡ c)
   Opens w (Variables x) k c d = HeadVariables Expr Pat k x c d
-  Opens w (Resource x) k c d = OfLeftRule Expr Pat Target k w x c d × (sees kind.In d ≡ false)
-  Opens w (Named p) k c d = LeftRule Expr Pat Target k p c d × (word_at (codes "of") d ≡ true → is_async_of w p d ≡ false)
+  Opens w (Resource x) k c d = SmallOfLeftRule Expr Pat Target k w x c d × (sees kind.In d ≡ false)
+  Opens w (Named p) k c d = SmallLeftRule Expr Pat Target k p c d × (word_at (codes "of") d ≡ true → is_async_of w p d ≡ false)
   Opens w (Expression v) k c d = (may_begin_head c ≡ true) × CoverAs Expr Target v (without_in k) c d
 
   abbrev SoundOpening : (is_await : Bool) → State → Opening → State → Type 0
@@ -205,7 +207,7 @@ module _ (Stmt : Code → Position → Tree → Place → Place → Type 0) (Exp
   head_variables_sound : (w : Bool) (word : VarDeclKind) (s : State) → begins_variables word s.at ≡ true → Meets (SoundOpening w s) (head_variables inner_expr inner_pat word s)
   unfolding head_variables spanned
   head_variables_sound w word s h = meets_then _ (within (head_code word) (declarators inner_expr inner_pat true word) (moved s)) _
-      (within_sound (λ xs k l. walks.walks (env_of k l) false (trees xs)) (λ xs. all_notes_of (trees xs)) (λ xs k. ReadsSeparated (DeclaratorRule (Expr assignment) Pat k true word) xs) (head_code word) (head_setting word)
+      (within_sound (λ xs k l. walks.walks (env_of k l) false (trees xs)) (λ xs. all_notes_of (trees xs)) (λ xs k. ReadsSeparated (SmallDeclaratorRule (Expr assignment) Pat k true word) xs) (head_code word) (head_setting word)
       (declarators inner_expr inner_pat true word) (moved s) (declarators_sound Expr Pat inner_expr inner_pat sound_expr sound_pat true word (coded (head_code word s.code) (moved s)))) (λ xs t p.
       sound_after s t refl (variables_stand word s.at h) (ap (λ v. walks.walks v false (trees xs)) (head_env word s.code s.scope.labels)) refl
       (λ r. record { word = word; declarators = xs; begins = h; reads = r; is = refl }) p)
@@ -314,17 +316,17 @@ module _ (Stmt : Code → Position → Tree → Place → Place → Type 0) (Exp
       (λ _. head_target_sound w s (begins_head s.at e f g h)))))))
 
   -- as the first part of three
-  as_init_sound : (w : Bool) (s m : State) (o : Opening) → SoundOpening w s o m → Meets (λ x t. SoundTree (InitRule Expr Pat) s x t) (as_init o m)
+  as_init_sound : (w : Bool) (s m : State) (o : Opening) → SoundOpening w s o m → Meets (λ x t. SoundTree (SmallInitRule Expr Pat) s x t) (as_init o m)
   as_init_sound w s m Nothing p = sound_as s m refl refl refl (λ (e, h). no_init_rule e h refl) p
   as_init_sound w s m (Variables x) p = sound_as s m refl refl refl (λ r. init_variables_rule r) p
   as_init_sound w s m (Resource x) p = unfollowed_meets _ m
   as_init_sound w s m (Named x) p = unfollowed_meets _ m
-  as_init_sound w s m (Expression v) p = meets_each (λ x t. SoundTree (InitRule Expr Pat) s x t) (exprs.close v m) (λ x t e. let (a, b, c) = close_is v m x t e in
-      subst (λ y. SoundTree (InitRule Expr Pat) s y t) b (subst (λ u. SoundTree (InitRule Expr Pat) s v.x u) c (sound_as s m refl refl refl (λ (h, r). init_expression_rule h (r.plain a)) p)))
+  as_init_sound w s m (Expression v) p = meets_each (λ x t. SoundTree (SmallInitRule Expr Pat) s x t) (exprs.close v m) (λ x t e. let (a, b, c) = close_is v m x t e in
+      subst (λ y. SoundTree (SmallInitRule Expr Pat) s y t) b (subst (λ u. SoundTree (SmallInitRule Expr Pat) s v.x u) c (sound_as s m refl refl refl (λ (h, r). init_expression_rule h (r.plain a)) p)))
 
   -- as what takes each value, before `in` and before `of`
   Left : (is_await : Bool) → Tree → Code → Place → Place → Type 0
-  Left w x k c d = (sees kind.In d ≡ true → LeftRule Expr Pat Target k x c d) × (word_at (codes "of") d ≡ true → OfLeftRule Expr Pat Target k w x c d)
+  Left w x k c d = (sees kind.In d ≡ true → SmallLeftRule Expr Pat Target k x c d) × (word_at (codes "of") d ≡ true → SmallOfLeftRule Expr Pat Target k w x c d)
 
   SoundLeft : Bool → State → State → Tree → State → Type 0
   SoundLeft w s m x t = Sound same (λ k l. walk (env_of k l) x) (notes_of x) (Left w x) s t × (t.at ≡ m.at)
@@ -354,7 +356,7 @@ module _ (Stmt : Code → Position → Tree → Place → Place → Type 0) (Exp
       let b : Sound same (λ k l. walk (env_of k l) x ++ head_faults (refused k) x) (notes_of x) (λ k c d. Left w x k s.at m.at) s t = sound_as s t refl refl (notes_nil (notes_of x)) (λ r. r.0) (paired p q) in
       sound_as s (moved t) refl refl refl (λ r. (r.0, ap after e)) (stepped b (sound_moved {P = λ k c d. d ≡ after c} t refl (ap (λ c. is_error (kind_at c)) e ∙ h) refl))
 
-  head_part_sound : (j : TokenKind) (s : State) → Meets (λ x t. SoundTree (PartRule Expr) s x t) (head_part j (inner_expr expression) s)
+  head_part_sound : (j : TokenKind) (s : State) → Meets (λ x t. SoundTree (SmallPartRule Expr) s x t) (head_part j (inner_expr expression) s)
   unfolding head_part
   head_part_sound j s = meets_if _ (sees j s.at) _ _ (λ _. sound_here s (no_part_rule refl refl))
       (λ _. meets_as (within with_in (inner_expr expression) s) (inside_sound Expr Pat inner_expr inner_pat sound_expr sound_pat expression s) (λ x t p. sound_as s t refl refl refl (λ r. part_rule r) p))
@@ -363,7 +365,7 @@ module _ (Stmt : Code → Position → Tree → Place → Place → Type 0) (Exp
 
   module _ (Params : Code → List Tree → Place → Place → Type 0) (Named : Code → (name x : Tree) → Place → Place → Type 0) (at : Position) where
     abbrev SoundStmt : State → Tree → State → Type 0
-    SoundStmt s x t = SoundTree (λ k. StmtRule Stmt Expr Pat Target Params Named k at) s x t
+    SoundStmt s x t = SoundTree (λ k. SmallStmtRule Stmt Expr Pat Target Params Named k at) s x t
 
     -- each from behind what its head begins with
     for_parts_sound : (w : Bool) (s i m : State) (o : Opening) → kind_at s.at ≡ kind.For → SoundStep (λ k. Takes kind.LParen) (moved s) i → SoundOpening w i o m
@@ -378,8 +380,8 @@ module _ (Stmt : Code → Position → Tree → Place → Place → Type 0) (Exp
         meets_then _ (within in_loop (inner sub_statement) p) _ (looped_sound Stmt inner sound p) (λ v t q.
         sound_after s t e refl refl refl
         (λ (c7, (c6, (c5, (c4, (c3, (c2, (c1, b1, b2), b3), b4), b5), b6), b7), b8).
-        for_rule x y z v c2 c4 c6 e b1.0 (subst (λ w. InitRule Expr Pat s.code x w c2) b1.1 b2) b3.0 (subst (λ w. PartRule Expr s.code y w c4) b3.1 b4) b5.0
-        (subst (λ w. PartRule Expr s.code z w c6) b5.1 b6) b7.0 (subst (λ w. Stmt (in_loop s.code) sub_statement v w t.at) b7.1 b8) refl)
+        for_rule x y z v c2 c4 c6 e b1.0 (subst (λ w. SmallInitRule Expr Pat s.code x w c2) b1.1 b2) b3.0 (subst (λ w. SmallPartRule Expr s.code y w c4) b3.1 b4) b5.0
+        (subst (λ w. SmallPartRule Expr s.code z w c6) b5.1 b6) b7.0 (subst (λ w. Stmt (in_loop s.code) sub_statement v w t.at) b7.1 b8) refl)
         (sound_then (sound_more (sound_then (sound_more (sound_then (sound_more (sound_then a b) c) d) f) g) h) q))))))))
 
     for_in_sound : (v : Bool) (s i m : State) (o : Opening) → kind_at s.at ≡ kind.For → SoundStep (λ k. Takes kind.LParen) (moved s) i → SoundOpening v i o m → kind_at m.at ≡ kind.In
@@ -393,7 +395,7 @@ module _ (Stmt : Code → Position → Tree → Place → Place → Type 0) (Exp
         meets_then _ (within in_loop (inner sub_statement) r) _ (looped_sound Stmt inner sound r) (λ z t u.
         sound_after s t e refl refl refl
         (λ ((((b1, (b2, b3)), b4), b5), b6).
-        for_in_rule x y z n.at j.at e b1.0 (subst (λ v. LeftRule Expr Pat Target s.code x v n.at) b1.1 (b2.0 (seen n.at kind.In w))) w (subst (λ v. Expr expression (with_in s.code) y v j.at) b3 b4) b5.0
+        for_in_rule x y z n.at j.at e b1.0 (subst (λ v. SmallLeftRule Expr Pat Target s.code x v n.at) b1.1 (b2.0 (seen n.at kind.In w))) w (subst (λ v. Expr expression (with_in s.code) y v j.at) b3 b4) b5.0
         (subst (λ v. Stmt (in_loop s.code) sub_statement z v t.at) b5.1 b6) refl)
         (paired (stepped (paired (paired a (left_faults v (λ k. k.flags.strict) x i n l b c g (ap is_error w))) d) p) u))))))
 
@@ -412,7 +414,7 @@ module _ (Stmt : Code → Position → Tree → Place → Place → Type 0) (Exp
         meets_then _ (within in_loop (inner sub_statement) r) _ (looped_sound Stmt inner sound r) (λ z t u.
         sound_after s t e refl refl refl
         (λ (((((c1, c2, b1), (b2, b3)), b4), b5), b6).
-        for_of_rule awaits x y z c1 n.at j.at e c2 b1.0 (subst (λ v. OfLeftRule Expr Pat Target s.code awaits x v n.at) b1.1 (b2.1 w)) w (subst (λ v. Expr assignment (with_in s.code) y v j.at) b3 b4) b5.0
+        for_of_rule awaits x y z c1 n.at j.at e c2 b1.0 (subst (λ v. SmallOfLeftRule Expr Pat Target s.code awaits x v n.at) b1.1 (b2.1 w)) w (subst (λ v. Expr assignment (with_in s.code) y v j.at) b3 b4) b5.0
         (subst (λ v. Stmt (in_loop s.code) sub_statement z v t.at) b5.1 b6) refl)
         (paired (stepped (paired (paired a (left_faults awaits (λ k. true) x i n l b c g (text_stands (codes "of") n.at w))) d) p) u))))))
 

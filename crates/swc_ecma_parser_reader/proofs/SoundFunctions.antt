@@ -17,10 +17,12 @@ use Rattle.swc_ecma_parser_grammar.specs.Follows.{Star, is_async_function, Async
 use Rattle.swc_ecma_parser_grammar.specs.Looks.{kind_at, span_at, spanned}
 use Rattle.swc_ecma_parser_grammar.specs.Names.{Code, is_name, name_at}
 use Rattle.swc_ecma_parser_grammar.specs.Own.{misplaced_directive}
+use Rattle.swc_ecma_parser_grammar.specs.language.Parts.{ReadsToken}
+use Rattle.swc_ecma_parser_grammar.specs.language.Items.{nested_item}
 use Rattle.swc_ecma_parser_grammar.specs.language.Noted.{has_meta}
 use Rattle.swc_ecma_parser_grammar.specs.Parameters.{parameter, parameters}
-use Rattle.swc_ecma_parser_grammar.specs.Reads.{nested_item, with_in, ReadsToken, ReadsItems, ReadsBraced, ReadsParts, ReadsFunction, ReadsFunctionExpr, OwnNameRule, no_own_name_rule, own_name_rule}
-use Rattle.swc_ecma_parser_grammar.specs.language.Contexts.{named_by, in_parameters, in_body, in_arrow}
+use Rattle.swc_ecma_parser_grammar.specs.scaffold.Reads.{ReadsItems, ReadsBraced, ReadsParts, ReadsFunction, ReadsFunctionExpr, OwnNameRule, no_own_name_rule, own_name_rule}
+use Rattle.swc_ecma_parser_grammar.specs.language.Contexts.{named_by, in_parameters, in_body, in_arrow, with_in}
 use Rattle.swc_ecma_parser_grammar.specs.Walk as walks
 use Rattle.swc_ecma_parser_grammar.specs.Walk.{Env, walk, env_of}
 use Rattle.swc_ecma_parser_reader.specs.Notes.{no_notes, ◌⊕◌, notes_of, all_notes_of}
@@ -133,7 +135,7 @@ module _ (Stmt : Code → Position → Tree → Place → Place → Type 0) (Par
 
   -- under the flags of one
   pub function_body_sound : (w g : Bool) (s : State)
-      → Meets (λ x t. Sound same (λ k l. walks.walk_body (walks.in_body (env_of k l)) x) (record (notes_of x) { found_module_item = false }) (λ k. ReadsBraced Stmt true (in_body k w g) x) s t)
+      → Meets (λ x t. Sound same (λ k l. walks.walk_body (walks.env_in_body (env_of k l)) x) (record (notes_of x) { found_module_item = false }) (λ k. ReadsBraced Stmt true (in_body k w g) x) s t)
       (function_body inner params w g s)
   unfolding function_body SoundEnclosed
   function_body_sound w g s = let j = coded (in_body s.code w g) s in
@@ -154,7 +156,7 @@ module _ (Stmt : Code → Position → Tree → Place → Place → Type 0) (Par
   ))
 
   pub arrow_block_sound : (w : Bool) (s : State)
-      → Meets (λ x t. Sound same (λ k l. body_walk (walks.in_body (env_of k l)) x) (record (notes_of x) { found_module_item = false }) (λ k. ReadsBraced Stmt true (with_in (in_arrow k w)) x) s t)
+      → Meets (λ x t. Sound same (λ k l. body_walk (walks.env_in_body (env_of k l)) x) (record (notes_of x) { found_module_item = false }) (λ k. ReadsBraced Stmt true (with_in (in_arrow k w)) x) s t)
       (arrow_block inner params w s)
   unfolding arrow_block SoundBlock
   arrow_block_sound w s = let j = coded (with_in (in_arrow s.code w)) s in
@@ -175,12 +177,12 @@ module _ (Stmt : Code → Position → Tree → Place → Place → Type 0) (Par
       meets_then _ (function_body inner params a v m) _ (function_body_sound a v m) (λ x u q.
       meets_then _ (misdirected (parameters ps) x u) _ (misdirected_sound (parameters ps) x u) (λ _ t r.
       let here : Span = record { lo = start.lo; hi = u.at.last.hi } in
-      let both : Sound same (λ k l. walks.walks (walks.in_params (env_of k l)) false (trees ps) ++ walks.walk_body (walks.in_body (env_of k l)) x)
+      let both : Sound same (λ k l. walks.walks (walks.env_in_parameters (env_of k l)) false (trees ps) ++ walks.walk_body (walks.env_in_body (env_of k l)) x)
       (all_notes_of (trees ps) ⊕ record (notes_of x) { found_module_item = false })
       (λ k c d. ((j : Place) × Params (in_parameters k a v) ps c j × ReadsBraced Stmt true (in_body k a v) x j d) × (d ≡ u.at)) s u =
       sound_as s u refl refl refl (λ z. (z, refl)) (sound_then p q) in
       sound_as s t refl
-      (ap (λ z. z ++ walks.walk_body (walks.in_body (env_of s.code s.scope.labels)) x ++ misplaced_directive (has_plain_params (parameters ps)) x) (sym (parameters_walk (walks.in_params (env_of s.code s.scope.labels)) ps)))
+      (ap (λ z. z ++ walks.walk_body (walks.env_in_body (env_of s.code s.scope.labels)) x ++ misplaced_directive (has_plain_params (parameters ps)) x) (sym (parameters_walk (walks.env_in_parameters (env_of s.code s.scope.labels)) ps)))
       (notes_nil (all_notes_of (trees ps) ⊕ record (notes_of x) { found_module_item = false }) ∙ function_notes a v here ps x)
       (λ (i, ((j, l, b), g), c). (
         ps,
@@ -281,7 +283,7 @@ module _ (Stmt : Code → Position → Tree → Place → Place → Type 0) (Par
 
   -- ---- methods, behind their key
 
-  within_params : (s : State) → Meets (λ ps t. Sound same (λ k l. walks.walks (walks.in_params (env_of k l)) false (trees ps)) (all_notes_of (trees ps)) (λ k. Params (in_parameters k false false) ps) s t)
+  within_params : (s : State) → Meets (λ ps t. Sound same (λ k l. walks.walks (walks.env_in_parameters (env_of k l)) false (trees ps)) (all_notes_of (trees ps)) (λ k. Params (in_parameters k false false) ps) s t)
       (within (λ k. in_parameters k false false) params s)
   within_params s = within_sound (λ ps k l. walks.walks (env_of k l) false (trees ps)) (λ ps. all_notes_of (trees ps)) (λ ps k. Params k ps) (λ k. in_parameters k false false) (λ k. refl) params s
       (sound_params (coded (in_parameters s.code false false) s))
@@ -303,7 +305,7 @@ module _ (Stmt : Code → Position → Tree → Place → Place → Type 0) (Par
       SoundSetter x t = SoundTree (λ k y. SetterRead Stmt Params P key y k) s x t
 
       -- behind its parameters
-      getter_from : (ps : List Tree) (u : State) → Sound same (λ k l. walks.walks (walks.in_params (env_of k l)) false (trees ps)) (all_notes_of (trees ps)) (λ k. Params (in_parameters k false false) ps) m u
+      getter_from : (ps : List Tree) (u : State) → Sound same (λ k l. walks.walks (walks.env_in_parameters (env_of k l)) false (trees ps)) (all_notes_of (trees ps)) (λ k. Params (in_parameters k false false) ps) m u
           → Meets SoundGetter (and_then (no_parameter (span_at s.at) ps u) (λ _ v. and_then (function_body inner params false false v)
           (λ body t. Ok (tree.getter_prop (record { lo = (span_at s.at).lo; hi = t.at.last.hi }) key body, t))))
       unfolding spanned SoundGetter
@@ -323,7 +325,7 @@ module _ (Stmt : Code → Position → Tree → Place → Place → Type 0) (Par
 
       -- behind its parameter
       setter_of : (y : Tree) (u : State) → is_plain_param y ≡ is_binding_name y → is_rest y ≡ false
-          → Sound same (λ k l. walk (walks.in_params (env_of k l)) y) (notes_of y) (λ k. Params (in_parameters k false false) (y ∷ [])) m u
+          → Sound same (λ k l. walk (walks.env_in_parameters (env_of k l)) y) (notes_of y) (λ k. Params (in_parameters k false false) (y ∷ [])) m u
           → Meets SoundSetter (and_then (function_body inner params false false u) (λ body v. and_then (told (misplaced_directive (is_binding_name y) body) v)
           (λ _ t. Ok (tree.setter_prop (record { lo = (span_at s.at).lo; hi = v.at.last.hi }) key y body, t))))
       unfolding spanned SoundSetter
@@ -331,11 +333,11 @@ module _ (Stmt : Code → Position → Tree → Place → Place → Type 0) (Par
           meets_then _ (told (misplaced_directive (is_binding_name y) x) v) _ (misset_sound y x v) (λ _ t w.
           let env : Env = env_of s.code s.scope.labels in
           let span : Span = record { lo = (span_at s.at).lo; hi = v.at.last.hi } in
-          let known : Sound same (λ k l. walks.walk_body (walks.in_body (env_of k l)) x) (record (notes_of x) { found_module_item = false })
+          let known : Sound same (λ k l. walks.walk_body (walks.env_in_body (env_of k l)) x) (record (notes_of x) { found_module_item = false })
           (λ k c d. ReadsBraced Stmt true (in_body k false false) x c d × (d ≡ v.at)) u v = sound_as u v refl refl refl (λ z. (z, refl)) r in
           let whole : Sound same (λ k l. walk (env_of k l) (tree.setter_prop span key y x)) (notes_of (tree.setter_prop span key y x))
           (λ k c d. (o : Place) × ((j : Place) × ((i : Place) × P k c i × Params (in_parameters k false false) (y ∷ []) i j) × (ReadsBraced Stmt true (in_body k false false) x j o × (o ≡ v.at))) × (d ≡ o)) s t =
-          sound_as s t refl (ap (λ b. walk env key ++ walk (walks.in_params env) y ++ walks.walk_body (walks.in_body env) x ++ misplaced_directive b x) (sym e)) (setter_notes span key y x) (λ z. z)
+          sound_as s t refl (ap (λ b. walk env key ++ walk (walks.env_in_parameters env) y ++ walks.walk_body (walks.env_in_body env) x ++ misplaced_directive b x) (sym e)) (setter_notes span key y x) (λ z. z)
           (sound_then (sound_then (sound_then p q) known) w) in
           sound_as s t refl refl refl (λ (o, (j, (i, a, b), (c, g)), h). record {
             p = y;
@@ -347,13 +349,13 @@ module _ (Stmt : Code → Position → Tree → Place → Place → Type 0) (Par
             is = ap (λ d. tree.setter_prop (record { lo = (span_at s.at).lo; hi = d.last.hi }) key y x) (sym (h ∙ g));
           }) whole))
 
-      setter_from : (ps : List Tree) (u : State) → Sound same (λ k l. walks.walks (walks.in_params (env_of k l)) false (trees ps)) (all_notes_of (trees ps)) (λ k. Params (in_parameters k false false) ps) m u
+      setter_from : (ps : List Tree) (u : State) → Sound same (λ k l. walks.walks (walks.env_in_parameters (env_of k l)) false (trees ps)) (all_notes_of (trees ps)) (λ k. Params (in_parameters k false false) ps) m u
           → AllUnwrapped ps u → Meets SoundSetter (and_then (one_parameter (span_at s.at) ps u) (λ y v. and_then (function_body inner params false false v) (λ body n.
           and_then (told (misplaced_directive (is_binding_name y) body) n) (λ _ t. Ok (tree.setter_prop (record { lo = (span_at s.at).lo; hi = n.at.last.hi }) key y body, t)))))
       setter_from [] u q h = meets_then {P = λ _ _. ⊥} _ (reject (fault_at (span_at s.at) faults.SetterParam) u) _ (reject_meets (λ _ _. ⊥) _ u) (λ _ _ z. absurd z)
       setter_from (y ∷ []) u q (e, h) = meets_then {P = λ z t. (z ≡ y) × (t ≡ u) × (is_rest y ≡ false)} _ (one_parameter (span_at s.at) (y ∷ []) u) _
           (meets_if _ (is_rest y) _ _ (λ _. reject_meets _ _ u) (λ l. (refl, refl, l)))
-          (λ z v (a, b, l). rw (a, b) (setter_of y u e l (sound_as m u refl (append-nil (walk (walks.in_params (env_of m.code m.scope.labels)) y)) (notes_nil (notes_of y)) (λ r. r) q)))
+          (λ z v (a, b, l). rw (a, b) (setter_of y u e l (sound_as m u refl (append-nil (walk (walks.env_in_parameters (env_of m.code m.scope.labels)) y)) (notes_nil (notes_of y)) (λ r. r) q)))
       setter_from (y ∷ z ∷ zs) u q h = meets_then {P = λ _ _. ⊥} _ (reject (fault_at (span_at s.at) faults.SetterParam) u) _ (reject_meets (λ _ _. ⊥) _ u) (λ _ _ z. absurd z)
 
       module _ (unwrapped : (v : State) → Meets AllUnwrapped (params v)) where
@@ -381,8 +383,8 @@ module _ (Stmt : Code → Position → Tree → Place → Place → Type 0) (Par
           → walk env key ++ walk env x ≡ walk env (tree.method_prop span key x)
       method_walk env span f x ps body w g e =
           let here = walk env key in
-          let of_params = walk (walks.in_params env) (parameters ps) in
-          let of_body = walks.walk_body (walks.in_body env) body in
+          let of_params = walk (walks.env_in_parameters env) (parameters ps) in
+          let of_body = walks.walk_body (walks.env_in_body env) body in
           let late = misplaced_directive (has_plain_params (parameters ps)) body in
           ap (λ z. walk env key ++ walk env z) e ∙ sym (append_assoc here (of_params ++ of_body) late) ∙ ap (λ z. z ++ late) (sym (append_assoc here of_params of_body))
           ∙ sym (ap (λ z. walk env (tree.method_prop span key z)) e)

@@ -24,8 +24,12 @@ use Rattle.swc_ecma_parser_grammar.specs.Variables.{begins_variables, is_var, is
 use Rattle.swc_ecma_parser_model.specs.Within.{declared_name, is_initialized}
 use Rattle.swc_ecma_parser_grammar.specs.Own.{only, stands_around, break_faults, continue_faults, return_faults, labelled_function, duplicates, surplus, head_faults, first_use_strict, misplaced_directive}
 use Rattle.swc_ecma_parser_grammar.specs.Ends.{Ends, by_semicolon, by_insertion, OptionalEnds, by_a_semicolon, by_nothing, can_end, ends_at}
+use Rattle.swc_ecma_parser_grammar.specs.language.Declarations.{is_using_declaration}
+use Rattle.swc_ecma_parser_grammar.specs.language.Lists.{ReadsSeparated}
+use Rattle.swc_ecma_parser_grammar.specs.language.Items.{directed, directs_on}
+use Rattle.swc_ecma_parser_grammar.specs.language.Contexts.{with_in, in_strict}
 use Rattle.swc_ecma_parser_grammar.specs.language.Goals.{Class, expression, assignment}
-use Rattle.swc_ecma_parser_grammar.specs.Reads.{with_in, in_strict, directed, directs_on, DeclaratorRule, plain_rule, initialized_rule, ReadsSeparated, ReadsItems, TargetRule, no_target_rule, target_rule, StmtRule, variables_rule, using_rule}
+use Rattle.swc_ecma_parser_grammar.specs.scaffold.Reads.{SmallDeclaratorRule, plain_rule, initialized_rule, ReadsItems, SmallTargetRule, no_target_rule, target_rule, SmallStmtRule, variables_rule, using_rule}
 use Rattle.swc_ecma_parser_grammar.specs.Walk as walks
 use Rattle.swc_ecma_parser_grammar.specs.Walk.{walk, env_of}
 use Rattle.swc_ecma_parser_grammar.specs.Notes.{statement_note, with_note}
@@ -41,7 +45,7 @@ use Rattle.swc_ecma_parser_reader.specs.Entry.{error_tokens}
 use Rattle.swc_ecma_parser_reader.proofs.Errors.{is_error}
 use Rattle.swc_ecma_parser_reader.proofs.Meets.{Meets, Refuses, meets_then, meets_if, wanted_meets, refuse_meets, Turned, loop_answers, saw}
 use Rattle.swc_ecma_parser_reader.proofs.Between.{Sound, SoundTree, SoundStep, no_faults, same, same-fewer, sound_then, sound_more, sound_moved, sound_here, sound_as, sound_after, sound_coded, within_sound}
-use Rattle.swc_ecma_parser_grammar.specs.Using.{is_using_declaration, misused, each_misused, using_faults, is_await_using_declaration}
+use Rattle.swc_ecma_parser_grammar.specs.scaffold.Using.{misused, each_misused, using_faults, is_await_using_declaration}
 use Rattle.swc_ecma_parser_grammar.proofs.Using.{using_stands}
 use Rattle.swc_ecma_parser_grammar.proofs.AwaitUsing.{declares_behind_await}
 
@@ -124,7 +128,7 @@ module _ (Expr : Class → Code → Tree → Place → Place → Type 0) (Pat : 
   module _ (in_head : Bool) (word : VarDeclKind) where
     -- a declarator of these expressions and patterns
     abbrev pub Declared : Code → Tree → Place → Place → Type 0
-    Declared k = DeclaratorRule (Expr assignment) Pat k in_head word
+    Declared k = SmallDeclaratorRule (Expr assignment) Pat k in_head word
 
     -- what stands behind a name
     initialized_sound : (s : State) (p : Tree) (t : State) → Sound same (λ k l. walk (env_of k l) p) (notes_of p) (λ k. Pat (with_in k) p) s t → kind_at t.at ≡ kind.Assign → Meets (λ x u. SoundTree Declared s x u) (initialized expr pat (span_at s.at) p t)
@@ -184,7 +188,7 @@ module _ (Expr : Class → Code → Tree → Place → Place → Type 0) (Pat : 
 
   -- `var`, `let` or `const`
   pub variables_sound : (Stmt : Code → Position → Tree → Place → Place → Type 0) (Target : Code → Tree → Place → Place → Type 0) (Params : Code → List Tree → Place → Place → Type 0)
-      (Named : Code → (name x : Tree) → Place → Place → Type 0) (at : Position) → Passes (expr expression) → (word : VarDeclKind) (s : State) → at.include_decl || is_var word ≡ true → begins_variables word s.at ≡ true → Meets (λ x t. SoundTree (λ k. StmtRule Stmt Expr Pat Target Params Named k at) s x t) (variables expr pat word s)
+      (Named : Code → (name x : Tree) → Place → Place → Type 0) (at : Position) → Passes (expr expression) → (word : VarDeclKind) (s : State) → at.include_decl || is_var word ≡ true → begins_variables word s.at ≡ true → Meets (λ x t. SoundTree (λ k. SmallStmtRule Stmt Expr Pat Target Params Named k at) s x t) (variables expr pat word s)
   unfolding variables
   variables_sound Stmt Target Params Named at passes word s b e = meets_then _ (within with_in (declarators expr pat false word) (moved s)) _
       (within_sound (λ xs k l. walks.walks (env_of k l) false (trees xs)) (λ xs. all_notes_of (trees xs)) (λ xs k. ReadsSeparated (Declared false word k) xs) with_in (λ k. refl)
@@ -197,7 +201,7 @@ module _ (Expr : Class → Code → Tree → Place → Place → Type 0) (Pat : 
       (Named : Code → (name x : Tree) → Place → Place → Type 0) (at : Position) where
     -- from the word on, behind `await` or not
     using_from_sound : (v : Bool) (c : Place) (s : State) → at.include_decl || (v && at.top_level) ≡ true → AwaitWord v c s.at → v && breaks_at s.at ≡ false → is_using_declaration s.code s.at ≡ true
-        → Meets (λ x t. Sound same (λ k l. walk (env_of k l) x) (notes_of x) (λ k _ d. StmtRule Stmt Expr Pat Target Params Named k at x c d) s t) (using_from (declarators expr pat false decl.Var) v (span_at c) s)
+        → Meets (λ x t. Sound same (λ k l. walk (env_of k l) x) (notes_of x) (λ k _ d. SmallStmtRule Stmt Expr Pat Target Params Named k at x c d) s t) (using_from (declarators expr pat false decl.Var) v (span_at c) s)
     unfolding using_from misusing spanned
     using_from_sound v c s b a l e = meets_then _ (within with_in (declarators expr pat false decl.Var) (moved s)) _
         (within_sound (λ xs k l. walks.walks (env_of k l) false (trees xs)) (λ xs. all_notes_of (trees xs)) (λ xs k. ReadsSeparated (Declared false decl.Var k) xs) with_in (λ k. refl)
@@ -211,19 +215,19 @@ module _ (Expr : Class → Code → Tree → Place → Place → Type 0) (Pat : 
         (ap (λ (k : Code). using_faults k.setting.explicit_resource_management (spanned c m.at) xs) (sym p.code) ∙ z) (subst (λ d. Ends d t.at) (y ∙ g) o) refl) (sound_more (sound_more r q) h))))
 
     pub using_sound : (s : State) → at.include_decl ≡ true → is_using_declaration s.code s.at ≡ true
-        → Meets (λ x t. SoundTree (λ k. StmtRule Stmt Expr Pat Target Params Named k at) s x t) (using_stmt (declarators expr pat false decl.Var) s)
+        → Meets (λ x t. SoundTree (λ k. SmallStmtRule Stmt Expr Pat Target Params Named k at) s x t) (using_stmt (declarators expr pat false decl.Var) s)
     unfolding using_stmt
     using_sound s b e = meets_as (using_from (declarators expr pat false decl.Var) false (span_at s.at) s) (using_from_sound false s.at s (rw b refl) (no_await refl refl) refl e) (λ x t p. sound_as s t refl refl refl (λ r. r) p)
 
     pub await_using_sound : (s : State) → at.include_decl || at.top_level ≡ true → kind_at s.at ≡ kind.Await → is_using_declaration s.code (after s.at) ≡ true → breaks_at (after s.at) ≡ false
-        → Meets (λ x t. SoundTree (λ k. StmtRule Stmt Expr Pat Target Params Named k at) s x t) (await_using_stmt (declarators expr pat false decl.Var) s)
+        → Meets (λ x t. SoundTree (λ k. SmallStmtRule Stmt Expr Pat Target Params Named k at) s x t) (await_using_stmt (declarators expr pat false decl.Var) s)
     unfolding await_using_stmt
     await_using_sound s b a e l = meets_as (using_from (declarators expr pat false decl.Var) true (span_at s.at) (moved s)) (using_from_sound true s.at (moved s) b (await_word refl a refl) l e)
         (λ x t p. sound_after s t a refl refl refl (λ r. r) p)
 
     -- before anything else
-    pub first_sound : (v : Bool) (rest : Position → Reader Tree) (s : State) → Meets (λ x t. SoundTree (λ k. StmtRule Stmt Expr Pat Target Params Named k at) s x t) (rest at s)
-        → Meets (λ x t. SoundTree (λ k. StmtRule Stmt Expr Pat Target Params Named k at) s x t) (await_using_or (declarators expr pat false decl.Var) v rest at s)
+    pub first_sound : (v : Bool) (rest : Position → Reader Tree) (s : State) → Meets (λ x t. SoundTree (λ k. SmallStmtRule Stmt Expr Pat Target Params Named k at) s x t) (rest at s)
+        → Meets (λ x t. SoundTree (λ k. SmallStmtRule Stmt Expr Pat Target Params Named k at) s x t) (await_using_or (declarators expr pat false decl.Var) v rest at s)
     unfolding await_using_or
     first_sound v rest s r = meets_if _ (is_await_using_declaration at s.code s.at && v) _ _
         (λ h. let (b, e, i, l) = declares_behind_await at s.code s.at (and_yes (is_await_using_declaration at s.code s.at) v h).0 in await_using_sound s b e i l) (λ _. r)
@@ -264,7 +268,7 @@ code_push k directives [] x = refl
 code_push k directives (y ∷ ys) x = code_push (directed k directives y) (directs_on directives y) ys x
 
 -- what the walk knows of the code behind a directive
-directed_env : (k : Code) (labels : List Text) (directives : Bool) (x : Tree) → env_of (directed k directives x) labels ≡ walks.directed (env_of k labels) directives x
+directed_env : (k : Code) (labels : List Text) (directives : Bool) (x : Tree) → env_of (directed k directives x) labels ≡ walks.env_directed (env_of k labels) directives x
 directed_env k labels directives x = by_test (directives && is_use_strict x)
   where
     by_test : (b : Bool) → env_of (cond b (in_strict k) k) labels ≡ cond b (record (env_of k labels) { strict = true }) (env_of k labels)
@@ -278,8 +282,8 @@ items_walk_push k labels directives [] x = sym (append-nil (walk (env_of k label
 items_walk_push k labels directives (y ∷ ys) x =
     let j : Code = directed k directives y in
     let b : Bool = directs_on directives y in
-    let e : env_of j labels ≡ walks.directed (env_of k labels) directives y = directed_env k labels directives y in
-    append_assoc (walk (env_of k labels) y) (walks.walks (walks.directed (env_of k labels) directives y) b (trees ys)) (walk (env_of (code_after j b ys) labels) x)
+    let e : env_of j labels ≡ walks.env_directed (env_of k labels) directives y = directed_env k labels directives y in
+    append_assoc (walk (env_of k labels) y) (walks.walks (walks.env_directed (env_of k labels) directives y) b (trees ys)) (walk (env_of (code_after j b ys) labels) x)
     ∙ ap (λ z. walk (env_of k labels) y ++ z) (subst (λ v. walks.walks v b (trees ys) ++ walk (env_of (code_after j b ys) labels) x ≡ walks.walks v b (trees (ys ++ x ∷ []))) e
     (items_walk_push j labels b ys x))
 
@@ -515,7 +519,7 @@ unfolding SoundTold
 misset_sound p body s = meets_as (told (misplaced_directive (is_binding_name p) body) s) (told_sound _ (misplaced_tabled (is_binding_name p) body) s) (λ _ t q. sound_as s t refl refl refl (λ h. h) q)
 
 -- the label of `break` and `continue`, in which the walk finds nothing
-pub target_sound : (s : State) → Meets (λ x t. Sound same no_faults (notes_of x) (λ k. TargetRule k x) s t) (target s)
+pub target_sound : (s : State) → Meets (λ x t. Sound same no_faults (notes_of x) (λ k. SmallTargetRule k x) s t) (target s)
 unfolding target
 target_sound s = meets_if _ (ends_at s.at) _ _ (λ e. sound_here s (no_target_rule e refl refl))
     (λ e. meets_then _ (name faults.ExpectedIdent s) _ (name_sound faults.ExpectedIdent s) (λ i t p.

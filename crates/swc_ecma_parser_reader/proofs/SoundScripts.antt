@@ -26,11 +26,13 @@ use Rattle.swc_ecma_parser_model.specs.Directive.{is_use_strict}
 use Rattle.swc_ecma_parser_grammar.specs.declared.position.Position.{Position}
 use Rattle.swc_ecma_parser_grammar.specs.Looks.{kind_at, sees, same_kind, span_at, spanned}
 use Rattle.swc_ecma_parser_grammar.specs.Names.{Code}
-use Rattle.swc_ecma_parser_grammar.specs.Reads.{in_strict, directed, directs_on, top_item, ReadsItems}
-use Rattle.swc_ecma_parser_grammar.specs.ReadsSupported.{ReadsStmt, ReadsTop}
-use Rattle.swc_ecma_parser_grammar.specs.Entries.{ReadsScript, ReadsShebang, some_shebang, no_shebang, script_code, items_await}
+use Rattle.swc_ecma_parser_grammar.specs.scaffold.Reads.{ReadsItems}
+use Rattle.swc_ecma_parser_grammar.specs.scaffold.ReadsSupported.{ReadsStmt, ReadsTop}
+use Rattle.swc_ecma_parser_grammar.specs.scaffold.Entries.{ReadsScript, ReadsShebang, some_shebang, no_shebang, small_items_await}
 use Rattle.swc_ecma_parser_grammar.specs.Walk as walks
 use Rattle.swc_ecma_parser_grammar.specs.Walk.{walk, env_of}
+use Rattle.swc_ecma_parser_grammar.specs.language.Items.{directed, directs_on, top_item}
+use Rattle.swc_ecma_parser_grammar.specs.language.Contexts.{in_strict, script_code}
 use Rattle.swc_ecma_parser_grammar.specs.language.Statements.{may_begin_at_top}
 use Rattle.swc_ecma_parser_grammar.proofs.Tests.{and_yes}
 use Rattle.swc_ecma_parser_grammar.proofs.Widens.{shebang_widens, script_widens, script_awaits_as}
@@ -187,7 +189,7 @@ code_may k directives (x ∷ xs) = code_may (directed k directives x) (directs_o
 -- one more
 module _ (Item : Code → Tree → Place → Place → Type 0) where
   items_push : (k : Code) (directives : Bool) (xs : List Tree) (x : Tree) (c m d : Place) (r : ReadsItems Item k directives xs c m) → Item (code_after k directives xs) x m d
-      → (z : ReadsItems Item k directives (xs ++ x ∷ []) c d) × (items_await Item k directives (xs ++ x ∷ []) c d z ≡ (items_await Item k directives xs c m r || sees kind.Await m))
+      → (z : ReadsItems Item k directives (xs ++ x ∷ []) c d) × (small_items_await Item k directives (xs ++ x ∷ []) c d z ≡ (small_items_await Item k directives xs c m r || sees kind.Await m))
   items_push k directives [] x c m d e q = ((d, subst (λ z. Item k x z d) e q, refl), or_nil (sees kind.Await c) ∙ ap (sees kind.Await) (sym e))
   items_push k directives (y ∷ ys) x c m d (i, a, more) q =
       let w = items_push (directed k directives y) (directs_on directives y) ys x i m d more q in
@@ -205,7 +207,7 @@ notes_with_push xs x a b =
 
 -- the items of a script, and whether one begins with `await`
 abbrev pub ReadsTops : ℕ → Bool → List Tree → Code → Place → Place → Type 0
-ReadsTops n b xs k c d = (r : ReadsItems (λ j. ReadsTop n j top_item) k true xs c d) × (b ≡ items_await (λ j. ReadsTop n j top_item) k true xs c d r)
+ReadsTops n b xs k c d = (r : ReadsItems (λ j. ReadsTop n j top_item) k true xs c d) × (b ≡ small_items_await (λ j. ReadsTop n j top_item) k true xs c d r)
 
 abbrev pub SoundTops : ℕ → State → List Tree → State → Type 0
 SoundTops n s xs t = (b : Bool)
@@ -220,7 +222,7 @@ tops_push : (n : ℕ) (xs : List Tree) (x : Tree) (a b : Bool) (k : Code) (c m d
     → ReadsTops n (a || b) (xs ++ x ∷ []) k c d
 tops_push n xs x a b k c m d (r, e) (q, g) =
     let w = items_push (λ j. ReadsTop n j top_item) k true xs x c m d r q in
-    (w.0, ap (λ z. z || b) e ∙ ap (λ z. items_await (λ j. ReadsTop n j top_item) k true xs c m r || z) g ∙ sym w.1)
+    (w.0, ap (λ z. z || b) e ∙ ap (λ z. small_items_await (λ j. ReadsTop n j top_item) k true xs c m r || z) g ∙ sym w.1)
 
 -- one more on its tokens
 stand_push : (xs : List Tree) (x : Tree) (b : Bool) (c m d : Place) → Stand xs b c m → StandsAt x m d → Stand (xs ++ x ∷ []) (b || sees kind.Await m) c d

@@ -25,11 +25,11 @@ use Rattle.swc_ecma_parser_grammar.specs.Looks.{kind_at, breaks_at, sees, first_
 use Rattle.swc_ecma_parser_grammar.specs.Names.{is_name, is_identifier, may_bind_await}
 use Rattle.swc_ecma_parser_grammar.specs.Follows.{word_at, may_begin_expression_statement, begins_import_expression, is_let_declaration, is_async_function}
 use Rattle.swc_ecma_parser_grammar.specs.Parameters.{parameters}
-use Rattle.swc_ecma_parser_grammar.specs.Reads.{nested_item, with_in}
 use Rattle.swc_ecma_parser_grammar.specs.Ends.{ends_at}
-use Rattle.swc_ecma_parser_grammar.specs.language.Contexts.{in_class, in_loop, in_breakable, in_with, in_parameters}
+use Rattle.swc_ecma_parser_grammar.specs.language.Declarations.{is_using_declaration}
+use Rattle.swc_ecma_parser_grammar.specs.language.Contexts.{in_class, in_loop, in_breakable, in_with, in_parameters, with_in}
 use Rattle.swc_ecma_parser_grammar.specs.language.Goals.{Class, expression, assignment, left_side}
-use Rattle.swc_ecma_parser_grammar.specs.language.Items.{sub_statement, labelled_item}
+use Rattle.swc_ecma_parser_grammar.specs.language.Items.{sub_statement, labelled_item, nested_item}
 use Rattle.swc_ecma_parser_grammar.proofs.Tests.{and_yes}
 use Rattle.swc_ecma_parser_reader.specs.Members.{extended, surplus, members, class_parts, named_class, class_decl, class_stmt}
 use Rattle.swc_ecma_parser_reader.specs.State.{State, Outcome, Reader, attempted, moved, coded, below, below_label, within, noted, module_found, recorded_at, recorded_in, fault, fault_at, wanted, name_by, name_in, name, expect, end, reference, unclean_name}
@@ -52,7 +52,6 @@ use Rattle.swc_ecma_parser_reader.proofs.SoundParts.{after_return_meets}
 use Rattle.swc_ecma_parser_reader.proofs.expressions.SoundSteps.{reject_meets, meets_as}
 use Rattle.swc_ecma_parser_reader.proofs.expressions.Keeps.{star_keeps}
 use Rattle.swc_ecma_parser_model.specs.declared.leaves.Ident.{Ident}
-use Rattle.swc_ecma_parser_grammar.specs.Using.{is_using_declaration}
 use Rattle.swc_ecma_parser_reader.proofs.First.{first_meets, first_keeps, first_falls}
 use Rattle.swc_ecma_parser_reader.proofs.decorators.Bare.{IsBare}
 

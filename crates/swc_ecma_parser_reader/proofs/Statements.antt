@@ -14,7 +14,7 @@ use Rattle.swc_ecma_parser_grammar.specs.declared.position.Position.{Position}
 use Rattle.swc_ecma_parser_grammar.specs.Looks.{kind_at, sees, same_kind}
 use Rattle.swc_ecma_parser_grammar.specs.Names.{Code, identifier_at}
 use Rattle.swc_ecma_parser_grammar.specs.Follows.{may_begin_expression_statement, is_async_function, is_let_declaration, word_at}
-use Rattle.swc_ecma_parser_grammar.specs.ReadsSupported.{ReadsTop}
+use Rattle.swc_ecma_parser_grammar.specs.scaffold.ReadsSupported.{ReadsTop}
 use Rattle.swc_ecma_parser_grammar.specs.Walk.{walk, env_of}
 use Rattle.swc_ecma_parser_grammar.specs.language.Programs.{at_top, entry_code, ReadsEntry}
 use Rattle.swc_ecma_parser_grammar.proofs.StatementEntries.{ReadsStatement, statement_widens, statement_narrows}
@@ -37,7 +37,7 @@ use Rattle.swc_ecma_parser_reader.proofs.Spans.{whole_is_on_tokens}
 use Rattle.swc_ecma_parser_reader.proofs.CompleteScripts.{whole_reads}
 use Rattle.swc_ecma_parser_reader.proofs.Empty.{ended}
 use Rattle.swc_ecma_parser_reader.proofs.Limits.{whole_fits}
-use Rattle.swc_ecma_parser_grammar.specs.Using.{is_await_using_declaration}
+use Rattle.swc_ecma_parser_grammar.specs.scaffold.Using.{is_await_using_declaration}
 
 -- ---- an entry reads what a statement is
 

@@ -15,8 +15,10 @@ use Rattle.swc_ecma_parser_model.specs.Tree.{Tree}
 use Rattle.swc_ecma_parser_grammar.specs.Looks.{kind_at, first_kind, same_kind, sees}
 use Rattle.swc_ecma_parser_grammar.specs.Names.{Code, is_identifier, is_reserved, token_is_identifier, first_is_identifier, identifier_at}
 use Rattle.swc_ecma_parser_grammar.specs.Ends.{Ends}
-use Rattle.swc_ecma_parser_grammar.specs.Follows.{token_is, first_is, word_at, is_let_declaration, may_begin_head, begins_async_of}
-use Rattle.swc_ecma_parser_grammar.specs.Using.{is_using_declaration, stands_in_head}
+use Rattle.swc_ecma_parser_grammar.specs.Follows.{token_is, first_is, word_at, is_let_declaration, may_begin_head}
+use Rattle.swc_ecma_parser_reader.specs.Words.{begins_async_of}
+use Rattle.swc_ecma_parser_grammar.specs.scaffold.Using.{stands_in_head}
+use Rattle.swc_ecma_parser_grammar.specs.language.Declarations.{is_using_declaration}
 use Rattle.swc_ecma_parser_grammar.specs.language.Goals.{expr_goal, expression}
 use Rattle.swc_ecma_parser_grammar.specs.language.Reads.{Reads}
 use Rattle.swc_ecma_parser_grammar.proofs.Tests.{and_yes, and_no, or_none}

@@ -12,9 +12,8 @@ use Rattle.swc_ecma_parser_model.specs.Targets.{as_parameter}
 use Rattle.swc_ecma_parser_grammar.specs.Looks.{breaks_at, sees}
 use Rattle.swc_ecma_parser_grammar.specs.Names.{name_at}
 use Rattle.swc_ecma_parser_grammar.specs.Own.{misplaced_directive}
-use Rattle.swc_ecma_parser_grammar.specs.Reads.{with_in}
 use Rattle.swc_ecma_parser_grammar.specs.language.Goals.{Class, assignment}
-use Rattle.swc_ecma_parser_grammar.specs.language.Contexts.{in_arrow}
+use Rattle.swc_ecma_parser_grammar.specs.language.Contexts.{in_arrow, with_in}
 use Rattle.swc_ecma_parser_reader.specs.Jumps.{told}
 use Rattle.swc_ecma_parser_reader.specs.Methods.{FunctionForm, parameter_form, block_form}
 use Rattle.swc_ecma_parser_reader.specs.Operands.{Cover, close, covered, continued}

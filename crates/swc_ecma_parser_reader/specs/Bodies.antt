@@ -11,9 +11,9 @@ use Rattle.swc_ecma_parser_grammar.specs.Looks.{sees, span_at}
 use Rattle.swc_ecma_parser_grammar.specs.Names.{name_at}
 use Rattle.swc_ecma_parser_grammar.specs.Follows.{is_async_function}
 use Rattle.swc_ecma_parser_grammar.specs.Parameters as formal
-use Rattle.swc_ecma_parser_grammar.specs.Reads.{with_in, directed, directs_on}
 use Rattle.swc_ecma_parser_grammar.specs.Own.{misplaced_directive}
-use Rattle.swc_ecma_parser_grammar.specs.language.Contexts.{named_by, in_parameters, in_body, in_arrow}
+use Rattle.swc_ecma_parser_grammar.specs.language.Items.{directed, directs_on}
+use Rattle.swc_ecma_parser_grammar.specs.language.Contexts.{named_by, in_parameters, in_body, in_arrow, with_in}
 use Rattle.swc_ecma_parser_reader.specs.Jumps.{told}
 use Rattle.swc_ecma_parser_reader.specs.Methods.{star}
 use Rattle.swc_ecma_parser_reader.specs.State.{Reader, ◌>>=◌, ◌>>◌, pure, here, span_here, since, skip, moved, spanned_from, coded, within, enclosed, fault, fault_at, reject, name, expect, Step, More, Done, loop}

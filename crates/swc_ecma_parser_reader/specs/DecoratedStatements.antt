@@ -6,7 +6,7 @@ use Rattle.swc_ecma_parser_token.specs.declared.kind.TokenKind.TheVariants as ki
 use Rattle.swc_ecma_parser_input.specs.Place.{Place}
 use Rattle.swc_ecma_parser_model.specs.Tree.{Tree}
 use Rattle.swc_ecma_parser_grammar.specs.declared.position.Position.{Position}
-use Rattle.swc_ecma_parser_grammar.specs.Decorated.{decorated_by}
+use Rattle.swc_ecma_parser_grammar.specs.scaffold.Decorated.{decorated_by}
 use Rattle.swc_ecma_parser_grammar.specs.Follows.{is_async_function}
 use Rattle.swc_ecma_parser_grammar.specs.Looks.{sees}
 use Rattle.swc_ecma_parser_reader.specs.Decorators.{Leading, leading, misplaced}

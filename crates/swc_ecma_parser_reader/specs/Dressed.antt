@@ -6,7 +6,7 @@ use Rattle.swc_ecma_parser_model.specs.Tree as tree
 use Rattle.swc_ecma_parser_model.specs.Tree.{Tree}
 use Rattle.swc_ecma_parser_model.specs.Forms.{span_of}
 use Rattle.swc_ecma_parser_grammar.specs.declared.position.Position.{Position}
-use Rattle.swc_ecma_parser_grammar.specs.Decorated.{class_behind, function_behind}
+use Rattle.swc_ecma_parser_grammar.specs.scaffold.Decorated.{class_behind, function_behind}
 use Rattle.swc_ecma_parser_grammar.specs.Looks.{span_at}
 use Rattle.swc_ecma_parser_grammar.specs.language.Contexts.{in_class}
 use Rattle.swc_ecma_parser_reader.specs.Decorators.{Leading}

@@ -5,7 +5,7 @@ use Rattle.swc_ecma_parser_error.specs.Kind as faults
 use Rattle.swc_ecma_parser_error.specs.Kind.{Fault}
 use Rattle.swc_ecma_parser_model.specs.Tree as tree
 use Rattle.swc_ecma_parser_model.specs.Tree.{Tree}
-use Rattle.swc_ecma_parser_grammar.specs.Reads.{with_in}
+use Rattle.swc_ecma_parser_grammar.specs.language.Contexts.{with_in}
 use Rattle.swc_ecma_parser_grammar.specs.Ends.{ends_at}
 use Rattle.swc_ecma_parser_grammar.specs.Own.{break_faults, continue_faults, return_faults}
 use Rattle.swc_ecma_parser_reader.specs.State.{Outcome, Reader, ◌>>=◌, ◌>>◌, pure, span_here, since, skip, within, fault, refused, name, end}

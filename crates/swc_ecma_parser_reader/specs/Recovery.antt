@@ -15,7 +15,7 @@ use Rattle.swc_ecma_parser_model.specs.declared.operators.BinaryOp.TheVariants a
 use Rattle.swc_ecma_parser_model.specs.Tree.{Tree}
 use Rattle.swc_ecma_parser_grammar.specs.Looks.{kind_at, sees, span_at}
 use Rattle.swc_ecma_parser_grammar.specs.Ends.{can_end}
-use Rattle.swc_ecma_parser_grammar.specs.Reads.{with_in}
+use Rattle.swc_ecma_parser_grammar.specs.language.Contexts.{with_in}
 use Rattle.swc_ecma_parser_grammar.specs.language.Operators.{binary_operator}
 use Rattle.swc_ecma_parser_reader.specs.State.{State, Outcome, Reader, ◌>>◌, pure, moved, within, attempted, fault, fault_at, end, Step, More, Done, loop}
 

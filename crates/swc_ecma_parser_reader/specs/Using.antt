@@ -5,8 +5,8 @@ use Rattle.swc_ecma_parser_error.specs.Kind as faults
 use Rattle.swc_ecma_parser_model.specs.Tree as tree
 use Rattle.swc_ecma_parser_model.specs.Tree.{Tree, listed}
 use Rattle.swc_ecma_parser_grammar.specs.declared.position.Position.{Position}
-use Rattle.swc_ecma_parser_grammar.specs.Reads.{with_in}
-use Rattle.swc_ecma_parser_grammar.specs.Using.{using_faults, is_await_using_declaration}
+use Rattle.swc_ecma_parser_grammar.specs.language.Contexts.{with_in}
+use Rattle.swc_ecma_parser_grammar.specs.scaffold.Using.{using_faults, is_await_using_declaration}
 use Rattle.swc_ecma_parser_reader.specs.State.{Reader, ◌>>=◌, ◌>>◌, pure, span_here, since, skip, within, end}
 use Rattle.swc_ecma_parser_reader.specs.Jumps.{told}
 

@@ -1,4 +1,5 @@
--- Words, private names and what heads an arrow function, as the reader reads them: ECMA-262, sections 12.7 and 15.3.
+-- Words, private names and what heads an arrow function or a loop, as the reader reads them: ECMA-262, sections 12.7, 15.3, 15.9 and
+-- 14.7.5.
 use Rattle.std.specs.Prelude.{Bool, true, false, not, ◌&&◌, ◌||◌, if◌then◌else◌, nat_eq, List, [], ◌∷◌, codes, Ok}
 use Rattle.swc_ecma_parser_common.specs.declared.span.Span.{Span}
 use Rattle.swc_ecma_parser_error.specs.Kind as faults
@@ -59,3 +60,9 @@ is_head is_async _ = false
 
 unfoldable pub heads_arrow : Bool → Tree → State → Bool
 heads_arrow is_async x s = (is_head is_async x && sees kind.Arrow s.at) || (is_ident_named (codes "async") x && (not (breaks_at s.at) && identifier_at s.code.flags s.at))
+
+-- ---- heads of loops
+
+-- Behind `for await (` the name `async` stands alone before `of` on its line, where no `=>` follows.
+unfoldable pub begins_async_of : Place → Bool
+begins_async_of c = word_at (codes "async") c && (word_at (codes "of") (after c) && (not (breaks_at (after c)) && not (sees kind.Arrow (after (after c)))))

@@ -3,7 +3,7 @@
 ghost use Rattle.std.specs.Prelude.{◌≡◌, ◌≢◌, ◌||◌, is_some, IfOk, IfErr};
 ghost use Rattle.swc_ecma_parser_error.specs.Kind as kinds;
 ghost use Rattle.swc_ecma_parser_error.specs.Kind.{kind_of};
-ghost use Rattle.swc_ecma_parser_grammar.specs.Reads.{with_in};
+ghost use Rattle.swc_ecma_parser_grammar.specs.language.Contexts.{with_in};
 ghost use Rattle.swc_ecma_parser_grammar.specs.language.Goals.{expression};
 ghost use Rattle.swc_ecma_parser_inner.specs.Nests.{Nests};
 ghost use Rattle.swc_ecma_parser_reader.proofs.Recovered.{set_back};

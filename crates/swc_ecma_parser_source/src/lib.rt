@@ -17,8 +17,8 @@ pub use names::{
     may_refer_to_await,
 };
 pub use operators::{
-    assign_operator, begins_operand, binary_operator, groups_left, is_assign_op, is_bin_op, mixes,
-    precedence, unary_operator, update_operator,
+    assign_operator, begins_operand, binary_operator, groups_left, mixes, precedence,
+    unary_operator, update_operator,
 };
 pub use source::Source;
 pub use wanted::{Wanted, missing};

@@ -1,7 +1,6 @@
 //! The operators: which token writes which, and how tightly those between two operands bind.
 
 ghost use Rattle.std.specs.Prelude.{◌≡◌, ◌&&◌, ◌||◌};
-ghost use Rattle.swc_ecma_parser_grammar.specs.Follows as follows;
 ghost use Rattle.swc_ecma_parser_grammar.specs.language.Begins as begins;
 ghost use Rattle.swc_ecma_parser_grammar.specs.language.Operators as operators;
 
@@ -177,61 +176,4 @@ pub fn mixes(outer: BinaryOp, inner: BinaryOp) -> bool
     ensures { result ≡ (operators.is_nullish outer && operators.is_logical inner) || (operators.is_logical outer && operators.is_nullish inner) }
 {
     is_nullish(outer) && is_logical(inner) || is_logical(outer) && is_nullish(inner)
-}
-
-/// Whether it is an operator between two operands that is no word.
-pub fn is_bin_op(kind: TokenKind) -> bool
-    ensures { result ≡ follows.is_bin_op kind }
-{
-    matches!(
-        kind,
-        TokenKind::EqEq
-            | TokenKind::NotEq
-            | TokenKind::EqEqEq
-            | TokenKind::NotEqEq
-            | TokenKind::Lt
-            | TokenKind::LtEq
-            | TokenKind::Gt
-            | TokenKind::GtEq
-            | TokenKind::LShift
-            | TokenKind::RShift
-            | TokenKind::ZeroFillRShift
-            | TokenKind::Add
-            | TokenKind::Sub
-            | TokenKind::Mul
-            | TokenKind::Div
-            | TokenKind::Mod
-            | TokenKind::BitOr
-            | TokenKind::BitXor
-            | TokenKind::BitAnd
-            | TokenKind::LogicalOr
-            | TokenKind::LogicalAnd
-            | TokenKind::NullishCoalescing
-            | TokenKind::Exp
-    )
-}
-
-/// Whether it is an operator of an assignment.
-pub fn is_assign_op(kind: TokenKind) -> bool
-    ensures { result ≡ follows.is_assign_op kind }
-{
-    matches!(
-        kind,
-        TokenKind::Assign
-            | TokenKind::AddAssign
-            | TokenKind::SubAssign
-            | TokenKind::MulAssign
-            | TokenKind::DivAssign
-            | TokenKind::ModAssign
-            | TokenKind::ExpAssign
-            | TokenKind::LShiftAssign
-            | TokenKind::RShiftAssign
-            | TokenKind::ZeroFillRShiftAssign
-            | TokenKind::BitAndAssign
-            | TokenKind::BitOrAssign
-            | TokenKind::BitXorAssign
-            | TokenKind::AndAssign
-            | TokenKind::OrAssign
-            | TokenKind::NullishAssign
-    )
 }

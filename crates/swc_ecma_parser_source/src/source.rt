@@ -7,8 +7,9 @@ ghost use Rattle.swc_ecma_parser_error.specs.Kind.{fault_of, kind_of, IsOutOfMem
 ghost use Rattle.swc_ecma_parser_grammar.specs.Follows as follows;
 ghost use Rattle.swc_ecma_parser_grammar.specs.Looks as looks;
 ghost use Rattle.swc_ecma_parser_grammar.specs.Names as names;
-ghost use Rattle.swc_ecma_parser_grammar.specs.Using as resources;
+ghost use Rattle.swc_ecma_parser_grammar.specs.scaffold.Using as resources;
 ghost use Rattle.swc_ecma_parser_grammar.specs.language.Begins as begins;
+ghost use Rattle.swc_ecma_parser_grammar.specs.language.Declarations as declarations;
 ghost use Rattle.swc_ecma_parser_model.specs.Tree.{Tree};
 ghost use Rattle.swc_ecma_parser_model.specs.declared.leaves.Ident.{Ident};
 ghost use Rattle.swc_ecma_parser_input.specs.Place as place;
@@ -137,10 +138,6 @@ pub trait Source {
     fn continues_left_side(&self) -> bool
         ensures { result ≡ follows.continues_left_side (seen self.now).at };
 
-    /// Whether the current token goes on with an operand.
-    fn continues_operand(&self) -> bool
-        ensures { result ≡ follows.continues_operand (seen self.now).code (seen self.now).at };
-
     /// Whether a word that is not reserved stands here.
     fn identifier_at(&self) -> bool
         ensures { result ≡ names.identifier_at (seen self.now).code.flags (seen self.now).at };
@@ -199,7 +196,7 @@ pub trait Source {
 
     /// Whether `using` stands here and begins a declaration.
     fn is_using_declaration(&self) -> bool
-        ensures { result ≡ resources.is_using_declaration (seen self.now).code (seen self.now).at };
+        ensures { result ≡ declarations.is_using_declaration (seen self.now).code (seen self.now).at };
 
     /// Whether `using` stands here and may begin a declaration in the head of a loop.
     fn may_declare_using(&self) -> bool

@@ -2,9 +2,8 @@
 
 ghost use Rattle.std.specs.Prelude.{◌≡◌, ◌≢◌, ◌++◌, false, List, [], Some, None, map};
 ghost use Rattle.swc_ecma_parser_error.specs.Kind.{Fault, OutOfMemory, fault_of, kind_of, IsOutOfMemory};
-ghost use Rattle.swc_ecma_parser_grammar.specs.Entries.{script_code};
 ghost use Rattle.swc_ecma_parser_grammar.specs.Notes.{as_note};
-ghost use Rattle.swc_ecma_parser_grammar.specs.language.Contexts.{in_module};
+ghost use Rattle.swc_ecma_parser_grammar.specs.language.Contexts.{in_module, script_code};
 ghost use Rattle.swc_ecma_parser_grammar.specs.language.Programs.{entry_code, «module», program};
 ghost use Rattle.swc_ecma_parser_reader.specs.Calls.{Leaves, Says, marks_memory};
 ghost use Rattle.swc_ecma_parser_reader.specs.Entry.{IsLater};

@@ -10,7 +10,7 @@ ghost use Rattle.swc_ecma_parser_state.specs.Taken as taken;
 
 use crate::state::{Call, Origin};
 use swc_ecma_parser_input::Tokens;
-use swc_ecma_parser_source::{Source, follows_let, is_bin_op, is_identifier, is_name};
+use swc_ecma_parser_source::{Source, follows_let, is_identifier, is_name};
 use swc_ecma_parser_token::{Token, TokenAndSpan, TokenKind};
 
 impl<O: Origin, I: Tokens> Call<O, I> {
@@ -20,16 +20,6 @@ impl<O: Origin, I: Tokens> Call<O, I> {
         ensures { result ≡ ends.can_end self.now.at }
     {
         self.sees(TokenKind::End) || self.sees(TokenKind::RBrace) || self.had_line_break()
-    }
-
-    /// Whether a binary operator stands here.
-    #[tactic(auto, unfolding(swc_ecma_parser_grammar::specs::Follows::is_binary))]
-    pub(crate) fn is_binary(&self) -> bool
-        ensures { result ≡ follows.is_binary self.now.code self.now.at }
-    {
-        is_bin_op(self.kind())
-            || self.sees(TokenKind::InstanceOf)
-            || self.flags().include_in_expr && self.sees(TokenKind::In)
     }
 
     /// Whether a word that is not reserved stands behind the current token.

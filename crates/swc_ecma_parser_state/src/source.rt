@@ -12,8 +12,8 @@ use swc_ecma_parser_input::{Context, Tokens};
 use swc_ecma_parser_model::Ident;
 use swc_ecma_parser_reader::Mark;
 use swc_ecma_parser_source::{
-    Around, Literal, Source, Wanted, begins_operand, count_labels, ends_key, is_assign_op,
-    is_identifier, is_label, may_bind_await,
+    Around, Literal, Source, Wanted, begins_operand, count_labels, ends_key, is_identifier,
+    is_label, may_bind_await,
 };
 use swc_ecma_parser_token::{Token, TokenAndSpan, TokenKind, Word};
 
@@ -143,14 +143,6 @@ impl<O: Origin, I: Tokens> Source for Call<O, I> {
                 && (self.sees(TokenKind::PlusPlus) || self.sees(TokenKind::MinusMinus))
     }
 
-    #[tactic(auto, unfolding(swc_ecma_parser_grammar::specs::Follows::continues_operand))]
-    fn continues_operand(&self) -> bool {
-        self.is_binary()
-            || self.sees(TokenKind::QuestionMark)
-            || is_assign_op(self.kind())
-            || self.sees(TokenKind::Comma)
-    }
-
     #[tactic(auto, unfolding(swc_ecma_parser_grammar::specs::Names::identifier_at))]
     fn identifier_at(&self) -> bool {
         match self.buffer.cur() {
@@ -262,12 +254,12 @@ impl<O: Origin, I: Tokens> Source for Call<O, I> {
         self.sees(TokenKind::Let) && self.next_follows_let()
     }
 
-    #[tactic(auto, unfolding(swc_ecma_parser_grammar::specs::Using::is_using_declaration))]
+    #[tactic(auto, unfolding(swc_ecma_parser_grammar::specs::language::Declarations::is_using_declaration))]
     fn is_using_declaration(&self) -> bool {
         self.word_at("using") && self.next_is_identifier() && !self.next_had_line_break()
     }
 
-    #[tactic(auto, unfolding(swc_ecma_parser_grammar::specs::Using::may_declare_using))]
+    #[tactic(auto, unfolding(swc_ecma_parser_grammar::specs::scaffold::Using::may_declare_using))]
     fn may_declare_using(&self) -> bool {
         self.explicit_resource_management()
             && self.word_at("using")

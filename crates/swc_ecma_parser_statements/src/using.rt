@@ -2,7 +2,7 @@
 
 ghost use Rattle.std.specs.Prelude.{◌≡◌, ◌&&◌, true, false, map};
 ghost use Rattle.swc_ecma_parser_grammar.specs.Looks as looks;
-ghost use Rattle.swc_ecma_parser_grammar.specs.Using as resources;
+ghost use Rattle.swc_ecma_parser_grammar.specs.scaffold.Using as resources;
 ghost use Rattle.swc_ecma_parser_inner.specs.Nests.{Nests};
 ghost use Rattle.swc_ecma_parser_model.specs.declared.leaves.VarDeclKind.TheVariants as decl;
 ghost use Rattle.swc_ecma_parser_reader.specs.AwaitWords as words;

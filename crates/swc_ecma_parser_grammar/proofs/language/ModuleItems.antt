@@ -3,10 +3,9 @@ use Rattle.std.proofs.Common.{◌≡◌, suc, Bool, false, List, [], ◌∷◌, 
 use Rattle.swc_ecma_parser_input.specs.Place.{Place, after}
 use Rattle.swc_ecma_parser_model.specs.Tree.{Tree, trees}
 use Rattle.swc_ecma_parser_grammar.specs.Names.{Code}
-use Rattle.swc_ecma_parser_grammar.specs.Reads.{with_in}
 use Rattle.swc_ecma_parser_grammar.specs.Depth.{depth, depths}
 use Rattle.swc_ecma_parser_grammar.specs.language.Goals.{Goal, assignment, expr_goal, attributes_goal, item_goal}
-use Rattle.swc_ecma_parser_grammar.specs.language.Contexts.{in_module}
+use Rattle.swc_ecma_parser_grammar.specs.language.Contexts.{in_module, with_in}
 use Rattle.swc_ecma_parser_grammar.specs.language.Items.{top_item, directed, directs_on}
 use Rattle.swc_ecma_parser_grammar.specs.language.ModuleParts as parts
 use Rattle.swc_ecma_parser_grammar.specs.language.ModuleParts.{AttributesRule}

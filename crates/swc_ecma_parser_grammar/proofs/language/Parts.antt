@@ -8,18 +8,18 @@ use Rattle.swc_ecma_parser_model.specs.Tree.{Tree, trees}
 use Rattle.swc_ecma_parser_model.specs.Kinds.{is_block, is_computed}
 use Rattle.swc_ecma_parser_grammar.specs.Looks.{spanned}
 use Rattle.swc_ecma_parser_grammar.specs.Names.{Code}
-use Rattle.swc_ecma_parser_grammar.specs.Reads.{with_in, ReadsSeparated}
 use Rattle.swc_ecma_parser_grammar.specs.Depth.{depth, depths, counted, flat}
 use Rattle.swc_ecma_parser_grammar.specs.declared.position.Position.{Position}
+use Rattle.swc_ecma_parser_grammar.specs.language.PatternItems.{PatternItemRule}
 use Rattle.swc_ecma_parser_grammar.specs.language.Goals.{Goal, Purpose, binding, expr_goal, expression, assignment, left_side, pattern_goal, element_goal, stmt_goal, member_goal, decorator_goal}
-use Rattle.swc_ecma_parser_grammar.specs.language.Contexts.{in_class}
-use Rattle.swc_ecma_parser_grammar.specs.language.Lists.{ReadsEach, ReadsListed, Elements, no_elements, hole, last_element, more_elements}
+use Rattle.swc_ecma_parser_grammar.specs.language.Contexts.{in_class, with_in}
+use Rattle.swc_ecma_parser_grammar.specs.language.Lists.{ReadsEach, ReadsListed, Elements, no_elements, hole, last_element, more_elements, ReadsSeparated}
 use Rattle.swc_ecma_parser_grammar.specs.language.Parts as parts
 use Rattle.swc_ecma_parser_grammar.specs.language.Parts.{KeyRule, AccessRule, ElementRule, ArgumentsRule, is_private}
 use Rattle.swc_ecma_parser_grammar.specs.language.Items.{nested_item, directed, directs_on, ItemsRule, BlockRule}
-use Rattle.swc_ecma_parser_grammar.specs.language.Functions as functions
+use Rattle.swc_ecma_parser_grammar.specs.language.PatternItems as pattern_items
 use Rattle.swc_ecma_parser_grammar.specs.Parameters.{parameter, parameters}
-use Rattle.swc_ecma_parser_grammar.specs.language.Functions.{PatternItemRule, ParametersRule, FunctionParts, FunctionRule, MethodRule}
+use Rattle.swc_ecma_parser_grammar.specs.language.Functions.{ParametersRule, FunctionParts, FunctionRule, MethodRule}
 use Rattle.swc_ecma_parser_grammar.specs.language.Classes as classes
 use Rattle.swc_ecma_parser_grammar.specs.language.Classes.{DecoratorRule, DecoratorsRule, MemberKeyRule, method_member, field_member, FieldValueRule, CoreRule, MemberRule, HeritageRule, ClassRule}
 use Rattle.swc_ecma_parser_grammar.proofs.language.Asked.{Inside, Level, Fitting, nothing, part, joined, both, turned, sized, leaf, over, same}
@@ -137,11 +137,11 @@ module _ (In Out : Goal → Type 0) (fitting : (g : Goal) → In g → Fitting g
   -- ---- functions
 
   pub pattern_item_inside : (p : Purpose) (k : Code) (x : Tree) (c d : Place) → PatternItemRule In p k x c d → Inside In Out (PatternItemRule Out p k x c d) (depth x)
-  pattern_item_inside p k x c d (functions.element_rule r) = part (element_goal p k x c d) r functions.element_rule
-  pattern_item_inside p k x c d (functions.rest_rule y h r e) =
+  pattern_item_inside p k x c d (pattern_items.element_rule r) = part (element_goal p k x c d) r pattern_items.element_rule
+  pattern_item_inside p k x c d (pattern_items.rest_rule y h r e) =
       let g : depth x ≡ max 1 (depth y) = ap depth e in
       let f = (fitting (pattern_goal p k y (after c) d) r).1 in
-      sized (part (pattern_goal p k y (after c) d) r (λ o. functions.rest_rule y h o e)) (omega arith)
+      sized (part (pattern_goal p k y (after c) d) r (λ o. pattern_items.rest_rule y h o e)) (omega arith)
 
   pub patterns_inside : {k : Code} {ps : List Tree} {c d : Place} → ParametersRule In k ps c d → Inside In Out (ParametersRule Out k ps c d) (depths (trees ps))
   patterns_inside {k = k} {ps = ps} {c = c} r =

@@ -6,19 +6,17 @@ use Rattle.swc_ecma_parser_model.specs.Tree.{Tree, trees}
 use Rattle.swc_ecma_parser_model.specs.Kinds.{is_if}
 use Rattle.swc_ecma_parser_grammar.specs.declared.position.Position.{Position}
 use Rattle.swc_ecma_parser_grammar.specs.Names.{Code}
-use Rattle.swc_ecma_parser_grammar.specs.Reads.{with_in}
 use Rattle.swc_ecma_parser_grammar.specs.Depth.{depth, depths, flat, deeper, is_head_decl}
 use Rattle.swc_ecma_parser_grammar.specs.language.Goals.{Goal, binding, assigning, expression, assignment, expr_goal, pattern_goal, stmt_goal, using_goal}
-use Rattle.swc_ecma_parser_grammar.specs.language.Contexts.{without_in, in_with, in_loop, in_breakable}
+use Rattle.swc_ecma_parser_grammar.specs.language.Contexts.{without_in, in_with, in_loop, in_breakable, with_in, head_code}
 use Rattle.swc_ecma_parser_grammar.specs.language.Items.{nested_item, sub_statement}
 use Rattle.swc_ecma_parser_grammar.specs.language.Declarations as declarations
 use Rattle.swc_ecma_parser_grammar.specs.language.Declarations.{DeclaratorRule, VariablesRule, UsingDeclaratorRule, UsingRule}
-use Rattle.swc_ecma_parser_grammar.specs.Reads.{head_code}
 use Rattle.swc_ecma_parser_grammar.specs.language.ForHeads as heads
 use Rattle.swc_ecma_parser_grammar.specs.language.ForHeads.{HeadVariablesRule, InitRule, PartRule, LeftRule, UsingNameRule, UsingHeadRule, OfLeftRule}
 use Rattle.swc_ecma_parser_grammar.specs.language.Statements as statements
 use Rattle.swc_ecma_parser_grammar.specs.language.Items.{labelled_item}
-use Rattle.swc_ecma_parser_grammar.specs.language.Statements.{HeadRule, OperandRule, IfRule, ElseRule, CaseRule, CatchRule, FinallyRule, FormRule, StmtRule}
+use Rattle.swc_ecma_parser_grammar.specs.language.Statements.{HeadRule, ReturnedRule, IfRule, ElseRule, CaseRule, CatchRule, FinallyRule, FormRule, StmtRule}
 use Rattle.swc_ecma_parser_grammar.proofs.language.Asked.{Inside, Level, Fitting, whole_head, nothing, part, joined, both, turned, sized, leaf, over, aligned, same}
 use Rattle.swc_ecma_parser_grammar.proofs.language.Parts.{body_depth, each_inside, separated_inside, items_inside, block_inside, block_level, function_level, decorators_inside, class_level}
 
@@ -115,7 +113,7 @@ module _ (In Out : Goal → Type 0) (fitting : (g : Goal) → In g → Fitting g
   head_inside {k = k} {y = y} {c = c} r =
       part (expr_goal expression (with_in k) y (after c) r.close) r.reads (λ o. record { close = r.close; opens = r.opens; reads = o; closes = r.closes; next = r.next })
 
-  operand_inside : {k : Code} {x : Tree} {c d : Place} → OperandRule In k x c d → Inside In Out (OperandRule Out k x c d) (depth x)
+  operand_inside : {k : Code} {x : Tree} {c d : Place} → ReturnedRule In k x c d → Inside In Out (ReturnedRule Out k x c d) (depth x)
   operand_inside (statements.no_operand_rule h i e) = sized (nothing (statements.no_operand_rule h i e)) (ap depth e)
   operand_inside {k = k} {x = x} {c = c} {d = d} (statements.operand_rule h r) = part (expr_goal expression (with_in k) x c d) r (statements.operand_rule h)
 

@@ -41,6 +41,8 @@ begins_unary f c = begins_operand (kind_at c) || identifier_at f c
 unfoldable pub begins_expression : Context → Place → Bool
 begins_expression f c = begins_unary f c || (f.in_generator && sees kind.Yield c)
 
--- `await` is an operator where a unary expression can begin behind it, on any line, in whatever code; else it is a name.
+-- Where a unary expression may begin, `await` is an operator if one can begin behind it, on any line and in whatever code; else it is
+-- a name. Where none may begin it is a name whatever follows: as the first word of what a class extends, of what `new` calls and of
+-- a decorator, and where a name is bound.
 unfoldable pub awaits : Context → Place → Bool
 awaits f c = sees kind.Await c && begins_unary f (after c)

@@ -11,9 +11,8 @@ use Rattle.swc_ecma_parser_grammar.specs.Looks.{kind_at, breaks_at, sees, spanne
 use Rattle.swc_ecma_parser_grammar.specs.Names.{Code}
 use Rattle.swc_ecma_parser_grammar.specs.Ends.{Ends, can_end}
 use Rattle.swc_ecma_parser_grammar.specs.Follows.{word_at}
-use Rattle.swc_ecma_parser_grammar.specs.Reads.{with_in}
 use Rattle.swc_ecma_parser_grammar.specs.language.Goals.{Goal, expr_goal, assignment, left_side, member_goal, decorator_goal}
-use Rattle.swc_ecma_parser_grammar.specs.language.Contexts.{in_class, in_static_block, in_body}
+use Rattle.swc_ecma_parser_grammar.specs.language.Contexts.{in_class, in_static_block, in_body, with_in}
 use Rattle.swc_ecma_parser_grammar.specs.language.Lists.{ReadsEach}
 use Rattle.swc_ecma_parser_grammar.specs.language.Parts.{OptionalName, PrivateRule, KeyRule, is_private}
 use Rattle.swc_ecma_parser_grammar.specs.language.Items.{BlockRule}
@@ -31,6 +30,24 @@ pub data DecoratorsRule (In : Goal → Type 0) (k : Code) (x : Tree) (c d : Plac
   some_decorators : (y : Tree) (ys : List Tree) → k.setting.decorators ≡ true → ReadsEach (DecoratorRule In k) (y ∷ ys) c d → x ≡ listed (y ∷ ys) → DecoratorsRule In k x c d
 
 -- ---- what stands before the key of a member
+
+-- Each of these words is a key too. Which it is, the token behind it says, and whether that stands on a new line:
+--
+--   word           next token        on a new line   the word is
+--   static         ( = ; }           or not          the key
+--                  any other         or not          a modifier, before { that of a static block
+--   accessor       ( = ; }           or not          the key
+--                  any other         yes             the key of a field that ends there
+--                  any other         no              a modifier with the setting, and else the key
+--   get, set       ( = ; }           or not          the key
+--                  *                 yes             the key of a field that ends there
+--                  any other         or not          the beginning of an accessor
+--   async          ( = ; }           or not          the key
+--                  any other         yes             the key of a field that ends there
+--                  any other         no              a modifier of a method
+--
+-- `static` stands first, behind it `accessor` or one of `get`, `set` and `async`, and any further word is a key. The first two are told
+-- by the rules below, the others by those of methods (`MethodHead`) and of fields (`FieldValueRule`, `Ends`), of which one alone fits.
 
 -- `static` and `accessor` are keys before these
 unfoldable pub ends_key : Place → Bool

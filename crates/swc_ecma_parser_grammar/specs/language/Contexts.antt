@@ -1,7 +1,9 @@
 -- The code that a part of a form is read as: the parameters of productions (ECMA-262, section 5.1.5) and what makes code strict
 -- (section 11.2.2). What is not named stays as it is around.
 use Rattle.std.specs.Prelude.{Bool, true, false, not, if◌then◌else◌}
+use Rattle.swc_ecma_parser_model.specs.declared.leaves.VarDeclKind.{VarDeclKind}
 use Rattle.swc_ecma_parser_grammar.specs.Names.{Code}
+use Rattle.swc_ecma_parser_grammar.specs.Variables.{is_var}
 
 -- the name of a function expression: section 15.2 and its kin bind it in the function itself
 abbrev pub named_by : Code → (is_async is_generator : Bool) → Code
@@ -56,9 +58,17 @@ may_await k = if k.flags.in_function then k.flags.in_async else not k.flags.in_p
 abbrev pub in_strict : Code → Code
 in_strict k = record k { flags = record k.flags { strict = true } }
 
+-- `in` is an operator
+abbrev pub with_in : Code → Code
+with_in k = record k { flags = record k.flags { include_in_expr = true } }
+
 -- the first part of a for head: `in` is no operator
 abbrev pub without_in : Code → Code
 without_in k = record k { flags = record k.flags { include_in_expr = false } }
+
+-- The variables that such a part declares: the crate reads `in` in the initializers of `let` and `const`.
+abbrev pub head_code : VarDeclKind → Code → Code
+head_code word k = if is_var word then without_in k else with_in k
 
 -- the body of `with` counts as a function's
 abbrev pub in_with : Code → Code
@@ -72,6 +82,10 @@ in_loop k = record k { flags = record k.flags { is_break_allowed = true; is_cont
 -- the cases of a `switch`, their tests too, and what stands behind a label
 abbrev pub in_breakable : Code → Code
 in_breakable k = record k { flags = record k.flags { is_break_allowed = true } }
+
+-- a script is no module code
+abbrev pub script_code : Code → Code
+script_code k = record k { flags = record k.flags { «module» = false } }
 
 -- an import or an export, and what stands behind it
 abbrev pub in_module : Code → Code

@@ -1,5 +1,5 @@
 -- Variables and what is declared with `using`: ECMA-262, section 14.3, and the proposal on explicit resource management.
-use Rattle.std.specs.Prelude.{◌≡◌, Bool, true, false, ◌&&◌, ◌||◌, List}
+use Rattle.std.specs.Prelude.{◌≡◌, Bool, true, false, not, ◌&&◌, ◌||◌, List, codes}
 use Rattle.swc_ecma_parser_token.specs.declared.kind.TokenKind.TheVariants as kind
 use Rattle.swc_ecma_parser_input.specs.Place.{Place, after}
 use Rattle.swc_ecma_parser_model.specs.declared.leaves.VarDeclKind.{VarDeclKind}
@@ -8,12 +8,12 @@ use Rattle.swc_ecma_parser_model.specs.Tree.{Tree, listed}
 use Rattle.swc_ecma_parser_model.specs.Forms.{is_binding_name}
 use Rattle.swc_ecma_parser_grammar.specs.declared.position.Position.{Position}
 use Rattle.swc_ecma_parser_grammar.specs.Looks.{kind_at, breaks_at, sees, spanned}
-use Rattle.swc_ecma_parser_grammar.specs.Names.{Code}
+use Rattle.swc_ecma_parser_grammar.specs.Names.{Code, identifier_at}
 use Rattle.swc_ecma_parser_grammar.specs.Ends.{Ends}
-use Rattle.swc_ecma_parser_grammar.specs.Follows.{AwaitWord}
+use Rattle.swc_ecma_parser_grammar.specs.Follows.{word_at, AwaitWord}
 use Rattle.swc_ecma_parser_grammar.specs.Variables.{begins_variables, needs_no_initializer}
-use Rattle.swc_ecma_parser_grammar.specs.Reads.{with_in, ReadsSeparated}
-unfoldable pub use Rattle.swc_ecma_parser_grammar.specs.Using.{is_using_declaration}
+use Rattle.swc_ecma_parser_grammar.specs.language.Lists.{ReadsSeparated}
+use Rattle.swc_ecma_parser_grammar.specs.language.Contexts.{with_in}
 use Rattle.swc_ecma_parser_grammar.specs.language.Goals.{Goal, expr_goal, assignment, pattern_goal, binding}
 
 -- ---- variables: sections 14.3.1 and 14.3.2
@@ -30,6 +30,10 @@ abbrev pub VariablesRule : (Goal → Type 0) → Code → (loop : Bool) → VarD
 VariablesRule In k loop word xs c d = (begins_variables word c ≡ true) × ReadsSeparated (DeclaratorRule In k loop word) xs (after c) d
 
 -- ---- `using` and `await using`
+
+-- `using` begins a declaration before a name on its line
+unfoldable pub is_using_declaration : Code → Place → Bool
+is_using_declaration k c = word_at (codes "using") c && (identifier_at k.flags (after c) && not (breaks_at (after c)))
 
 -- a plain name with its initializer
 pub record UsingDeclaratorRule (In : Goal → Type 0) (k : Code) (x : Tree) (c d : Place) : Type 0 where

@@ -8,12 +8,12 @@ use Rattle.swc_ecma_parser_model.specs.Tree.{Tree, Text}
 use Rattle.swc_ecma_parser_model.specs.Kinds.{is_computed}
 use Rattle.swc_ecma_parser_grammar.specs.Looks.{kind_at, sees, spanned}
 use Rattle.swc_ecma_parser_grammar.specs.Names.{Code}
-use Rattle.swc_ecma_parser_grammar.specs.Reads.{with_in}
+use Rattle.swc_ecma_parser_grammar.specs.language.Contexts.{with_in}
 use Rattle.swc_ecma_parser_grammar.specs.language.Goals.{Goal}
 use Rattle.swc_ecma_parser_grammar.specs.language.Parts.{ReadsName, AccessRule, ArgumentsRule}
 use Rattle.swc_ecma_parser_grammar.specs.language.Expressions.{ExpressionRule}
 
--- a name with any number of accesses by `.` and arguments
+-- A name with any number of accesses by `.` and arguments. It does not close.
 pub data ChainRule (In : Goal → Type 0) (k : Code) : Tree → Place → Place → Type 0 where
   name_rule : {x : Tree} {c d : Place} (text : Text) (s : Span) → ReadsName k text s c d → x ≡ tree.ident s text → ChainRule In k x c d
   member_rule : {x : Tree} {c d : Place} (object property : Tree) (m : Place) → ChainRule In k object c m → AccessRule In k property m d → is_computed property ≡ false
@@ -21,7 +21,7 @@ pub data ChainRule (In : Goal → Type 0) (k : Code) : Tree → Place → Place 
   call_rule : {x : Tree} {c d : Place} (called arguments : Tree) (m : Place) → ChainRule In k called c m → ArgumentsRule In k true arguments m d
       → x ≡ tree.call (spanned c d) called arguments → ChainRule In k x c d
 
--- an expression in parentheses, which the tree does not keep
+-- An expression in parentheses, which the tree does not keep. It does not close: arguments may follow.
 pub record GroupRule (In : Goal → Type 0) (k : Code) (e : Tree) (c d : Place) : Type 0 where
   pub close : Place
   pub opens : kind_at c ≡ kind.LParen
@@ -29,7 +29,8 @@ pub record GroupRule (In : Goal → Type 0) (k : Code) (e : Tree) (c d : Place) 
   pub closes : kind_at close ≡ kind.RParen
   pub next : d ≡ after close
 
--- The call of an expression in parentheses begins with that expression, and ends the decorator.
+-- The call of an expression in parentheses begins with that expression, and ends the decorator. It closes: what could still go on
+-- with it must not follow.
 pub data DecoratedRule (In : Goal → Type 0) (k : Code) (x : Tree) (c d : Place) : Type 0 where
   group_rule : GroupRule In k x c d → sees kind.LParen d ≡ false → DecoratedRule In k x c d
   group_call_rule : (e arguments : Tree) (m : Place) → GroupRule In k e c m → ArgumentsRule In k true arguments m d → x ≡ tree.call (spanned (after c) d) e arguments

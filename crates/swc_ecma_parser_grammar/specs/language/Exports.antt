@@ -11,9 +11,8 @@ use Rattle.swc_ecma_parser_grammar.specs.Looks.{kind_at, sees, span_at, spanned}
 use Rattle.swc_ecma_parser_grammar.specs.Names.{Code}
 use Rattle.swc_ecma_parser_grammar.specs.Ends.{Ends}
 use Rattle.swc_ecma_parser_grammar.specs.Follows.{word_at, is_async_function}
-use Rattle.swc_ecma_parser_grammar.specs.Reads.{with_in}
 use Rattle.swc_ecma_parser_grammar.specs.language.Goals.{Goal, expr_goal, assignment}
-use Rattle.swc_ecma_parser_grammar.specs.language.Contexts.{in_module}
+use Rattle.swc_ecma_parser_grammar.specs.language.Contexts.{in_module, with_in}
 use Rattle.swc_ecma_parser_grammar.specs.language.Parts.{ReadsName, ReadsWord}
 use Rattle.swc_ecma_parser_grammar.specs.language.Functions.{FunctionRule}
 use Rattle.swc_ecma_parser_grammar.specs.language.Classes.{DecoratorsRule, ClassRule}

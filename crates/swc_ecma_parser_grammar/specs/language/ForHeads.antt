@@ -9,9 +9,8 @@ use Rattle.swc_ecma_parser_model.specs.Forms.{is_binding_name}
 use Rattle.swc_ecma_parser_grammar.specs.Looks.{kind_at, breaks_at, sees, spanned}
 use Rattle.swc_ecma_parser_grammar.specs.Names.{Code}
 use Rattle.swc_ecma_parser_grammar.specs.Follows.{word_at, may_begin_head, is_async_of}
-use Rattle.swc_ecma_parser_grammar.specs.Reads.{with_in, head_code}
 use Rattle.swc_ecma_parser_grammar.specs.language.Goals.{Goal, expr_goal, expression, pattern_goal, binding, assigning, using_goal}
-use Rattle.swc_ecma_parser_grammar.specs.language.Contexts.{may_await, without_in}
+use Rattle.swc_ecma_parser_grammar.specs.language.Contexts.{may_await, without_in, with_in, head_code}
 use Rattle.swc_ecma_parser_grammar.specs.language.Declarations.{VariablesRule}
 
 -- the variables that a head declares, without an end

@@ -11,19 +11,14 @@ use Rattle.swc_ecma_parser_grammar.specs.Looks.{kind_at, spanned}
 use Rattle.swc_ecma_parser_grammar.specs.Names.{Code}
 use Rattle.swc_ecma_parser_grammar.specs.Follows.{word_at, AsyncWord, Star}
 use Rattle.swc_ecma_parser_grammar.specs.Parameters.{parameters}
-use Rattle.swc_ecma_parser_grammar.specs.Reads.{with_in}
-use Rattle.swc_ecma_parser_grammar.specs.language.Goals.{Goal, Purpose, binding, pattern_goal, element_goal}
-use Rattle.swc_ecma_parser_grammar.specs.language.Contexts.{named_by, in_parameters, in_body}
+use Rattle.swc_ecma_parser_grammar.specs.language.Goals.{Goal, binding}
+use Rattle.swc_ecma_parser_grammar.specs.language.Contexts.{named_by, in_parameters, in_body, with_in}
 use Rattle.swc_ecma_parser_grammar.specs.language.Lists.{ReadsListed}
 use Rattle.swc_ecma_parser_grammar.specs.language.Parts.{OptionalName}
+use Rattle.swc_ecma_parser_grammar.specs.language.PatternItems.{PatternItemRule}
 use Rattle.swc_ecma_parser_grammar.specs.language.Items.{BlockRule}
 
 -- ---- parameters: FormalParameters of section 15.1
-
--- an element of an array pattern, or a parameter: a pattern with a default or without, or a rest, which has none
-pub data PatternItemRule (In : Goal → Type 0) (p : Purpose) (k : Code) (x : Tree) (c d : Place) : Type 0 where
-  element_rule : In (element_goal p k x c d) → PatternItemRule In p k x c d
-  rest_rule : (y : Tree) → kind_at c ≡ kind.DotDotDot → In (pattern_goal p k y (after c) d) → x ≡ tree.rest_pat (spanned c d) y → PatternItemRule In p k x c d
 
 -- A comma may stand behind the last that is no rest.
 pub record ParametersRule (In : Goal → Type 0) (k : Code) (patterns : List Tree) (c d : Place) : Type 0 where

@@ -1,4 +1,5 @@
--- Primary and left-hand-side expressions: ECMA-262, sections 13.2 and 13.3.
+-- Primary and left-hand-side expressions: ECMA-262, sections 13.2 and 13.3. None of these rules closes its expression: where one is
+-- read as an expression of a class, that is asked there (`Expressions`).
 use Rattle.std.specs.Prelude.{◌≡◌, Bool, true, false, List, [], codes}
 use Rattle.swc_ecma_parser_common.specs.declared.span.Span.{Span}
 use Rattle.swc_ecma_parser_token.specs.declared.kind.TokenKind.TheVariants as kind
@@ -11,16 +12,18 @@ use Rattle.swc_ecma_parser_model.specs.Tree.{Tree, Text, listed}
 use Rattle.swc_ecma_parser_grammar.specs.Looks.{kind_at, span_at, spanned}
 use Rattle.swc_ecma_parser_grammar.specs.Names.{Code}
 use Rattle.swc_ecma_parser_grammar.specs.Follows.{word_at, is_async_function}
-use Rattle.swc_ecma_parser_grammar.specs.Reads.{with_in, ReadsToken}
+use Rattle.swc_ecma_parser_grammar.specs.language.Contexts.{with_in}
 use Rattle.swc_ecma_parser_grammar.specs.language.Goals.{Goal, expr_goal, callee_goal, expression, callee}
+use Rattle.swc_ecma_parser_grammar.specs.language.Begins.{awaits}
 use Rattle.swc_ecma_parser_grammar.specs.language.Lists.{ReadsListed, Elements}
-use Rattle.swc_ecma_parser_grammar.specs.language.Parts.{ReadsName, AccessRule, is_private, ElementRule, ArgumentsRule}
+use Rattle.swc_ecma_parser_grammar.specs.language.Parts.{ReadsName, AccessRule, is_private, ElementRule, ArgumentsRule, ReadsToken}
 use Rattle.swc_ecma_parser_grammar.specs.language.Functions.{FunctionRule}
 use Rattle.swc_ecma_parser_grammar.specs.language.Classes.{ClassRule}
 use Rattle.swc_ecma_parser_grammar.specs.language.Objects.{PropertyRule}
 
 -- ---- primary expressions: section 13.2
 
+-- It does not close: it may be the object of a member, or what is called.
 pub data PrimaryRule (In : Goal → Type 0) (k : Code) (x : Tree) (c d : Place) : Type 0 where
   -- `async function` on one line is no name
   name_rule : (text : Text) (s : Span) → ReadsName k text s c d → is_async_function c ≡ false → x ≡ tree.ident s text → PrimaryRule In k x c d
@@ -49,7 +52,7 @@ is_callee (tree.meta_prop s kind) = false
 is_callee (tree.member s obj prop) = is_callee obj
 is_callee _ = true
 
--- Its object and what it calls stand at its own level.
+-- Its object and what it calls stand at its own level. It does not close: accesses, arguments and a postfix operator may follow.
 pub data LeftSideRule (In : Goal → Type 0) (k : Code) : Tree → Place → Place → Type 0 where
   primary_rule : {x : Tree} {c d : Place} → PrimaryRule In k x c d → LeftSideRule In k x c d
   -- module code, or code that may be: section 13.3.12
@@ -72,5 +75,11 @@ pub data LeftSideRule (In : Goal → Type 0) (k : Code) : Tree → Place → Pla
   bare_new_rule : {x : Tree} {c d : Place} (called : Tree) → kind_at c ≡ kind.New → In (expr_goal callee k called (after c) d) → x ≡ tree.new (spanned c d) called tree.absent
       → LeftSideRule In k x c d
 
+-- What `new` calls. It does not close: arguments may follow.
 abbrev pub CalleeRule : (Goal → Type 0) → Code → Tree → Place → Place → Type 0
 CalleeRule In k x c d = LeftSideRule In k x c d × (is_callee x ≡ true)
+
+-- A left-hand-side expression where a unary expression may begin: `await` before an operand is no name there. Unary expressions rest
+-- on it, and what is assigned to. It does not close.
+abbrev pub OperandRule : (Goal → Type 0) → Code → Tree → Place → Place → Type 0
+OperandRule In k x c d = LeftSideRule In k x c d × (awaits k.flags c ≡ false)

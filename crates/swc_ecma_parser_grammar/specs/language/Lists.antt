@@ -5,12 +5,18 @@ use Rattle.swc_ecma_parser_input.specs.Place.{Place, after}
 use Rattle.swc_ecma_parser_model.specs.Tree as tree
 use Rattle.swc_ecma_parser_model.specs.Tree.{Tree}
 use Rattle.swc_ecma_parser_model.specs.Forms.{is_rest}
-use Rattle.swc_ecma_parser_grammar.specs.Looks.{kind_at}
+use Rattle.swc_ecma_parser_grammar.specs.Looks.{kind_at, sees}
 
 -- any number, with nothing between
 abbrev pub ReadsEach : (Tree → Place → Place → Type 0) → List Tree → Place → Place → Type 0
 ReadsEach Reads [] c d = d ≡ c
 ReadsEach Reads (x ∷ xs) c d = (m : Place) × Reads x c m × ReadsEach Reads xs m d
+
+-- at least one, with commas between and none behind
+abbrev pub ReadsSeparated : (Tree → Place → Place → Type 0) → List Tree → Place → Place → Type 0
+ReadsSeparated Reads [] c d = ⊥
+ReadsSeparated Reads (x ∷ []) c d = Reads x c d × (sees kind.Comma d ≡ false)
+ReadsSeparated Reads (x ∷ y ∷ ys) c d = (m : Place) × Reads x c m × (kind_at m ≡ kind.Comma) × ReadsSeparated Reads (y ∷ ys) (after m) d
 
 -- Behind the last of a list, before what closes it: nothing, or a comma where one may stand. None stands behind a rest.
 pub data LastComma (commas : Bool) (x : Tree) (c d : Place) : Type 0 where

@@ -9,10 +9,9 @@ use Rattle.swc_ecma_parser_model.specs.Tree.{Tree, Text}
 use Rattle.swc_ecma_parser_grammar.specs.Looks.{kind_at, breaks_at, sees}
 use Rattle.swc_ecma_parser_grammar.specs.Names.{Code}
 use Rattle.swc_ecma_parser_grammar.specs.Follows.{word_at}
-use Rattle.swc_ecma_parser_grammar.specs.Reads.{ReadsToken}
 use Rattle.swc_ecma_parser_grammar.specs.language.Goals.{Goal, attributes_goal}
 use Rattle.swc_ecma_parser_grammar.specs.language.Lists.{ReadsListed}
-use Rattle.swc_ecma_parser_grammar.specs.language.Parts.{ReadsWord}
+use Rattle.swc_ecma_parser_grammar.specs.language.Parts.{ReadsWord, ReadsToken}
 
 -- specifiers in braces; a comma may stand behind the last
 pub record BracedRule (Reads : Tree → Place → Place → Type 0) (xs : List Tree) (c d : Place) : Type 0 where

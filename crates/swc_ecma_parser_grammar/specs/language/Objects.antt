@@ -8,7 +8,7 @@ use Rattle.swc_ecma_parser_model.specs.Tree as tree
 use Rattle.swc_ecma_parser_model.specs.Tree.{Tree, Text, listed}
 use Rattle.swc_ecma_parser_grammar.specs.Looks.{kind_at, span_at, spanned}
 use Rattle.swc_ecma_parser_grammar.specs.Names.{Code}
-use Rattle.swc_ecma_parser_grammar.specs.Reads.{with_in}
+use Rattle.swc_ecma_parser_grammar.specs.language.Contexts.{with_in}
 use Rattle.swc_ecma_parser_grammar.specs.language.Goals.{Goal, expr_goal, assignment}
 use Rattle.swc_ecma_parser_grammar.specs.language.Parts.{ReadsName, KeyRule}
 use Rattle.swc_ecma_parser_grammar.specs.Parameters.{parameters}

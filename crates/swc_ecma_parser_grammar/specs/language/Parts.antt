@@ -1,8 +1,10 @@
--- The parts that expressions, patterns, objects and classes share: names, keys, accesses and arguments.
-use Rattle.std.specs.Prelude.{◌≡◌, Bool, true, false, List, Some, None}
+-- The parts that expressions, patterns, objects and classes share: tokens, names, keys, accesses and arguments.
+use Rattle.std.specs.Prelude.{◌≡◌, Bool, true, false, List, ◌∷◌, Some, None}
 use Rattle.swc_ecma_parser_common.specs.declared.span.Span.{Span}
 use Rattle.swc_ecma_parser_token.specs.declared.kind.TokenKind.TheVariants as kind
+use Rattle.swc_ecma_parser_token.specs.declared.token.Token.{Token}
 use Rattle.swc_ecma_parser_token.specs.declared.token.Token.TheVariants as token
+use Rattle.swc_ecma_parser_token.specs.declared.token.TokenAndSpan.{TokenAndSpan}
 use Rattle.swc_ecma_parser_token.specs.declared.token.Word.{Word}
 use Rattle.swc_ecma_parser_token.specs.Text.{word_text}
 use Rattle.swc_ecma_parser_input.specs.Place.{Place, after}
@@ -10,9 +12,18 @@ use Rattle.swc_ecma_parser_model.specs.Tree as tree
 use Rattle.swc_ecma_parser_model.specs.Tree.{Tree, Text, listed}
 use Rattle.swc_ecma_parser_grammar.specs.Looks.{kind_at, span_at, spanned}
 use Rattle.swc_ecma_parser_grammar.specs.Names.{Code, is_clean_name}
-use Rattle.swc_ecma_parser_grammar.specs.Reads.{with_in, ReadsToken}
+use Rattle.swc_ecma_parser_grammar.specs.language.Contexts.{with_in}
 use Rattle.swc_ecma_parser_grammar.specs.language.Goals.{Goal, expr_goal, expression, assignment}
 use Rattle.swc_ecma_parser_grammar.specs.language.Lists.{ReadsListed}
+
+-- ---- tokens
+
+-- this token, with what it says
+pub record ReadsToken (t : Token) (span : Span) (c d : Place) : Type 0 where
+  pub had_line_break : Bool
+  pub rest : List TokenAndSpan
+  pub is : c.left ≡ record { token = t; had_line_break = had_line_break; span = span } ∷ rest
+  pub next : d ≡ after c
 
 -- ---- names: section 13.1
 

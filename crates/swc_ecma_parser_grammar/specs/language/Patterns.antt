@@ -8,17 +8,13 @@ use Rattle.swc_ecma_parser_model.specs.Tree.{Tree, Text, listed}
 use Rattle.swc_ecma_parser_model.specs.Forms.{is_simple_target, is_pattern_target, is_ident}
 use Rattle.swc_ecma_parser_grammar.specs.Looks.{kind_at, sees, spanned}
 use Rattle.swc_ecma_parser_grammar.specs.Names.{Code}
-use Rattle.swc_ecma_parser_grammar.specs.Reads.{with_in}
+use Rattle.swc_ecma_parser_grammar.specs.language.PatternItems.{PatternItemRule}
+use Rattle.swc_ecma_parser_grammar.specs.language.Contexts.{with_in}
 use Rattle.swc_ecma_parser_grammar.specs.language.Goals.{Goal, Purpose, binding, assigning, expr_goal, assignment, pattern_goal, element_goal}
 use Rattle.swc_ecma_parser_grammar.specs.language.Begins.{awaits}
 use Rattle.swc_ecma_parser_grammar.specs.language.Lists.{ReadsListed, Elements}
 use Rattle.swc_ecma_parser_grammar.specs.language.Parts.{ReadsName, KeyRule}
-use Rattle.swc_ecma_parser_grammar.specs.language.Functions.{PatternItemRule}
-use Rattle.swc_ecma_parser_grammar.specs.language.LeftSides.{LeftSideRule}
-
--- a left-hand-side expression where a unary expression may begin: `await` before an operand is no name there
-abbrev pub OperandRule : (Goal → Type 0) → Code → Tree → Place → Place → Type 0
-OperandRule In k x c d = LeftSideRule In k x c d × (awaits k.flags c ≡ false)
+use Rattle.swc_ecma_parser_grammar.specs.language.LeftSides.{OperandRule}
 
 -- a property of an object pattern: the rest is the last, and a name or a target
 pub data PatternPropertyRule (In : Goal → Type 0) (p : Purpose) (k : Code) (x : Tree) (c d : Place) : Type 0 where

@@ -14,9 +14,8 @@ use Rattle.swc_ecma_parser_grammar.specs.Names.{Code}
 use Rattle.swc_ecma_parser_grammar.specs.Ends.{Ends, OptionalEnds, ends_at}
 use Rattle.swc_ecma_parser_grammar.specs.Follows.{word_at, is_async_function, may_begin_expression_statement, begins_import_expression, AwaitWord}
 use Rattle.swc_ecma_parser_grammar.specs.Variables.{is_var}
-use Rattle.swc_ecma_parser_grammar.specs.Reads.{with_in}
 use Rattle.swc_ecma_parser_grammar.specs.language.Goals.{Goal, expr_goal, expression, assignment, pattern_goal, binding, stmt_goal}
-use Rattle.swc_ecma_parser_grammar.specs.language.Contexts.{in_with, in_loop, in_breakable}
+use Rattle.swc_ecma_parser_grammar.specs.language.Contexts.{in_with, in_loop, in_breakable, with_in}
 use Rattle.swc_ecma_parser_grammar.specs.language.Lists.{ReadsEach}
 use Rattle.swc_ecma_parser_grammar.specs.language.Items.{nested_item, sub_statement, labelled_item, ItemsRule, BlockRule}
 use Rattle.swc_ecma_parser_grammar.specs.language.Functions.{FunctionRule}
@@ -41,10 +40,10 @@ pub record HeadRule (In : Goal → Type 0) (k : Code) (e : Tree) (c d : Place) :
   pub closes : kind_at close ≡ kind.RParen
   pub next : d ≡ after close
 
--- what `return` answers: nothing where the statement can end
-pub data OperandRule (In : Goal → Type 0) (k : Code) (x : Tree) (c d : Place) : Type 0 where
-  no_operand_rule : ends_at c ≡ true → d ≡ c → x ≡ tree.absent → OperandRule In k x c d
-  operand_rule : ends_at c ≡ false → In (expr_goal expression (with_in k) x c d) → OperandRule In k x c d
+-- what `return` answers, or nothing where the statement can end
+pub data ReturnedRule (In : Goal → Type 0) (k : Code) (x : Tree) (c d : Place) : Type 0 where
+  no_operand_rule : ends_at c ≡ true → d ≡ c → x ≡ tree.absent → ReturnedRule In k x c d
+  operand_rule : ends_at c ≡ false → In (expr_goal expression (with_in k) x c d) → ReturnedRule In k x c d
 
 -- the label of `break` and `continue`: none where the statement can end
 pub data TargetRule (k : Code) (x : Tree) (c d : Place) : Type 0 where
@@ -118,7 +117,7 @@ pub data FormRule (In : Goal → Type 0) (k : Code) (at : Position) (x : Tree) (
   with_rule : (e y : Tree) (m : Place) → kind_at c ≡ kind.With → HeadRule In k e (after c) m → In (stmt_goal (in_with k) sub_statement y m d)
       → x ≡ tree.with (spanned c d) e y → FormRule In k at x c d
   -- section 14.10
-  return_rule : (e : Tree) (m : Place) → kind_at c ≡ kind.Return → OperandRule In k e (after c) m → Ends m d → x ≡ tree.return (spanned c d) e → FormRule In k at x c d
+  return_rule : (e : Tree) (m : Place) → kind_at c ≡ kind.Return → ReturnedRule In k e (after c) m → Ends m d → x ≡ tree.return (spanned c d) e → FormRule In k at x c d
   -- section 14.13
   labeled_rule : (text : Text) (s : Span) (y : Tree) (m : Place) → ReadsName k text s c m → kind_at m ≡ kind.Colon → In (stmt_goal (in_breakable k) (labelled_item (after m)) y (after m) d)
       → x ≡ tree.labeled (spanned c d) (tree.ident s text) y → FormRule In k at x c d

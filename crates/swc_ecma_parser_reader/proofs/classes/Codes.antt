@@ -14,9 +14,9 @@ use Rattle.swc_ecma_parser_grammar.specs.Looks.{sees, span_at}
 use Rattle.swc_ecma_parser_grammar.specs.Names.{Code}
 use Rattle.swc_ecma_parser_grammar.specs.Own.{only, second_constructor}
 use Rattle.swc_ecma_parser_grammar.specs.Parameters as formal
-use Rattle.swc_ecma_parser_grammar.specs.Reads.{with_in, nested_item}
-use Rattle.swc_ecma_parser_grammar.specs.ReadsSupported.{ReadsStmt, ReadsParams}
-use Rattle.swc_ecma_parser_grammar.specs.language.Contexts.{in_parameters, in_static_block}
+use Rattle.swc_ecma_parser_grammar.specs.scaffold.ReadsSupported.{ReadsStmt, ReadsParams}
+use Rattle.swc_ecma_parser_grammar.specs.language.Items.{nested_item}
+use Rattle.swc_ecma_parser_grammar.specs.language.Contexts.{in_parameters, in_static_block, with_in}
 use Rattle.swc_ecma_parser_grammar.specs.language.Goals.{assignment, left_side}
 use Rattle.swc_ecma_parser_reader.specs.State.{State, Reader, moved, coded, within, fault, fault_at, recorded_at, recorded_in, expect}
 use Rattle.swc_ecma_parser_reader.specs.Jumps.{told}

@@ -23,14 +23,13 @@ use Rattle.swc_ecma_parser_grammar.specs.Looks.{kind_at, breaks_at, sees, same_k
 use Rattle.swc_ecma_parser_grammar.specs.Names.{Code}
 use Rattle.swc_ecma_parser_grammar.specs.Ends.{can_end}
 use Rattle.swc_ecma_parser_grammar.specs.Follows.{token_is, word_at, not_async, async_word, Star, no_star, star as stands}
-use Rattle.swc_ecma_parser_grammar.specs.Reads.{ReadsToken}
-use Rattle.swc_ecma_parser_grammar.specs.Supported.{is_supported_key_in}
+use Rattle.swc_ecma_parser_grammar.specs.scaffold.Supported.{is_supported_key_in}
 use Rattle.swc_ecma_parser_grammar.specs.language.Classes as classes
 use Rattle.swc_ecma_parser_grammar.specs.language.Classes.{MemberKeyRule, ends_key, is_static_word, is_accessor_key, behind_modifier, behind_static}
 use Rattle.swc_ecma_parser_grammar.specs.language.Functions.{MethodHead, method_head, getter_head, setter_head}
 use Rattle.swc_ecma_parser_grammar.specs.language.Goals.{Goal, Class}
 use Rattle.swc_ecma_parser_grammar.specs.language.Parts as parts
-use Rattle.swc_ecma_parser_grammar.specs.language.Parts.{KeyRule, is_private}
+use Rattle.swc_ecma_parser_grammar.specs.language.Parts.{KeyRule, is_private, ReadsToken}
 use Rattle.swc_ecma_parser_grammar.proofs.Tests.{and_no, or_no}
 use Rattle.swc_ecma_parser_grammar.proofs.StatementBegins.{word_place}
 use Rattle.swc_ecma_parser_reader.specs.Notes.{Notes}

@@ -17,16 +17,16 @@ use Rattle.swc_ecma_parser_grammar.specs.Follows.{word_at}
 use Rattle.swc_ecma_parser_grammar.specs.Own.{only, misplaced_directive}
 use Rattle.swc_ecma_parser_grammar.specs.Parameters.{parameters as parameter_trees}
 use Rattle.swc_ecma_parser_grammar.specs.Notes.{notes, method_notes}
-use Rattle.swc_ecma_parser_grammar.specs.Reads.{nested_item, ReadsBraced, ReadsBlock, ReadsParts}
-use Rattle.swc_ecma_parser_grammar.specs.ReadsSupported.{ReadsStmt, ReadsParams, ReadsMember}
-use Rattle.swc_ecma_parser_grammar.specs.Supported.{supported_in, is_supported_key_in, is_supported_property_in, is_supported_method_in, has_no_note}
-use Rattle.swc_ecma_parser_grammar.specs.Walk.{Env, env_of, walk, walks, walk_body, walk_method, in_params, in_body as walks_in_body}
+use Rattle.swc_ecma_parser_grammar.specs.scaffold.Reads.{ReadsBraced, ReadsBlock, ReadsParts}
+use Rattle.swc_ecma_parser_grammar.specs.scaffold.ReadsSupported.{ReadsStmt, ReadsParams, ReadsMember}
+use Rattle.swc_ecma_parser_grammar.specs.scaffold.Supported.{supported_in, is_supported_key_in, is_supported_property_in, is_supported_method_in, has_no_note}
+use Rattle.swc_ecma_parser_grammar.specs.Walk.{Env, env_of, walk, walks, walk_body, walk_method, env_in_parameters, env_in_body}
 use Rattle.swc_ecma_parser_grammar.specs.language.Classes as classes
 use Rattle.swc_ecma_parser_grammar.specs.language.Classes.{DecoratorsRule, ends_key, is_static_word, is_accessor_word, behind_modifier, has_accessor, MemberKeyRule, method_member, field_member, FieldValueRule, no_value, a_value, CoreRule, constructor_rule, method_rule, field_rule, static_block_rule, empty_rule, member_rule}
 use Rattle.swc_ecma_parser_grammar.specs.language.Contexts.{in_static_block, in_parameters, in_body}
 use Rattle.swc_ecma_parser_grammar.specs.language.Functions.{MethodRule, ParametersRule, takes}
 use Rattle.swc_ecma_parser_grammar.specs.language.Goals.{Goal, assignment}
-use Rattle.swc_ecma_parser_grammar.specs.language.Items.{BlockRule}
+use Rattle.swc_ecma_parser_grammar.specs.language.Items.{BlockRule, nested_item}
 use Rattle.swc_ecma_parser_grammar.specs.language.Noted.{has_meta}
 use Rattle.swc_ecma_parser_grammar.specs.language.Parts.{KeyRule, is_private}
 use Rattle.swc_ecma_parser_grammar.specs.language.Reads as language
@@ -225,7 +225,7 @@ static_no_semicolon c = by_test (is_static_word c) refl
 module _ (n : ℕ) (below : Below n)
     (body_reads : (a g : Bool) (k : Code) (x : Tree) (c d : Place) (w : Scope) (f : List Fault) (h : Notes) → ReadsBraced (ReadsStmt n) true (in_body k a g) x c d
     → function_body (stmt n nested_item) (parameters n) a g (st c k w f h)
-    ≡ Ok (x, st d k w (f ++ walk_body (walks_in_body (env_of k w.labels)) x) (record { held_back = h.held_back ++ notes x; found_module_item = h.found_module_item })))
+    ≡ Ok (x, st d k w (f ++ walk_body (env_in_body (env_of k w.labels)) x) (record { held_back = h.held_back ++ notes x; found_module_item = h.found_module_item })))
     (block_reads : (k : Code) (x : Tree) (c d : Place) → ReadsBlock (ReadsStmt n) k x c d → Reads (braced (stmt n nested_item) false) k x c d) where
   -- ---- methods
 
@@ -237,14 +237,14 @@ module _ (n : ℕ) (below : Below n)
   unfolding method_parts misdirected
   method_parts_reads ds form start word ps body k c d w f h r t e =
       let env = env_of k w.labels in
-      let a = walks (in_params env) false (trees ps) in
-      let b = walk_body (walks_in_body env) body in
+      let a = walks (env_in_parameters env) false (trees ps) in
+      let b = walk_body (env_in_body env) body in
       rw (
         parameters_reads n below (in_parameters k (form_is_async form) (form_is_generator form)) ps c r.middle r.reads_parameters w f h,
         arity_told form word ps t,
         body_reads (form_is_async form) (form_is_generator form) k body r.middle d w (f ++ a) (h ⊕ all_notes_of (trees ps)) r.reads_body,
         told_reads (misplaced_directive (has_plain_params (parameter_trees ps)) body) d k w (f ++ a ++ b) _ (inr e),
-        parameters_walk (in_params env) ps,
+        parameters_walk (env_in_parameters env) ps,
         ap (λ z. z.held_back) (parameters_notes ps),
         ap (λ z. z.found_module_item) (parameters_notes ps),
       ) (simp (append_assoc) refl)
@@ -303,7 +303,7 @@ module _ (n : ℕ) (below : Below n)
       let f' = f ++ walk env key in
       let h' = h ⊕ notes_of key in
       let b = walks env false (trees ps) in
-      let l = walk_body (walks_in_body env) body in
+      let l = walk_body (env_in_body env) body in
       rw (
         bare_words key_rule (paren_ended key i p.opens) w f h,
         member_key_reads (language.Reads n) (expr n) (cover n) below.exprs k key m i key_rule (plainly _ _ t.0) w f h,

@@ -17,11 +17,10 @@ use Rattle.swc_ecma_parser_model.specs.Tree.{Tree}
 use Rattle.swc_ecma_parser_grammar.specs.Looks.{kind_at, sees, same_kind}
 use Rattle.swc_ecma_parser_grammar.specs.Names.{Code}
 use Rattle.swc_ecma_parser_grammar.specs.Follows.{not_async, async_word, Star, no_star, star}
-use Rattle.swc_ecma_parser_grammar.specs.Reads.{ReadsToken}
-use Rattle.swc_ecma_parser_grammar.specs.ReadsSupported.{ReadsMember}
+use Rattle.swc_ecma_parser_grammar.specs.scaffold.ReadsSupported.{ReadsMember}
 use Rattle.swc_ecma_parser_grammar.specs.language.Goals.{Goal}
 use Rattle.swc_ecma_parser_grammar.specs.language.Parts as parts
-use Rattle.swc_ecma_parser_grammar.specs.language.Parts.{KeyRule}
+use Rattle.swc_ecma_parser_grammar.specs.language.Parts.{KeyRule, ReadsToken}
 use Rattle.swc_ecma_parser_grammar.specs.language.Functions.{MethodHead, method_head, getter_head, setter_head}
 use Rattle.swc_ecma_parser_grammar.specs.language.Classes.{DecoratorRule, decorator_rule, DecoratorsRule, no_decorators, some_decorators, is_static_word, is_accessor_word, behind_modifier, behind_accessor, MemberKeyRule, member_key, private_key, CoreRule, constructor_rule, method_rule, field_rule, static_block_rule, MemberRule, empty_rule, member_rule}
 use Rattle.swc_ecma_parser_grammar.proofs.Tests.{and_yes}

@@ -11,9 +11,9 @@ use Rattle.swc_ecma_parser_grammar.specs.declared.position.Position.{Position}
 use Rattle.swc_ecma_parser_grammar.specs.Looks.{kind_at, sees, spanned}
 use Rattle.swc_ecma_parser_grammar.specs.Names.{Code}
 use Rattle.swc_ecma_parser_grammar.specs.Parameters.{parameters}
-use Rattle.swc_ecma_parser_grammar.specs.Reads.{ReadsParts}
-use Rattle.swc_ecma_parser_grammar.specs.ReadsSupported.{ReadsStmt, ReadsParams}
-use Rattle.swc_ecma_parser_grammar.specs.Supported.{is_supported_key_in}
+use Rattle.swc_ecma_parser_grammar.specs.scaffold.Reads.{ReadsParts}
+use Rattle.swc_ecma_parser_grammar.specs.scaffold.ReadsSupported.{ReadsStmt, ReadsParams}
+use Rattle.swc_ecma_parser_grammar.specs.scaffold.Supported.{is_supported_key_in}
 use Rattle.swc_ecma_parser_grammar.specs.language.Classes.{MemberKeyRule}
 use Rattle.swc_ecma_parser_grammar.specs.language.Functions.{MethodHead, takes}
 use Rattle.swc_ecma_parser_grammar.specs.language.Parts.{is_private}

@@ -20,13 +20,12 @@ use Rattle.swc_ecma_parser_grammar.specs.declared.position.Position.{Position}
 use Rattle.swc_ecma_parser_grammar.specs.Looks.{kind_at, sees, span_at, spanned}
 use Rattle.swc_ecma_parser_grammar.specs.Names.{Code, name_at}
 use Rattle.swc_ecma_parser_grammar.specs.Own.{only, second_constructor}
-use Rattle.swc_ecma_parser_grammar.specs.Reads.{with_in}
-use Rattle.swc_ecma_parser_grammar.specs.ReadsSupported.{ReadsClass, ReadsMember, ReadsNamedClass}
-use Rattle.swc_ecma_parser_grammar.specs.Supported.{supported_in, all_supported_in}
+use Rattle.swc_ecma_parser_grammar.specs.scaffold.ReadsSupported.{ReadsClass, ReadsMember, ReadsNamedClass}
+use Rattle.swc_ecma_parser_grammar.specs.scaffold.Supported.{supported_in, all_supported_in}
 use Rattle.swc_ecma_parser_grammar.specs.Walk as walks
 use Rattle.swc_ecma_parser_grammar.specs.Walk.{Env, walk, walk_members, env_of, is_dropping, drops}
 use Rattle.swc_ecma_parser_grammar.specs.language.Classes.{HeritageRule, no_heritage, heritage_rule, ClassRule}
-use Rattle.swc_ecma_parser_grammar.specs.language.Contexts.{in_class}
+use Rattle.swc_ecma_parser_grammar.specs.language.Contexts.{in_class, with_in}
 use Rattle.swc_ecma_parser_grammar.specs.language.Goals.{left_side, member_goal}
 use Rattle.swc_ecma_parser_grammar.specs.language.LeftSides as sides
 use Rattle.swc_ecma_parser_grammar.specs.language.LeftSides.{is_callee}
@@ -141,7 +140,7 @@ free_name k c d i r = (
 
 -- the walk finds the same in strict code
 abbrev AsStrict : Tree → Type 0
-AsStrict x = (env : Env) → walk (walks.in_class env) x ≡ walk env x
+AsStrict x = (env : Env) → walk (walks.env_in_class env) x ≡ walk env x
 
 named_sound : (s : State) → Meets (λ x t. (is_absent x ≡ false) × AsStrict x × SoundTree NameRead s x t) (named s)
 unfolding named
@@ -151,7 +150,7 @@ named_sound s = meets_then _ (name faults.ExpectedIdent s) _ (name_sound faults.
 -- ---- classes
 
 -- in strict code nothing turns strict
-strict_env : (k : Code) (labels : List Text) → k.flags.strict ≡ true → env_of k labels ≡ walks.in_class (env_of k labels)
+strict_env : (k : Code) (labels : List Text) → k.flags.strict ≡ true → env_of k labels ≡ walks.env_in_class (env_of k labels)
 strict_env k labels h = ap {A = Bool} (λ b. record (env_of k labels) { strict = b }) h
 
 module _ (n : ℕ) (heritage member : Reader Tree) (sound_heritage : (s : State) → Meets (λ x t. SoundTree (ReadsClass n left_side) s x t) (heritage s))
@@ -291,15 +290,15 @@ module _ (n : ℕ) (heritage member : Reader Tree) (sound_heritage : (s : State)
   behind_name_sound name s m e h p = meets_as (class_parts heritage member (span_at s.at) m) (class_parts_sound (span_at s.at) m) (λ y t (x, xs, g, q).
       let env = env_of s.code s.scope.labels in (
         ap span_of g,
-        λ env. ap (walk (walks.in_class env)) g ∙ sym (ap (walk env) g),
+        λ env. ap (walk (walks.env_in_class env)) g ∙ sym (ap (walk env) g),
         sound_after s t e refl
             (ap (λ v. walk env name ++ v) (ap (λ v. walk v x ++ walk_members v false (trees xs)) (strict_env s.code s.scope.labels h) ∙ sym (ap (walk env) g)))
             (ap (λ v. notes_of name ⊕ v) (sym (ap notes_of g)))
             (λ (i, a, b). record { base = x; found = xs; behind_name = i; is_class = e; reads_name = a; parts = b; is = g }) (sound_then p q),
       ))
 
-  both_strict : (name y : Tree) → AsStrict name → AsStrict y → (env : Env) → walk (walks.in_class env) name ++ walk (walks.in_class env) y ≡ walk env name ++ walk env y
-  both_strict name y f g env = ap (λ v. v ++ walk (walks.in_class env) y) (f env) ∙ ap (λ v. walk env name ++ v) (g env)
+  both_strict : (name y : Tree) → AsStrict name → AsStrict y → (env : Env) → walk (walks.env_in_class env) name ++ walk (walks.env_in_class env) y ≡ walk env name ++ walk env y
+  both_strict name y f g env = ap (λ v. v ++ walk (walks.env_in_class env) y) (f env) ∙ ap (λ v. walk env name ++ v) (g env)
 
   -- ---- as expressions
 

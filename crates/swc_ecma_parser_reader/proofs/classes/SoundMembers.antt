@@ -17,15 +17,15 @@ use Rattle.swc_ecma_parser_grammar.specs.Follows.{word_at}
 use Rattle.swc_ecma_parser_grammar.specs.Own.{only, misplaced_directive}
 use Rattle.swc_ecma_parser_grammar.specs.Notes.{notes, method_notes}
 use Rattle.swc_ecma_parser_grammar.specs.Parameters.{parameters}
-use Rattle.swc_ecma_parser_grammar.specs.Reads.{nested_item, with_in, ReadsBraced, ReadsBlock}
-use Rattle.swc_ecma_parser_grammar.specs.ReadsSupported.{ReadsClass, ReadsStmt, ReadsParams, ReadsDecorated, ReadsMember}
-use Rattle.swc_ecma_parser_grammar.specs.Supported.{supported_in, all_supported_in, is_supported_key_in, is_supported_property_in, is_supported_method_in, has_no_note, is_clean}
+use Rattle.swc_ecma_parser_grammar.specs.scaffold.Reads.{ReadsBraced, ReadsBlock}
+use Rattle.swc_ecma_parser_grammar.specs.scaffold.ReadsSupported.{ReadsClass, ReadsStmt, ReadsParams, ReadsDecorated, ReadsMember}
+use Rattle.swc_ecma_parser_grammar.specs.scaffold.Supported.{supported_in, all_supported_in, is_supported_key_in, is_supported_property_in, is_supported_method_in, has_no_note, is_clean}
 use Rattle.swc_ecma_parser_grammar.specs.Walk as walks
 use Rattle.swc_ecma_parser_grammar.specs.Walk.{Env, walk, env_of}
 use Rattle.swc_ecma_parser_grammar.specs.language.Classes.{DecoratorsRule, CoreRule, constructor_rule, method_rule, field_rule, static_block_rule, MemberKeyRule, FieldValueRule, MemberRule, no_value, a_value, empty_rule, member_rule, is_static_word, is_accessor_word, is_accessor_key, behind_static as behind_static_word, has_accessor, behind_accessor, behind_modifier, method_member, field_member}
-use Rattle.swc_ecma_parser_grammar.specs.language.Contexts.{in_static_block, in_parameters, in_body}
+use Rattle.swc_ecma_parser_grammar.specs.language.Contexts.{in_static_block, in_parameters, in_body, with_in}
 use Rattle.swc_ecma_parser_grammar.specs.language.Goals.{Class, assignment}
-use Rattle.swc_ecma_parser_grammar.specs.language.Items.{BlockRule}
+use Rattle.swc_ecma_parser_grammar.specs.language.Items.{BlockRule, nested_item}
 use Rattle.swc_ecma_parser_grammar.specs.language.Noted.{has_meta}
 use Rattle.swc_ecma_parser_grammar.specs.language.Parts.{KeyRule, is_private}
 use Rattle.swc_ecma_parser_grammar.specs.language.Reads.{Reads}
@@ -79,10 +79,10 @@ method_walk env s key fn kind is_static ds form (f, ps, body, e) =
     before = walk env (listed ds) ++ walk env key
 
     of_params : List Fault
-    of_params = walk (walks.in_params env) (parameters ps)
+    of_params = walk (walks.env_in_parameters env) (parameters ps)
 
     of_body : List Fault
-    of_body = walks.walk_body (walks.in_body env) body
+    of_body = walks.walk_body (walks.env_in_body env) body
 
     late : List Fault
     late = misplaced_directive (has_plain_params (parameters ps)) body
@@ -227,7 +227,7 @@ module _ (n : ℕ) (inner : Class → Reader Tree) (cover : Reader Cover) (stmt 
   -- ---- the function of a method
 
   body_sound : (w g : Bool) (s : State)
-      → Meets (λ x t. Sound same (λ k l. walks.walk_body (walks.in_body (env_of k l)) x) (record (notes_of x) { found_module_item = false }) (λ k. ReadsBraced (ReadsStmt n) true (in_body k w g) x) s t)
+      → Meets (λ x t. Sound same (λ k l. walks.walk_body (walks.env_in_body (env_of k l)) x) (record (notes_of x) { found_module_item = false }) (λ k. ReadsBraced (ReadsStmt n) true (in_body k w g) x) s t)
       (function_body stmt params w g s)
   body_sound = function_body_sound (ReadsStmt n) (ReadsParams n) stmt sound_stmt params sound_params
 
@@ -245,7 +245,7 @@ module _ (n : ℕ) (inner : Class → Reader Tree) (cover : Reader Cover) (stmt 
       meets_then _ (misdirected (parameters ps) x u) _ (misdirected_sound (parameters ps) x u) (λ _ t z.
       let here : Span = record { lo = start.lo; hi = u.at.last.hi } in (
         sound_as s t refl
-            (ap (λ y. y ++ walks.walk_body (walks.in_body (env_of s.code s.scope.labels)) x ++ misplaced_directive (has_plain_params (parameters ps)) x) (sym (parameters_walk (walks.in_params (env_of s.code s.scope.labels)) ps)))
+            (ap (λ y. y ++ walks.walk_body (walks.env_in_body (env_of s.code s.scope.labels)) x ++ misplaced_directive (has_plain_params (parameters ps)) x) (sym (parameters_walk (walks.env_in_parameters (env_of s.code s.scope.labels)) ps)))
             (notes_nil (all_notes_of (trees ps) ⊕ record (notes_of x) { found_module_item = false }) ∙ function_notes a v here ps x)
             (λ (((c, (h, g)), b), o). record {
               patterns = ps;
@@ -415,7 +415,7 @@ module _ (n : ℕ) (inner : Class → Reader Tree) (cover : Reader Cover) (stmt 
         meets_then _ (told (only is_static faults.TS1089 first) y) _ (told_only_sound is_static faults.TS1089 first y refl) (λ _ t l.
         let here : Span = record { lo = start.lo; hi = e.at.last.hi } in
         let late : List Fault = misplaced_directive (has_plain_params (parameters ps)) x in
-        let of_body : List Fault = walks.walk_body (walks.in_body (env_of s.code s.scope.labels)) x in
+        let of_body : List Fault = walks.walk_body (walks.env_in_body (env_of s.code s.scope.labels)) x in
         sound_as s t refl
         (ap (λ y. ((walk (env_of s.code s.scope.labels) key ++ y) ++ of_body) ++ late) (sym (parameters_walk (env_of s.code s.scope.labels) ps)))
         (constructor_noted here ps x)

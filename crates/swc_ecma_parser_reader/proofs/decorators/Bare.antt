@@ -11,15 +11,15 @@ use Rattle.swc_ecma_parser_model.specs.Tree as tree
 use Rattle.swc_ecma_parser_model.specs.Tree.{Tree, Text, listed}
 use Rattle.swc_ecma_parser_model.specs.Forms.{span_of, is_absent}
 use Rattle.swc_ecma_parser_grammar.specs.declared.position.Position.{Position}
-use Rattle.swc_ecma_parser_grammar.specs.Decorated.{decorated_by, declared_class, declared_function}
+use Rattle.swc_ecma_parser_grammar.specs.scaffold.Decorated.{decorated_by, declared_class, declared_function}
 use Rattle.swc_ecma_parser_grammar.specs.Looks.{span_at, spanned}
 use Rattle.swc_ecma_parser_grammar.specs.Names.{Code}
 use Rattle.swc_ecma_parser_grammar.specs.Own.{labelled_function}
 use Rattle.swc_ecma_parser_grammar.specs.Parameters.{parameters}
-use Rattle.swc_ecma_parser_grammar.specs.ReadsSupported.{ReadsDeclared}
+use Rattle.swc_ecma_parser_grammar.specs.scaffold.ReadsSupported.{ReadsDeclared}
 use Rattle.swc_ecma_parser_grammar.specs.Walk.{Env, walk}
 use Rattle.swc_ecma_parser_grammar.specs.Walk as walks
-use Rattle.swc_ecma_parser_grammar.specs.language.Contexts.{in_class, in_parameters}
+use Rattle.swc_ecma_parser_grammar.specs.language.Contexts.{in_class, in_parameters, with_in}
 use Rattle.swc_ecma_parser_grammar.specs.language.Parts.{OptionalName, no_name, a_name}
 use Rattle.swc_ecma_parser_reader.specs.Decorators.{has_any}
 use Rattle.swc_ecma_parser_reader.specs.Members.{extended, surplus, members, class_parts, named_class, class_decl, class_stmt}
@@ -27,7 +27,6 @@ use Rattle.swc_ecma_parser_reader.specs.Methods.{star}
 use Rattle.swc_ecma_parser_reader.specs.Notes.{Notes, ◌⊕◌, notes_of}
 use Rattle.swc_ecma_parser_reader.specs.Reader.{close, misdirected, function_body, function_parts, function_word, function_decl, function_stmt, named}
 use Rattle.swc_ecma_parser_reader.specs.State.{State, Reader, coded, moved, within, fault, expect, name}
-use Rattle.swc_ecma_parser_grammar.specs.Reads.{with_in}
 use Rattle.swc_ecma_parser_reader.proofs.Meets.{Meets, meets_then, meets_if, always}
 use Rattle.swc_ecma_parser_reader.proofs.Notes.{or_assoc}
 
@@ -55,11 +54,11 @@ walks_first env start ds x y e h = ap (λ z. walk env (decorated_by start ds z))
 
 pub walk_decorated : (env : Env) (start : Span) (ds : List Tree) (x : Tree) → IsBare x → walk env (decorated_by start ds x) ≡ walk env (listed ds) ++ walk env x
 walk_decorated env start ds x (bare_class s text span ms base e) = walks_first env start ds x _ e
-    (append_assoc (walk env (listed ds)) (walk (walks.in_class env) base) (walks.walk_class_body (walks.in_class env) ms))
+    (append_assoc (walk env (listed ds)) (walk (walks.env_in_class env) base) (walks.walk_class_body (walks.env_in_class env) ms))
 walk_decorated env start ds x (bare_function s text span ps body a g e) = walks_first env start ds x _ e
-    (append_assoc (walk env (listed ds) ++ walk (walks.in_params env) ps) (walks.walk_body (walks.in_body env) body) _
-    ∙ append_assoc (walk env (listed ds)) (walk (walks.in_params env) ps) _
-    ∙ ap (λ z. walk env (listed ds) ++ z) (sym (append_assoc (walk (walks.in_params env) ps) (walks.walk_body (walks.in_body env) body) _)))
+    (append_assoc (walk env (listed ds) ++ walk (walks.env_in_parameters env) ps) (walks.walk_body (walks.env_in_body env) body) _
+    ∙ append_assoc (walk env (listed ds)) (walk (walks.env_in_parameters env) ps) _
+    ∙ ap (λ z. walk env (listed ds) ++ z) (sym (append_assoc (walk (walks.env_in_parameters env) ps) (walks.walk_body (walks.env_in_body env) body) _)))
 
 notes_first : (start : Span) (ds : List Tree) (x y : Tree) → x ≡ y → notes_of (decorated_by start ds y) ≡ notes_of (listed ds) ⊕ notes_of y
     → notes_of (decorated_by start ds x) ≡ notes_of (listed ds) ⊕ notes_of x

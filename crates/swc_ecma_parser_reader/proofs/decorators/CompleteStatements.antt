@@ -7,11 +7,11 @@ use Rattle.swc_ecma_parser_input.specs.Place.{Place}
 use Rattle.swc_ecma_parser_model.specs.Tree as tree
 use Rattle.swc_ecma_parser_model.specs.Tree.{Tree, Trees, none, also, trees, listed}
 use Rattle.swc_ecma_parser_grammar.specs.declared.position.Position.{Position}
-use Rattle.swc_ecma_parser_grammar.specs.Decorated.{decorated_by, DecoratedRule, EitherRule, plain_statement, decorated_statement}
+use Rattle.swc_ecma_parser_grammar.specs.scaffold.Decorated.{decorated_by, SmallDecoratedRule, EitherRule, plain_statement, decorated_statement}
 use Rattle.swc_ecma_parser_grammar.specs.Looks.{sees, span_at, spanned}
 use Rattle.swc_ecma_parser_grammar.specs.Names.{Code}
-use Rattle.swc_ecma_parser_grammar.specs.Reads.{StmtRule}
-use Rattle.swc_ecma_parser_grammar.specs.ReadsSupported.{ReadsClass, ReadsPat, ReadsTarget, ReadsStmt, ReadsParams, ReadsNamedClass, ReadsDecorated, ReadsDecorators, ReadsDeclared}
+use Rattle.swc_ecma_parser_grammar.specs.scaffold.Reads.{SmallStmtRule}
+use Rattle.swc_ecma_parser_grammar.specs.scaffold.ReadsSupported.{ReadsClass, ReadsPat, ReadsTarget, ReadsStmt, ReadsParams, ReadsNamedClass, ReadsDecorated, ReadsDecorators, ReadsDeclared}
 use Rattle.swc_ecma_parser_grammar.specs.Walk.{env_of, walk}
 use Rattle.swc_ecma_parser_grammar.specs.language.Classes.{no_decorators, some_decorators}
 use Rattle.swc_ecma_parser_grammar.specs.language.Reads as language
@@ -57,7 +57,7 @@ calm_behind k w start ds x d b (inl e) = inl (nil-split (walk (env_of k w.labels
 calm_behind k w start ds x d b (inr e) = inr e
 
 module _ (n : ℕ) (plain : Position → Reader Tree) (at : Position)
-    (reads : (k : Code) (x : Tree) (c d : Place) → StmtRule (ReadsStmt n) (ReadsClass n) (ReadsPat n) (ReadsTarget n) (ReadsParams n) (ReadsNamedClass n) k at x c d → ReadsCalm (plain at) k x c d)
+    (reads : (k : Code) (x : Tree) (c d : Place) → SmallStmtRule (ReadsStmt n) (ReadsClass n) (ReadsPat n) (ReadsTarget n) (ReadsParams n) (ReadsNamedClass n) k at x c d → ReadsCalm (plain at) k x c d)
     (further : Reader Tree) (reads_further : (k : Code) (x : Tree) (c d : Place) → ReadsDecorated n k x c d → Reads further k x c d)
     (falls : (s : State) → Falls 1 (length s.at.left) (further s)) where
   -- a class or a function behind a list that was read
@@ -74,7 +74,7 @@ module _ (n : ℕ) (plain : Position → Reader Tree) (at : Position)
       rw (declared_begins n k at x m d r, p) (ap (λ z. Ok (decorated_by (spanned c m) ds x, st d k w z ((h ⊕ notes_of (listed ds)) ⊕ notes_of x))) faults
       ∙ ap (λ z. Ok (decorated_by (spanned c m) ds x, st d k w (f ++ walk (env_of k w.labels) (decorated_by (spanned c m) ds x)) z)) notes)
 
-  decorated_reads : (k : Code) (x : Tree) (c d : Place) → DecoratedRule (ReadsDecorators n) (ReadsDeclared n) k at x c d → ReadsCalm (either_stmt plain further at) k x c d
+  decorated_reads : (k : Code) (x : Tree) (c d : Place) → SmallDecoratedRule (ReadsDecorators n) (ReadsDeclared n) k at x c d → ReadsCalm (either_stmt plain further at) k x c d
   unfolding decorated_stmt spanned
   decorated_reads k x c d r w f h q =
       let ds = r.first ∷ r.others in
@@ -88,7 +88,7 @@ module _ (n : ℕ) (plain : Position → Reader Tree) (at : Position)
       (declared_reads k r.bare c r.middle d ds h.found_module_item r.reads_bare w f h (subst (λ z. Calm k w.labels z d) is q)
       ∙ ap (λ z. Ok (z, st d k w (f ++ walk (env_of k w.labels) z) (h ⊕ notes_of z))) (sym is))
 
-  pub either_reads : (k : Code) (x : Tree) (c d : Place) → EitherRule (StmtRule (ReadsStmt n) (ReadsClass n) (ReadsPat n) (ReadsTarget n) (ReadsParams n) (ReadsNamedClass n) k at x c d)
-      (DecoratedRule (ReadsDecorators n) (ReadsDeclared n) k at x c d) → ReadsCalm (either_stmt plain further at) k x c d
+  pub either_reads : (k : Code) (x : Tree) (c d : Place) → EitherRule (SmallStmtRule (ReadsStmt n) (ReadsClass n) (ReadsPat n) (ReadsTarget n) (ReadsParams n) (ReadsNamedClass n) k at x c d)
+      (SmallDecoratedRule (ReadsDecorators n) (ReadsDeclared n) k at x c d) → ReadsCalm (either_stmt plain further at) k x c d
   either_reads k x c d (plain_statement r) w f h q = either_elsewhere plain further at (st c k w f h) (plain_goes n k at x c d r).1 ∙ reads k x c d r w f h q
   either_reads k x c d (decorated_statement r) w f h q = decorated_reads k x c d r w f h q

@@ -7,12 +7,13 @@ use Rattle.swc_ecma_parser_token.specs.declared.kind.TokenKind.TheVariants as ki
 use Rattle.swc_ecma_parser_input.specs.Place.{Place}
 use Rattle.swc_ecma_parser_model.specs.Tree.{Tree}
 use Rattle.swc_ecma_parser_grammar.specs.declared.position.Position.{Position}
-use Rattle.swc_ecma_parser_grammar.specs.Decorated.{declared_class, declared_function}
+use Rattle.swc_ecma_parser_grammar.specs.scaffold.Decorated.{declared_class, declared_function}
 use Rattle.swc_ecma_parser_grammar.specs.Follows.{is_async_function, begins_import_expression, AsyncWord, not_async, async_word}
 use Rattle.swc_ecma_parser_grammar.specs.Looks.{kind_at, sees, same_kind}
 use Rattle.swc_ecma_parser_grammar.specs.Names.{Code}
-use Rattle.swc_ecma_parser_grammar.specs.Reads.{StmtRule, class_rule, function_rule, nested_item}
-use Rattle.swc_ecma_parser_grammar.specs.ReadsSupported.{ReadsStmt, ReadsClass, ReadsPat, ReadsTarget, ReadsParams, ReadsNamedClass, ReadsDeclared}
+use Rattle.swc_ecma_parser_grammar.specs.scaffold.Reads.{SmallStmtRule, class_rule, function_rule}
+use Rattle.swc_ecma_parser_grammar.specs.scaffold.ReadsSupported.{ReadsStmt, ReadsClass, ReadsPat, ReadsTarget, ReadsParams, ReadsNamedClass, ReadsDeclared}
+use Rattle.swc_ecma_parser_grammar.specs.language.Items.{nested_item}
 use Rattle.swc_ecma_parser_grammar.specs.language.Goals.{Class, left_side}
 use Rattle.swc_ecma_parser_reader.specs.DecoratedStatements.{begins_declared}
 use Rattle.swc_ecma_parser_reader.specs.Expressions.{Cover}
@@ -144,7 +145,7 @@ module _ (inner : Position → Reader Tree) (inner_expr : Class → Reader Tree)
 
 -- a class or a function by itself is a statement
 pub declared_plain : (n : ℕ) (k : Code) (at : Position) (x : Tree) (c d : Place) → ReadsDeclared n k at x c d
-    → StmtRule (ReadsStmt n) (ReadsClass n) (ReadsPat n) (ReadsTarget n) (ReadsParams n) (ReadsNamedClass n) k at x c d
+    → SmallStmtRule (ReadsStmt n) (ReadsClass n) (ReadsPat n) (ReadsTarget n) (ReadsParams n) (ReadsNamedClass n) k at x c d
 declared_plain n k at x c d (declared_class name y i r b e) = class_rule name y i r b e
 declared_plain n k at x c d (declared_function i r) = function_rule i r
 

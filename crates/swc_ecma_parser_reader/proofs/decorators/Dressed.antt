@@ -7,12 +7,12 @@ use Rattle.swc_ecma_parser_model.specs.Tree as tree
 use Rattle.swc_ecma_parser_model.specs.Tree.{Tree}
 use Rattle.swc_ecma_parser_model.specs.Forms.{span_of}
 use Rattle.swc_ecma_parser_grammar.specs.declared.position.Position.{Position}
-use Rattle.swc_ecma_parser_grammar.specs.Decorated.{class_behind, function_behind, decorated_by}
+use Rattle.swc_ecma_parser_grammar.specs.scaffold.Decorated.{class_behind, function_behind, decorated_by}
 use Rattle.swc_ecma_parser_grammar.specs.Follows.{is_async_function, not_async}
 use Rattle.swc_ecma_parser_grammar.specs.Looks.{kind_at, span_at}
 use Rattle.swc_ecma_parser_grammar.specs.Parameters.{parameters}
-use Rattle.swc_ecma_parser_grammar.specs.Reads.{nested_item, with_in}
-use Rattle.swc_ecma_parser_grammar.specs.language.Contexts.{in_class, in_parameters}
+use Rattle.swc_ecma_parser_grammar.specs.language.Items.{nested_item}
+use Rattle.swc_ecma_parser_grammar.specs.language.Contexts.{in_class, in_parameters, with_in}
 use Rattle.swc_ecma_parser_grammar.specs.language.Goals.{Class, left_side}
 use Rattle.swc_ecma_parser_reader.specs.Decorators.{Leading}
 use Rattle.swc_ecma_parser_reader.specs.DecoratedStatements.{declared_behind, begins_declared}

@@ -7,8 +7,8 @@ use Rattle.swc_ecma_parser_input.specs.Place.{Place}
 use Rattle.swc_ecma_parser_model.specs.Tree.{Tree, listed}
 use Rattle.swc_ecma_parser_grammar.specs.Looks.{kind_at, spanned}
 use Rattle.swc_ecma_parser_grammar.specs.Names.{Code}
-use Rattle.swc_ecma_parser_grammar.specs.ReadsSupported.{ReadsDecorated}
-use Rattle.swc_ecma_parser_grammar.specs.Supported.{supported_in}
+use Rattle.swc_ecma_parser_grammar.specs.scaffold.ReadsSupported.{ReadsDecorated}
+use Rattle.swc_ecma_parser_grammar.specs.scaffold.Supported.{supported_in}
 use Rattle.swc_ecma_parser_grammar.specs.Walk.{env_of, walk, drops}
 use Rattle.swc_ecma_parser_grammar.specs.language.Classes.{DecoratorsRule}
 use Rattle.swc_ecma_parser_grammar.specs.language.Goals.{Goal, decorator_goal}

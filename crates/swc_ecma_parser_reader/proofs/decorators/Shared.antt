@@ -6,7 +6,7 @@ use Rattle.swc_ecma_parser_input.specs.Place.{Place}
 use Rattle.swc_ecma_parser_model.specs.Tree.{Tree}
 use Rattle.swc_ecma_parser_grammar.specs.Looks.{sees}
 use Rattle.swc_ecma_parser_grammar.specs.Names.{Code}
-use Rattle.swc_ecma_parser_grammar.specs.ReadsSupported.{ReadsDecorators}
+use Rattle.swc_ecma_parser_grammar.specs.scaffold.ReadsSupported.{ReadsDecorators}
 
 -- no further decorator stands here
 abbrev pub NoneFollows : Code → Place → Type 0

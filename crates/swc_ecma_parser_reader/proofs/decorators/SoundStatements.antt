@@ -7,11 +7,11 @@ use Rattle.swc_ecma_parser_token.specs.declared.kind.TokenKind.TheVariants as ki
 use Rattle.swc_ecma_parser_input.specs.Place.{Place}
 use Rattle.swc_ecma_parser_model.specs.Tree.{Tree}
 use Rattle.swc_ecma_parser_grammar.specs.declared.position.Position.{Position}
-use Rattle.swc_ecma_parser_grammar.specs.Decorated.{decorated_by, plain_statement, decorated_statement}
+use Rattle.swc_ecma_parser_grammar.specs.scaffold.Decorated.{decorated_by, plain_statement, decorated_statement}
 use Rattle.swc_ecma_parser_grammar.specs.Looks.{sees, span_at, spanned}
 use Rattle.swc_ecma_parser_grammar.specs.Names.{Code}
-use Rattle.swc_ecma_parser_grammar.specs.Reads.{StmtRule}
-use Rattle.swc_ecma_parser_grammar.specs.ReadsSupported.{ReadsClass, ReadsPat, ReadsTarget, ReadsStmt, ReadsParams, ReadsNamedClass, ReadsDecorated, ReadsDeclared}
+use Rattle.swc_ecma_parser_grammar.specs.scaffold.Reads.{SmallStmtRule}
+use Rattle.swc_ecma_parser_grammar.specs.scaffold.ReadsSupported.{ReadsClass, ReadsPat, ReadsTarget, ReadsStmt, ReadsParams, ReadsNamedClass, ReadsDecorated, ReadsDeclared}
 use Rattle.swc_ecma_parser_grammar.specs.Walk.{env_of}
 use Rattle.swc_ecma_parser_grammar.specs.language.Classes.{no_decorators, some_decorators}
 use Rattle.swc_ecma_parser_grammar.proofs.Tests.{and_yes}
@@ -46,7 +46,7 @@ module _ (n : ℕ) (k : Code) (c d : Place) (stands : sees kind.At c && k.settin
   })
 
 module _ (n : ℕ) (plain : Position → Reader Tree) (at : Position)
-    (sound : (s : State) → Meets (λ x t. SoundTree (λ k. StmtRule (ReadsStmt n) (ReadsClass n) (ReadsPat n) (ReadsTarget n) (ReadsParams n) (ReadsNamedClass n) k at) s x t) (plain at s))
+    (sound : (s : State) → Meets (λ x t. SoundTree (λ k. SmallStmtRule (ReadsStmt n) (ReadsClass n) (ReadsPat n) (ReadsTarget n) (ReadsParams n) (ReadsNamedClass n) k at) s x t) (plain at s))
     (declares : (s : State) → begins_declared s.at ≡ true → Meets (λ x t. SoundTree (λ k. ReadsDeclared n k at) s x t × IsBare x) (plain at s))
     (exports : (s : State) → sees kind.Export s.at ≡ true → Meets (λ x t. ⊥) (plain at s)) where
   abbrev Sounds : State → Tree → State → Type 0

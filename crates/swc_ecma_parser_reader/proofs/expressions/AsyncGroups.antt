@@ -9,7 +9,7 @@ use Rattle.swc_ecma_parser_model.specs.Tree.{Tree, listed}
 use Rattle.swc_ecma_parser_model.specs.Forms.{is_ident_named}
 use Rattle.swc_ecma_parser_grammar.specs.Looks.{kind_at, breaks_at, sees, same_kind, span_at}
 use Rattle.swc_ecma_parser_grammar.specs.Follows.{continues_left_side}
-use Rattle.swc_ecma_parser_grammar.specs.Reads.{with_in}
+use Rattle.swc_ecma_parser_grammar.specs.language.Contexts.{with_in}
 use Rattle.swc_ecma_parser_grammar.specs.language.Goals.{Class, assignment}
 use Rattle.swc_ecma_parser_grammar.proofs.Tests.{and_no}
 use Rattle.swc_ecma_parser_reader.specs.State.{State, Outcome, Reader, and_then, ◌>>=◌, moved, coded, flagged, expect, loop}

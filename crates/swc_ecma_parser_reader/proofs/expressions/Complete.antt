@@ -1,8 +1,9 @@
 -- What the language allows of the forms that are read is read, with the faults of the walk and the notes held back, and no others:
 -- expressions from operators on, what may still become a pattern, and an expression of any class.
 use Rattle.swc_ecma_parser_reader.proofs.expressions.Yields.{never_yields, begun_no_star}
+use Rattle.swc_ecma_parser_grammar.specs.language.Lists.{ReadsSeparated}
 use Rattle.swc_ecma_parser_grammar.specs.language.Begins.{begins_expression, awaits}
-use Rattle.swc_ecma_parser_grammar.specs.language.Contexts.{may_await}
+use Rattle.swc_ecma_parser_grammar.specs.language.Contexts.{may_await, with_in}
 use Rattle.swc_ecma_parser_grammar.proofs.ExpressionBegins.{await_stands}
 use Rattle.swc_ecma_parser_grammar.proofs.Binding.{parameter_down, item_down}
 use Rattle.swc_ecma_parser_grammar.proofs.Marks.{awaits_apart}
@@ -27,19 +28,18 @@ use Rattle.swc_ecma_parser_model.specs.Targets.{leaf, as_target, as_element}
 use Rattle.swc_ecma_parser_grammar.specs.Looks.{kind_at, breaks_at, sees, same_kind, span_at, spanned}
 use Rattle.swc_ecma_parser_grammar.specs.Names.{Code}
 use Rattle.swc_ecma_parser_grammar.specs.Follows.{continues_left_side}
-use Rattle.swc_ecma_parser_grammar.specs.Reads.{with_in, ReadsSeparated}
 use Rattle.swc_ecma_parser_grammar.specs.Notes.{notes}
 use Rattle.swc_ecma_parser_grammar.specs.language.Noted.{has_meta}
 use Rattle.swc_ecma_parser_grammar.specs.Walk.{env_of, walk, walks}
-use Rattle.swc_ecma_parser_grammar.specs.Supported.{supported_in, all_supported_in}
-use Rattle.swc_ecma_parser_grammar.specs.ReadsSupported.{ReadsClass}
+use Rattle.swc_ecma_parser_grammar.specs.scaffold.Supported.{supported_in, all_supported_in}
+use Rattle.swc_ecma_parser_grammar.specs.scaffold.ReadsSupported.{ReadsClass}
 use Rattle.swc_ecma_parser_grammar.specs.language.Goals.{Goal, Class, expression, assignment, operator, unary, left_side, callee, assigning, expr_goal, callee_goal}
 use Rattle.swc_ecma_parser_grammar.specs.language.Operators.{unary_operator, update_operator, binary_operator, assign_operator, precedence, groups_left, is_operator, mixes, is_unary}
 use Rattle.swc_ecma_parser_grammar.specs.language.Continues.{is_operation, is_arrow_head, binds, continues_callee, continues_unary, continues_operand, continues_head, continues_conditional, continues_assignment, continues_yield}
 use Rattle.swc_ecma_parser_grammar.specs.language.LeftSides as sides
-use Rattle.swc_ecma_parser_grammar.specs.language.LeftSides.{PrimaryRule, LeftSideRule}
+use Rattle.swc_ecma_parser_grammar.specs.language.LeftSides.{PrimaryRule, LeftSideRule, OperandRule}
 use Rattle.swc_ecma_parser_grammar.specs.language.Patterns as patterns
-use Rattle.swc_ecma_parser_grammar.specs.language.Patterns.{OperandRule, PatternRule, PatternElementRule}
+use Rattle.swc_ecma_parser_grammar.specs.language.Patterns.{PatternRule, PatternElementRule}
 use Rattle.swc_ecma_parser_grammar.specs.language.Expressions as rules
 use Rattle.swc_ecma_parser_grammar.specs.language.Expressions.{UnaryRule, BinaryRule, AssignmentRule, ExpressionRule}
 use Rattle.swc_ecma_parser_grammar.specs.language.Reads as language

@@ -12,12 +12,12 @@ use Rattle.swc_ecma_parser_grammar.specs.Looks.{kind_at, breaks_at, sees, same_k
 use Rattle.swc_ecma_parser_grammar.specs.Names.{Code, name_at}
 use Rattle.swc_ecma_parser_grammar.specs.Notes.{notes}
 use Rattle.swc_ecma_parser_grammar.specs.Own.{misplaced_directive}
-use Rattle.swc_ecma_parser_grammar.specs.Reads.{with_in}
-use Rattle.swc_ecma_parser_grammar.specs.Supported.{supported_in, all_supported_in}
-use Rattle.swc_ecma_parser_grammar.specs.Walk.{env_of, in_body, walk, walks}
-use Rattle.swc_ecma_parser_grammar.specs.language.Contexts.{in_arrow}
+use Rattle.swc_ecma_parser_grammar.specs.scaffold.Supported.{supported_in, all_supported_in}
+use Rattle.swc_ecma_parser_grammar.specs.Walk.{env_of, env_in_body, walk, walks}
+use Rattle.swc_ecma_parser_grammar.specs.language.PatternItems.{PatternItemRule}
+use Rattle.swc_ecma_parser_grammar.specs.language.Contexts.{in_arrow, with_in}
 use Rattle.swc_ecma_parser_grammar.specs.language.Expressions.{ArrowHeadRule, name_head, parameters_head, ArrowBodyRule, block_body, expression_body}
-use Rattle.swc_ecma_parser_grammar.specs.language.Functions.{PatternItemRule, ParametersRule}
+use Rattle.swc_ecma_parser_grammar.specs.language.Functions.{ParametersRule}
 use Rattle.swc_ecma_parser_grammar.specs.language.Goals.{Goal, Class, assignment, assigning, binding, pattern_goal, element_goal}
 use Rattle.swc_ecma_parser_grammar.specs.language.Lists.{ReadsListed, LastComma}
 use Rattle.swc_ecma_parser_grammar.specs.language.Noted.{has_meta}
@@ -48,7 +48,7 @@ use Rattle.swc_ecma_parser_grammar.proofs.Ended.{ends_name}
 
 -- with that of its directive behind them, if it comes too late
 abbrev pub body_faults : Code → Scope → List Tree → Tree → List Fault
-body_faults k w ps y = body_walk (in_body (env_of k w.labels)) y ++ misplaced_directive (has_plain_params (listed ps)) y
+body_faults k w ps y = body_walk (env_in_body (env_of k w.labels)) y ++ misplaced_directive (has_plain_params (listed ps)) y
 
 -- they are the last of the arrow function's
 pub arrow_ends : (k : Code) (w : Scope) (ps : List Tree) (y x : Tree) (s : Span) (a : Bool) (d : Place) → x ≡ tree.arrow s (listed ps) y a → Calm k w.labels x d
@@ -56,7 +56,7 @@ pub arrow_ends : (k : Code) (w : Scope) (ps : List Tree) (y x : Tree) (s : Span)
 arrow_ends k w ps y x s a d e q =
     let env = env_of k w.labels in
     calm_last d (walk env (listed ps)) (body_faults k w ps y) (walk env x)
-    (ap (walk env) e ∙ append_assoc (walk env (listed ps)) (body_walk (in_body env) y) (misplaced_directive (has_plain_params (listed ps)) y)) q
+    (ap (walk env) e ∙ append_assoc (walk env (listed ps)) (body_walk (env_in_body env) y) (misplaced_directive (has_plain_params (listed ps)) y)) q
 
 -- ---- as parameters
 
@@ -79,12 +79,12 @@ module _ (In : Goal → Type 0) (inner : Class → Reader Tree) (cover : Reader 
   -- ---- from `=>` on
 
   body_reads : (a : Bool) (k : Code) (x : Tree) (c d : Place) (w : Scope) (f : List Fault) (h : Notes) → ArrowBodyRule In k a x c d → supported_in k.flags.module x ≡ true → (k.flags.module ≡ true → notes x ≡ [])
-      → (body_walk (in_body (env_of k w.labels)) x ≡ []) ⊎ (is_error (kind_at d) ≡ false) → arrow_body inner function a (st c k w f h)
-      ≡ Ok (x, st d k w (f ++ body_walk (in_body (env_of k w.labels)) x) (record { held_back = h.held_back ++ notes x; found_module_item = h.found_module_item }))
+      → (body_walk (env_in_body (env_of k w.labels)) x ≡ []) ⊎ (is_error (kind_at d) ≡ false) → arrow_body inner function a (st c k w f h)
+      ≡ Ok (x, st d k w (f ++ body_walk (env_in_body (env_of k w.labels)) x) (record { held_back = h.held_back ++ notes x; found_module_item = h.found_module_item }))
   unfolding arrow_body
   body_reads a k x c d w f h (block_body r) s q o = rw (seen c kind.LBrace r.opens) (functions.blocks a k x c d r s q w f h)
   body_reads a k x c d w f h (expression_body b r) s q o =
-      let e = plain_walk (in_body (env_of k w.labels)) x (given.no_blocks (in_arrow k a) x c d r) in
+      let e = plain_walk (env_in_body (env_of k w.labels)) x (given.no_blocks (in_arrow k a) x c d r) in
       rw (b, given.reads assignment (in_arrow k a) x c d r s (record w { labels = [] }) f h (subst (λ fs. (fs ≡ []) ⊎ (is_error (kind_at d) ≡ false)) e o), e) refl
 
   pub from_reads : (a : Bool) (start : Span) (ps : List Tree) (y : Tree) (k : Code) (j d : Place) (w : Scope) (f : List Fault) (h : Notes) → breaks_at j ≡ false → ArrowBodyRule In k a y (after j) d
@@ -92,7 +92,7 @@ module _ (In : Goal → Type 0) (inner : Class → Reader Tree) (cover : Reader 
       ≡ Ok (tree.arrow (record { lo = start.lo; hi = d.last.hi }) (listed ps) y a, st d k w (f ++ body_faults k w ps y) (record { held_back = h.held_back ++ notes y; found_module_item = h.found_module_item }))
   unfolding arrow_from
   from_reads a start ps y k j d w f h b r s q =
-      let body = body_walk (in_body (env_of k w.labels)) y in
+      let body = body_walk (env_in_body (env_of k w.labels)) y in
       let l = misplaced_directive (has_plain_params (listed ps)) y in
       rw (
         b,

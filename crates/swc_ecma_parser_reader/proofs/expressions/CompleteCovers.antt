@@ -16,11 +16,12 @@ use Rattle.swc_ecma_parser_grammar.specs.Looks.{kind_at, sees, same_kind, span_a
 use Rattle.swc_ecma_parser_grammar.specs.Names.{Code, is_name, is_reserved, is_clean_name, is_identifier}
 use Rattle.swc_ecma_parser_grammar.specs.Follows.{word_at, AsyncWord, Star}
 use Rattle.swc_ecma_parser_grammar.specs.Parameters.{parameters}
-use Rattle.swc_ecma_parser_grammar.specs.Reads.{with_in}
 use Rattle.swc_ecma_parser_grammar.specs.Notes.{notes}
+use Rattle.swc_ecma_parser_grammar.specs.language.PatternItems.{PatternItemRule}
+use Rattle.swc_ecma_parser_grammar.specs.language.Contexts.{with_in}
 use Rattle.swc_ecma_parser_grammar.specs.language.Noted.{has_meta}
 use Rattle.swc_ecma_parser_grammar.specs.Walk.{env_of, walk, walks}
-use Rattle.swc_ecma_parser_grammar.specs.Supported.{supported_in, is_supported_key_in, all_supported_in}
+use Rattle.swc_ecma_parser_grammar.specs.scaffold.Supported.{supported_in, is_supported_key_in, all_supported_in}
 use Rattle.swc_ecma_parser_grammar.specs.language.Goals.{Goal, Class, assignment, Purpose, assigning, expr_goal, element_goal, pattern_goal}
 use Rattle.swc_ecma_parser_grammar.specs.language.Lists.{ReadsListed, LastComma, no_comma, last_comma, Elements, no_elements, hole, last_element, more_elements}
 use Rattle.swc_ecma_parser_grammar.specs.language.Parts as parts
@@ -28,7 +29,8 @@ use Rattle.swc_ecma_parser_grammar.specs.language.Parts.{ReadsName, ReadsWord, E
 use Rattle.swc_ecma_parser_grammar.specs.language.Objects as objects
 use Rattle.swc_ecma_parser_grammar.specs.language.Objects.{PropertyRule}
 use Rattle.swc_ecma_parser_grammar.specs.language.Functions as functions
-use Rattle.swc_ecma_parser_grammar.specs.language.Functions.{PatternItemRule, MethodHead, MethodRule}
+use Rattle.swc_ecma_parser_grammar.specs.language.PatternItems as pattern_items
+use Rattle.swc_ecma_parser_grammar.specs.language.Functions.{MethodHead, MethodRule}
 use Rattle.swc_ecma_parser_grammar.specs.language.Patterns as patterns
 use Rattle.swc_ecma_parser_grammar.specs.language.Patterns.{PatternPropertyRule}
 use Rattle.swc_ecma_parser_grammar.proofs.Tests.{or_none, and_yes, and_no}
@@ -318,8 +320,8 @@ module _ (In : Goal → Type 0) (inner : Class → Reader Tree) (cover : Reader 
     is : p ≡ tree.rest_pat (spanned c d) y
 
   rest_or : (k : Code) (p : Tree) (c d : Place) → PatternItemRule In assigning k p c d → In (element_goal assigning k p c d) ⊎ RestItem k p c d
-  rest_or k p c d (functions.element_rule r) = inl r
-  rest_or k p c d (functions.rest_rule y o r e) = inr (record { y = y; dots = o; reads_rest = r; is = e })
+  rest_or k p c d (pattern_items.element_rule r) = inl r
+  rest_or k p c d (pattern_items.rest_rule y o r e) = inr (record { y = y; dots = o; reads_rest = r; is = e })
 
   one_part : (k : Code) (p : Tree) (found : Covers) (c m d : Place) (w : Scope) (f : List Fault) (h : Notes) → In (element_goal assigning (with_in k) p c m) → Behind kind.RBracket m d → supported_in k.flags.module p ≡ true
       → kind_at d ≡ kind.RBracket → found.comma ≡ false

@@ -11,9 +11,9 @@ use Rattle.swc_ecma_parser_model.specs.Targets.{leaf, as_target}
 use Rattle.swc_ecma_parser_grammar.specs.Looks.{kind_at, breaks_at, sees, span_at, spanned}
 use Rattle.swc_ecma_parser_grammar.specs.Names.{Code, identifier_at}
 use Rattle.swc_ecma_parser_grammar.specs.Follows.{word_at, is_bare_async, is_async_of}
-use Rattle.swc_ecma_parser_grammar.specs.Reads.{ReadsSeparated}
-use Rattle.swc_ecma_parser_grammar.specs.Supported.{supported_in, all_supported_in}
+use Rattle.swc_ecma_parser_grammar.specs.scaffold.Supported.{supported_in, all_supported_in}
 use Rattle.swc_ecma_parser_grammar.specs.Walk.{env_of, walk, walks}
+use Rattle.swc_ecma_parser_grammar.specs.language.Lists.{ReadsSeparated}
 use Rattle.swc_ecma_parser_grammar.specs.language.Goals.{Class, assigning}
 use Rattle.swc_ecma_parser_grammar.specs.language.Patterns.{PatternRule}
 use Rattle.swc_ecma_parser_grammar.specs.language.Expressions.{AssignmentRule, ExpressionRule, assignment_rule, sequence_rule}

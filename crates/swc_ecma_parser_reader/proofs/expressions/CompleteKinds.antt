@@ -29,16 +29,15 @@ use Rattle.swc_ecma_parser_grammar.specs.Looks.{kind_at, first_kind, breaks_at, 
 use Rattle.swc_ecma_parser_grammar.specs.Names.{Code, is_reserved, is_name, token_is_identifier, first_is_identifier, name_at, identifier_at, is_identifier}
 use Rattle.swc_ecma_parser_grammar.specs.Follows as follows
 use Rattle.swc_ecma_parser_grammar.specs.Follows.{continues_left_side, word_at, is_async_function}
-use Rattle.swc_ecma_parser_grammar.specs.Reads.{ReadsToken}
-use Rattle.swc_ecma_parser_grammar.specs.Supported.{supported_in}
-use Rattle.swc_ecma_parser_grammar.specs.ReadsSupported.{ReadsClass}
+use Rattle.swc_ecma_parser_grammar.specs.scaffold.Supported.{supported_in}
+use Rattle.swc_ecma_parser_grammar.specs.scaffold.ReadsSupported.{ReadsClass}
 use Rattle.swc_ecma_parser_grammar.specs.language.Goals.{Goal, Purpose, binding, expr_goal, pattern_goal, element_goal, expression, assignment}
 use Rattle.swc_ecma_parser_grammar.proofs.StatementBegins.{word_place}
 use Rattle.swc_ecma_parser_grammar.proofs.ExpressionBegins.{await_stands}
 use Rattle.swc_ecma_parser_grammar.specs.language.Operators.{unary_operator, update_operator, binary_operator, assign_operator}
 use Rattle.swc_ecma_parser_grammar.specs.language.Continues.{continues_unary, is_operation, continues_operand, continues_head, continues_conditional, continues_assignment}
 use Rattle.swc_ecma_parser_grammar.specs.language.Parts as parts
-use Rattle.swc_ecma_parser_grammar.specs.language.Parts.{ReadsName, ReadsWord, KeyRule}
+use Rattle.swc_ecma_parser_grammar.specs.language.Parts.{ReadsName, ReadsWord, KeyRule, ReadsToken}
 use Rattle.swc_ecma_parser_grammar.specs.language.Functions as functions
 use Rattle.swc_ecma_parser_grammar.specs.language.LeftSides as sides
 use Rattle.swc_ecma_parser_grammar.proofs.SupportedBegins.{function_begins}

@@ -21,10 +21,9 @@ use Rattle.swc_ecma_parser_model.specs.Tree.{Tree, Text}
 use Rattle.swc_ecma_parser_grammar.specs.Looks.{kind_at, breaks_at, sees, same_kind}
 use Rattle.swc_ecma_parser_grammar.specs.Names.{Code}
 use Rattle.swc_ecma_parser_grammar.specs.Follows.{token_is, first_is, word_at, AsyncWord, not_async, async_word, Star, no_star as unstarred, star as stands}
-use Rattle.swc_ecma_parser_grammar.specs.Reads.{ReadsToken}
 use Rattle.swc_ecma_parser_grammar.specs.language.Goals.{Goal}
 use Rattle.swc_ecma_parser_grammar.specs.language.Parts as parts
-use Rattle.swc_ecma_parser_grammar.specs.language.Parts.{KeyRule}
+use Rattle.swc_ecma_parser_grammar.specs.language.Parts.{KeyRule, ReadsToken}
 use Rattle.swc_ecma_parser_grammar.specs.language.Functions as functions
 use Rattle.swc_ecma_parser_grammar.specs.language.Functions.{MethodHead}
 use Rattle.swc_ecma_parser_grammar.proofs.Tests.{and_no}

@@ -19,20 +19,20 @@ use Rattle.swc_ecma_parser_model.specs.Kinds.{is_block}
 use Rattle.swc_ecma_parser_model.specs.Targets.{as_target, as_element, binds}
 use Rattle.swc_ecma_parser_grammar.specs.Looks.{kind_at, sees, same_kind, span_at, spanned}
 use Rattle.swc_ecma_parser_grammar.specs.Names.{Code, is_name, is_clean_name, is_identifier, may_refer_to_await}
-use Rattle.swc_ecma_parser_grammar.specs.Reads.{with_in, ReadsToken}
 use Rattle.swc_ecma_parser_grammar.specs.Notes.{notes}
+use Rattle.swc_ecma_parser_grammar.specs.language.PatternItems.{PatternItemRule}
 use Rattle.swc_ecma_parser_grammar.specs.language.Noted.{has_meta}
-use Rattle.swc_ecma_parser_grammar.specs.Walk.{Env, env_of, in_body, walk, walks}
-use Rattle.swc_ecma_parser_grammar.specs.Supported.{supported_in, is_supported_property_in, is_supported_key_in, all_supported_in}
+use Rattle.swc_ecma_parser_grammar.specs.Walk.{Env, env_of, env_in_body, walk, walks}
+use Rattle.swc_ecma_parser_grammar.specs.scaffold.Supported.{supported_in, is_supported_property_in, is_supported_key_in, all_supported_in}
 use Rattle.swc_ecma_parser_grammar.specs.Parameters.{parameters}
-use Rattle.swc_ecma_parser_grammar.specs.language.Contexts.{in_arrow}
-use Rattle.swc_ecma_parser_grammar.specs.language.Functions.{PatternItemRule, FunctionRule, FunctionParts}
+use Rattle.swc_ecma_parser_grammar.specs.language.Contexts.{in_arrow, with_in}
+use Rattle.swc_ecma_parser_grammar.specs.language.Functions.{FunctionRule, FunctionParts}
 use Rattle.swc_ecma_parser_grammar.specs.language.Classes.{ClassRule}
 use Rattle.swc_ecma_parser_grammar.specs.language.Goals.{Goal, Class, expression, assignment, callee, assigning, binding, expr_goal, callee_goal, element_goal, pattern_goal}
 use Rattle.swc_ecma_parser_grammar.specs.language.Items.{BlockRule}
 use Rattle.swc_ecma_parser_grammar.specs.language.Lists.{ReadsListed, LastComma, no_comma, last_comma}
 use Rattle.swc_ecma_parser_grammar.specs.language.Parts as parts
-use Rattle.swc_ecma_parser_grammar.specs.language.Parts.{ReadsWord, PrivateRule, AccessRule, is_private, ElementRule, ArgumentsRule, ComputedRule, KeyRule}
+use Rattle.swc_ecma_parser_grammar.specs.language.Parts.{ReadsWord, PrivateRule, AccessRule, is_private, ElementRule, ArgumentsRule, ComputedRule, KeyRule, ReadsToken}
 use Rattle.swc_ecma_parser_grammar.proofs.Binding.{ArrowPartRule}
 use Rattle.swc_ecma_parser_grammar.proofs.Arrows.{body_walk}
 use Rattle.swc_ecma_parser_grammar.proofs.Tests.{and_yes, and_no}
@@ -179,7 +179,7 @@ pub record IsRead (In : Goal → Type 0) (inner : Class → Reader Tree) (cover 
 -- what the body of an arrow function is read as: no label stands around it, and nothing in it makes a program a module
 abbrev pub ReadsEnclosed : Reader Tree → Code → Tree → Place → Place → Type 0
 ReadsEnclosed reader k x c d = (w : Scope) (f : List Fault) (h : Notes) → reader (st c k w f h)
-    ≡ Ok (x, st d k w (f ++ body_walk (in_body (env_of k w.labels)) x) (record { held_back = h.held_back ++ notes x; found_module_item = h.found_module_item }))
+    ≡ Ok (x, st d k w (f ++ body_walk (env_in_body (env_of k w.labels)) x) (record { held_back = h.held_back ++ notes x; found_module_item = h.found_module_item }))
 
 -- a method is read from behind its key, whose walk and notes are before its own
 abbrev pub MethodIsRead : (FunctionForm → Reader Tree) → MethodForm → Code → (key x : Tree) (c m d : Place) → Type 0

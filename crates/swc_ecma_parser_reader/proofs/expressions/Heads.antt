@@ -12,7 +12,7 @@ use Rattle.swc_ecma_parser_model.specs.Targets.{as_target}
 use Rattle.swc_ecma_parser_grammar.specs.Looks.{kind_at, breaks_at, sees, span_at}
 use Rattle.swc_ecma_parser_grammar.specs.Names.{Code, identifier_at}
 use Rattle.swc_ecma_parser_grammar.specs.Follows.{word_at, is_async_of}
-use Rattle.swc_ecma_parser_grammar.specs.ReadsSupported.{ReadsClass, ReadsTarget}
+use Rattle.swc_ecma_parser_grammar.specs.scaffold.ReadsSupported.{ReadsClass, ReadsTarget}
 use Rattle.swc_ecma_parser_grammar.specs.Walk.{env_of, walk}
 use Rattle.swc_ecma_parser_grammar.specs.language.Goals.{Goal, Class, expression, assignment}
 use Rattle.swc_ecma_parser_grammar.specs.language.Continues.{continues_operand, continues_conditional, continues_head, continues_assignment, is_arrow_head}

@@ -1,7 +1,7 @@
 -- Whatever an expression is read as, or refused, the tokens that are left are the last of those that were, no recorded fault is lost, and
 -- no token that memory ran out for is passed.
 use Rattle.swc_ecma_parser_grammar.specs.language.Begins.{begins_expression, awaits}
-use Rattle.swc_ecma_parser_grammar.specs.language.Contexts.{in_arrow}
+use Rattle.swc_ecma_parser_grammar.specs.language.Contexts.{in_arrow, with_in}
 use Rattle.std.proofs.Common.{◌≡◌, ℕ, Bool, true, false, cond, List, [], ◌∷◌, ◌++◌, Option, Some, None, refl, ◌∙◌, ap, Ok}
 use Rattle.std.specs.Prelude.{nat_eq, not, ◌&&◌, ◌||◌, codes}
 use Rattle.std.proofs.lemmas.Bool.{and_parts}
@@ -26,7 +26,6 @@ use Rattle.swc_ecma_parser_grammar.specs.Looks.{kind_at, sees, span_at, breaks_a
 use Rattle.swc_ecma_parser_grammar.specs.Names.{name_at, may_refer_to_await}
 use Rattle.swc_ecma_parser_grammar.specs.Follows.{word_at, is_async_function, continues_left_side}
 use Rattle.swc_ecma_parser_grammar.specs.Own.{misplaced_directive}
-use Rattle.swc_ecma_parser_grammar.specs.Reads.{with_in}
 use Rattle.swc_ecma_parser_grammar.specs.language.Goals.{Class, expression, assignment, operator, unary, left_side, callee}
 use Rattle.swc_ecma_parser_grammar.specs.language.Operators.{unary_operator, update_operator, binary_operator, assign_operator, groups_left, mixes, is_unary}
 use Rattle.swc_ecma_parser_grammar.specs.language.Continues.{continues_conditional}

@@ -1,7 +1,7 @@
 -- With twice as many levels as tokens no expression is too deep, but for what an error token says: each level below needs a token.
 use Rattle.swc_ecma_parser_reader.proofs.Words.{async_begins, function_begins, begins_function}
 use Rattle.swc_ecma_parser_grammar.specs.language.Begins.{begins_expression, awaits}
-use Rattle.swc_ecma_parser_grammar.specs.language.Contexts.{in_arrow}
+use Rattle.swc_ecma_parser_grammar.specs.language.Contexts.{in_arrow, with_in}
 use Rattle.std.proofs.Common.{◌≡◌, ◌≢◌, ℕ, suc, ◌+◌, ◌*◌, ◌≤◌, Bool, true, false, cond, List, [], ◌∷◌, Option, Some, None, Ok, refl, sym, ◌∙◌, ap, arith}
 use Rattle.std.specs.Prelude.{not, ◌&&◌, ◌||◌, codes}
 use Rattle.std.proofs.lemmas.Bool.{and_parts}
@@ -21,7 +21,6 @@ use Rattle.swc_ecma_parser_grammar.specs.Looks.{kind_at, sees, span_at, breaks_a
 use Rattle.swc_ecma_parser_grammar.specs.Names.{name_at, may_refer_to_await}
 use Rattle.swc_ecma_parser_grammar.specs.Follows.{word_at, is_async_function}
 use Rattle.swc_ecma_parser_grammar.specs.Own.{misplaced_directive}
-use Rattle.swc_ecma_parser_grammar.specs.Reads.{with_in}
 use Rattle.swc_ecma_parser_grammar.specs.language.Goals.{Class, expression, assignment, operator, unary, left_side, callee}
 use Rattle.swc_ecma_parser_grammar.specs.language.Operators.{unary_operator, update_operator, binary_operator, assign_operator}
 use Rattle.swc_ecma_parser_reader.specs.State.{State, Reader, and_then, ◌>>=◌, moved, noted, module_found, coded, within, enclosed, unlabelled, fault_at, fault, expect, loop, as_name}

@@ -9,8 +9,8 @@ use Rattle.swc_ecma_parser_model.specs.Tree.{Tree, listed, trees}
 use Rattle.swc_ecma_parser_grammar.specs.Looks.{kind_at, breaks_at, sees, span_at, spanned}
 use Rattle.swc_ecma_parser_grammar.specs.Names.{Code, name_at}
 use Rattle.swc_ecma_parser_grammar.specs.Follows.{AsyncWord, not_async, async_word}
-use Rattle.swc_ecma_parser_grammar.specs.Supported.{supported_in, all_supported_in}
-use Rattle.swc_ecma_parser_grammar.specs.ReadsSupported.{ReadsClass}
+use Rattle.swc_ecma_parser_grammar.specs.scaffold.Supported.{supported_in, all_supported_in}
+use Rattle.swc_ecma_parser_grammar.specs.scaffold.ReadsSupported.{ReadsClass}
 use Rattle.swc_ecma_parser_grammar.specs.language.Contexts.{in_arrow}
 use Rattle.swc_ecma_parser_grammar.specs.language.Goals.{Class, assignment}
 use Rattle.swc_ecma_parser_grammar.specs.language.Expressions.{ArrowHeadRule, name_head, ArrowBodyRule, expression_body, AssignmentRule, arrow_rule}
@@ -64,9 +64,9 @@ module _ (n : ℕ) (inner : Class → Reader Tree) (sound : (class : Class) (s :
       meets_then {P = λ x t. Sound same (λ k l. walk (env_of k []) x) (record (notes_of x) { found_module_item = false }) (λ k. ReadsClass n assignment k x) j t × NoBlock x t} _ (enclosed (inner assignment) j) _
       (meets_then _ (inner assignment (unlabelled j)) _ (meets_both _ _ (inner assignment (unlabelled j)) (sound assignment (unlabelled j)) (functions.no_blocks (unlabelled j))) (λ x t (p, o). (sound_enclosed j t p, o)))
       (λ x t (p, o).
-      let q : Sound same (λ k l. walk (walks.in_body (env_of k l)) x) (record (notes_of x) { found_module_item = false }) (λ k. ReadsClass n assignment (in_arrow k w) x) s _ =
+      let q : Sound same (λ k l. walk (walks.env_in_body (env_of k l)) x) (record (notes_of x) { found_module_item = false }) (λ k. ReadsClass n assignment (in_arrow k w) x) s _ =
       sound_under {w = λ k l. walk (env_of k []) x} {P = λ k. ReadsClass n assignment k x} (λ k. in_arrow k w) (λ k. refl) s t p in
-      sound_as s _ refl (sym (plain_walk (walks.in_body (env_of s.code s.scope.labels)) x o)) refl (λ r. (expression_body h r.0, r.1, λ o. body_unnoted n s.code w x s.at t.at o r)) q))
+      sound_as s _ refl (sym (plain_walk (walks.env_in_body (env_of s.code s.scope.labels)) x o)) refl (λ r. (expression_body h r.0, r.1, λ o. body_unnoted n s.code w x s.at t.at o r)) q))
 
   -- ---- from `=>` on, which stands behind parameters
 

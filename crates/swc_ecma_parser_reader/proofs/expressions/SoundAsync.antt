@@ -11,10 +11,10 @@ use Rattle.swc_ecma_parser_model.specs.Targets.{rest_of, as_pattern, binds}
 use Rattle.swc_ecma_parser_grammar.specs.Looks.{kind_at, sees, span_at}
 use Rattle.swc_ecma_parser_grammar.specs.Names.{Code}
 use Rattle.swc_ecma_parser_grammar.specs.Follows.{async_word}
-use Rattle.swc_ecma_parser_grammar.specs.Reads.{with_in}
-use Rattle.swc_ecma_parser_grammar.specs.ReadsSupported.{ReadsClass}
+use Rattle.swc_ecma_parser_grammar.specs.scaffold.ReadsSupported.{ReadsClass}
+use Rattle.swc_ecma_parser_grammar.specs.language.PatternItems.{element_rule, rest_rule}
+use Rattle.swc_ecma_parser_grammar.specs.language.Contexts.{with_in}
 use Rattle.swc_ecma_parser_grammar.specs.language.Goals.{Class}
-use Rattle.swc_ecma_parser_grammar.specs.language.Functions.{element_rule, rest_rule}
 use Rattle.swc_ecma_parser_grammar.specs.language.Expressions.{parameters_head}
 use Rattle.swc_ecma_parser_grammar.specs.Walk as walks
 use Rattle.swc_ecma_parser_grammar.specs.Walk.{walk, env_of}

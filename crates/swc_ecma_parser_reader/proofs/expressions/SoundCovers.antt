@@ -18,15 +18,16 @@ use Rattle.swc_ecma_parser_model.specs.Targets.{rest_span, simple_target, as_pat
 use Rattle.swc_ecma_parser_grammar.specs.Looks.{kind_at, breaks_at, sees, span_at, spanned}
 use Rattle.swc_ecma_parser_grammar.specs.Follows.{word_at, Star, no_star, star as a_star, not_async, async_word}
 use Rattle.swc_ecma_parser_grammar.specs.Names.{Code, is_name, is_reserved, is_identifier, is_clean_name, may_refer_to_await}
-use Rattle.swc_ecma_parser_grammar.specs.Reads.{with_in}
-use Rattle.swc_ecma_parser_grammar.specs.Supported.{supported_in, is_supported_key_in, all_supported_in}
-use Rattle.swc_ecma_parser_grammar.specs.ReadsSupported.{ReadsClass}
+use Rattle.swc_ecma_parser_grammar.specs.scaffold.Supported.{supported_in, is_supported_key_in, all_supported_in}
+use Rattle.swc_ecma_parser_grammar.specs.scaffold.ReadsSupported.{ReadsClass}
+use Rattle.swc_ecma_parser_grammar.specs.language.PatternItems.{PatternItemRule, element_rule, rest_rule}
+use Rattle.swc_ecma_parser_grammar.specs.language.Contexts.{with_in}
 use Rattle.swc_ecma_parser_grammar.specs.language.Goals.{Goal, Class, assignment, assigning, pattern_goal, element_goal}
 use Rattle.swc_ecma_parser_grammar.specs.language.Lists.{ReadsListed, Elements, hole}
 use Rattle.swc_ecma_parser_grammar.specs.language.Parts as parts
 use Rattle.swc_ecma_parser_grammar.specs.language.Parts.{ElementRule, ReadsWord, ReadsName, KeyRule}
 use Rattle.swc_ecma_parser_grammar.specs.language.Objects.{PropertyRule, spread_rule, shorthand_rule, key_value_rule, getter_rule, setter_rule, method_rule}
-use Rattle.swc_ecma_parser_grammar.specs.language.Functions.{PatternItemRule, element_rule, rest_rule, MethodHead, method_head, getter_head, setter_head}
+use Rattle.swc_ecma_parser_grammar.specs.language.Functions.{MethodHead, method_head, getter_head, setter_head}
 use Rattle.swc_ecma_parser_grammar.specs.language.LeftSides.{PrimaryRule, array_rule, object_rule, is_callee}
 use Rattle.swc_ecma_parser_grammar.specs.language.Patterns as patterns
 use Rattle.swc_ecma_parser_grammar.specs.language.Patterns.{PatternRule, PatternPropertyRule}

@@ -22,15 +22,14 @@ use Rattle.swc_ecma_parser_grammar.specs.Looks.{first_kind, kind_at, sees, same_
 use Rattle.swc_ecma_parser_grammar.specs.Names.{Code, is_name, name_at}
 use Rattle.swc_ecma_parser_grammar.specs.Follows.{token_is, first_is, word_at, is_async_function, continues_left_side}
 use Rattle.swc_ecma_parser_grammar.specs.Notes.{notes}
-use Rattle.swc_ecma_parser_grammar.specs.Reads.{ReadsToken}
-use Rattle.swc_ecma_parser_grammar.specs.Supported.{supported_in, is_supported_property_in, all_supported_in}
-use Rattle.swc_ecma_parser_grammar.specs.ReadsSupported.{ReadsClass, ReadsPat}
+use Rattle.swc_ecma_parser_grammar.specs.scaffold.Supported.{supported_in, is_supported_property_in, all_supported_in}
+use Rattle.swc_ecma_parser_grammar.specs.scaffold.ReadsSupported.{ReadsClass, ReadsPat}
 use Rattle.swc_ecma_parser_grammar.specs.language.Expressions.{ArrowBodyRule}
 use Rattle.swc_ecma_parser_grammar.specs.language.Goals.{Goal, Class, expression, assignment, left_side, callee, expr_goal, callee_goal}
 use Rattle.swc_ecma_parser_grammar.specs.language.Lists.{ReadsListed, LastComma, no_comma, last_comma}
 use Rattle.swc_ecma_parser_grammar.specs.language.Continues.{continues_callee}
 use Rattle.swc_ecma_parser_grammar.specs.language.Parts as parts
-use Rattle.swc_ecma_parser_grammar.specs.language.Parts.{AccessRule, word_access, private_access, bracket_access, is_private, ElementRule, ArgumentsRule}
+use Rattle.swc_ecma_parser_grammar.specs.language.Parts.{AccessRule, word_access, private_access, bracket_access, is_private, ElementRule, ArgumentsRule, ReadsToken}
 use Rattle.swc_ecma_parser_grammar.specs.language.LeftSides.{PrimaryRule, name_rule, string_rule, true_rule, false_rule, null_rule, number_rule, big_int_rule, this_rule, paren_rule, is_callee, LeftSideRule, primary_rule, import_meta_rule, member_rule, super_property_rule, call_rule, super_call_rule, import_call_rule, new_rule, bare_new_rule}
 use Rattle.swc_ecma_parser_grammar.specs.language.Reads.{Reads}
 use Rattle.swc_ecma_parser_grammar.specs.Walk as walks
@@ -121,7 +120,7 @@ abbrev pub BodyRead : ℕ → (is_async : Bool) → Tree → Code → Place → 
 BodyRead n w x k c d = ArrowBodyRule (Reads n) k w x c d × (supported_in k.flags.module x ≡ true) × (k.flags.module ≡ true → notes x ≡ [])
 
 abbrev pub SoundBody : ℕ → (is_async : Bool) → State → Tree → State → Type 0
-SoundBody n w s x t = Sound same (λ k l. body_walk (walks.in_body (env_of k l)) x) (record (notes_of x) { found_module_item = false }) (BodyRead n w x) s t
+SoundBody n w s x t = Sound same (λ k l. body_walk (walks.env_in_body (env_of k l)) x) (record (notes_of x) { found_module_item = false }) (BodyRead n w x) s t
 
 -- the reader of functions as parts of expressions is sound: a method is read from behind its key, and where a name stands a
 -- parameter is that name

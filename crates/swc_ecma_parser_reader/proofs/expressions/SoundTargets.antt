@@ -15,16 +15,16 @@ use Rattle.swc_ecma_parser_model.specs.Targets.{leaf, left_pattern, simple_targe
 use Rattle.swc_ecma_parser_grammar.specs.Looks.{kind_at, sees, same_kind, spanned}
 use Rattle.swc_ecma_parser_grammar.specs.Names.{Code}
 use Rattle.swc_ecma_parser_grammar.specs.Follows.{continues_left_side}
-use Rattle.swc_ecma_parser_grammar.specs.Reads.{with_in}
-use Rattle.swc_ecma_parser_grammar.specs.Supported.{supported_in}
+use Rattle.swc_ecma_parser_grammar.specs.scaffold.Supported.{supported_in}
+use Rattle.swc_ecma_parser_grammar.specs.language.Contexts.{with_in}
 use Rattle.swc_ecma_parser_grammar.specs.language.Goals.{Goal, assignment, assigning, expr_goal}
 use Rattle.swc_ecma_parser_grammar.specs.language.Begins.{awaits}
 use Rattle.swc_ecma_parser_grammar.specs.language.Operators.{binary_operator, assign_operator, precedence, is_operator}
 use Rattle.swc_ecma_parser_grammar.specs.language.Continues.{is_operation, binds, continues_unary, continues_operand, continues_conditional, continues_assignment, continues_head}
 use Rattle.swc_ecma_parser_grammar.specs.language.Parts.{ReadsName}
 use Rattle.swc_ecma_parser_grammar.specs.language.LeftSides as sides
-use Rattle.swc_ecma_parser_grammar.specs.language.LeftSides.{PrimaryRule, LeftSideRule, primary_rule}
-use Rattle.swc_ecma_parser_grammar.specs.language.Patterns.{OperandRule, PatternRule, target_name_rule, target_rule, PatternElementRule, bare_rule, initialized_rule}
+use Rattle.swc_ecma_parser_grammar.specs.language.LeftSides.{PrimaryRule, LeftSideRule, primary_rule, OperandRule}
+use Rattle.swc_ecma_parser_grammar.specs.language.Patterns.{PatternRule, target_name_rule, target_rule, PatternElementRule, bare_rule, initialized_rule}
 use Rattle.swc_ecma_parser_grammar.specs.language.Expressions as expressions
 use Rattle.swc_ecma_parser_grammar.specs.language.Expressions.{UnaryRule, BinaryRule, AssignmentRule, operators_rule, single_rule, operand_rule}
 use Rattle.swc_ecma_parser_grammar.specs.language.Reads.{Reads}

@@ -8,7 +8,7 @@ use Rattle.swc_ecma_parser_model.specs.Tree.{Tree, Trees, none, also}
 use Rattle.swc_ecma_parser_model.specs.Forms.{is_simple_target, is_pattern_target, is_rest, is_ident_named}
 use Rattle.swc_ecma_parser_model.specs.Targets.{leaf, left_pattern, simple_target, rest_span, rest_of, array_of, object_of, key_value_of, before, alone, as_pattern, as_elements, as_item, as_properties, as_property}
 use Rattle.swc_ecma_parser_grammar.specs.Follows.{is_bare_async}
-use Rattle.swc_ecma_parser_grammar.specs.Supported.{supported_in}
+use Rattle.swc_ecma_parser_grammar.specs.scaffold.Supported.{supported_in}
 use Rattle.swc_ecma_parser_grammar.specs.Walk as walks
 use Rattle.swc_ecma_parser_grammar.specs.Walk.{Env, walk}
 use Rattle.swc_ecma_parser_reader.specs.Notes.{◌⊕◌, notes_of, all_notes_of}

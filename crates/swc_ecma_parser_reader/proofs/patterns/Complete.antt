@@ -11,17 +11,18 @@ use Rattle.swc_ecma_parser_model.specs.Tree.{Tree, Text, listed, trees}
 use Rattle.swc_ecma_parser_model.specs.Forms.{is_pattern_target, is_rest}
 use Rattle.swc_ecma_parser_grammar.specs.Looks.{kind_at, sees, same_kind, spanned}
 use Rattle.swc_ecma_parser_grammar.specs.Names.{Code, name_at}
-use Rattle.swc_ecma_parser_grammar.specs.Reads.{with_in}
 use Rattle.swc_ecma_parser_grammar.specs.Notes.{notes}
+use Rattle.swc_ecma_parser_grammar.specs.language.PatternItems.{PatternItemRule}
+use Rattle.swc_ecma_parser_grammar.specs.language.Contexts.{with_in}
 use Rattle.swc_ecma_parser_grammar.specs.language.Noted.{has_meta}
 use Rattle.swc_ecma_parser_grammar.specs.Walk.{env_of, walk, walks}
-use Rattle.swc_ecma_parser_grammar.specs.Supported.{supported_in, is_supported_key_in, all_supported_in}
+use Rattle.swc_ecma_parser_grammar.specs.scaffold.Supported.{supported_in, is_supported_key_in, all_supported_in}
 use Rattle.swc_ecma_parser_grammar.specs.language.Goals.{Goal, Class, assignment, binding, expr_goal, pattern_goal, element_goal}
 use Rattle.swc_ecma_parser_grammar.specs.language.Lists.{ReadsListed, LastComma, Elements, no_elements, hole, last_element, more_elements}
 use Rattle.swc_ecma_parser_grammar.specs.language.Parts as parts
 use Rattle.swc_ecma_parser_grammar.specs.language.Parts.{ReadsName, KeyRule}
-use Rattle.swc_ecma_parser_grammar.specs.language.Functions as functions
-use Rattle.swc_ecma_parser_grammar.specs.language.Functions.{PatternItemRule, ParametersRule}
+use Rattle.swc_ecma_parser_grammar.specs.language.PatternItems as pattern_items
+use Rattle.swc_ecma_parser_grammar.specs.language.Functions.{ParametersRule}
 use Rattle.swc_ecma_parser_grammar.specs.language.Patterns as patterns
 use Rattle.swc_ecma_parser_grammar.specs.language.Patterns.{PatternRule, PatternPropertyRule, PatternElementRule}
 use Rattle.swc_ecma_parser_grammar.specs.language.Reads as language
@@ -147,17 +148,17 @@ module _ (In : Goal → Type 0) (inner : Class → Reader Tree) (cover : Reader 
   last_item : (found : List Tree) (k : Code) (x : Tree) (c m d : Place) (w : Scope) (f : List Fault) (h : Notes) → PatternItemRule In binding (with_in k) x c m → LastComma true x m d
       → supported_in k.flags.module x ≡ true → kind_at d ≡ kind.RBracket
       → loop (array_turn inner cover pattern element) found (st c k w f h) ≡ Ok (found ++ x ∷ [], st (after d) k w (f ++ walk (env_of k w.labels) x) (h ⊕ notes_of x))
-  last_item found k x c m d w f h (functions.element_rule r) l s e =
+  last_item found k x c m d w f h (pattern_items.element_rule r) l s e =
       element_more found k x c m d w f h r s (behind_last kind.RBracket x m d l e)
       ∙ elements_end (found ++ x ∷ []) k d w (f ++ walk (env_of k w.labels) x) (h ⊕ notes_of x) e
-  last_item found k x c m d w f h (functions.rest_rule y o r i) l s e =
+  last_item found k x c m d w f h (pattern_items.rest_rule y o r i) l s e =
       let g = rest_ends x m d (ap is_rest i) l in
       rw g (rest_last found y k x c m w f h o r (supported_as _ x (tree.rest_pat (spanned c m) y) i s) i (ap kind_at (sym g) ∙ e))
 
   -- the rest is the last
   no_rest : (k : Code) (x : Tree) (c d : Place) → PatternItemRule In binding k x c d → is_rest x ≡ false → In (element_goal binding k x c d)
-  no_rest k x c d (functions.element_rule r) n = r
-  no_rest k x c d (functions.rest_rule y o r i) n = absurd (let h : is_rest x ≡ true = ap is_rest i in cc)
+  no_rest k x c d (pattern_items.element_rule r) n = r
+  no_rest k x c d (pattern_items.rest_rule y o r i) n = absurd (let h : is_rest x ≡ true = ap is_rest i in cc)
 
   many_elements : (k : Code) (xs found : List Tree) (c d : Place) (w : Scope) (f : List Fault) (h : Notes) → Elements (PatternItemRule In binding (with_in k)) xs c d
       → all_supported_in k.flags.module (trees xs) ≡ true → kind_at d ≡ kind.RBracket
@@ -225,10 +226,10 @@ module _ (In : Goal → Type 0) (inner : Class → Reader Tree) (cover : Reader 
   last_parameter : (found : List Tree) (k : Code) (x : Tree) (c m d : Place) (w : Scope) (f : List Fault) (h : Notes) → PatternItemRule In binding (with_in k) x c m → LastComma true x m d
       → supported_in k.flags.module x ≡ true → kind_at d ≡ kind.RParen
       → loop (parameters_turn inner cover pattern element) found (st c k w f h) ≡ Ok (found ++ x ∷ [], st (after d) k w (f ++ walk (env_of k w.labels) x) (h ⊕ notes_of x))
-  last_parameter found k x c m d w f h (functions.element_rule r) l s e =
+  last_parameter found k x c m d w f h (pattern_items.element_rule r) l s e =
       parameter_more found k x c m d w f h r s (behind_last kind.RParen x m d l e)
       ∙ parameters_end (found ++ x ∷ []) k d w (f ++ walk (env_of k w.labels) x) (h ⊕ notes_of x) e
-  last_parameter found k x c m d w f h (functions.rest_rule y o r i) l s e =
+  last_parameter found k x c m d w f h (pattern_items.rest_rule y o r i) l s e =
       let g = rest_ends x m d (ap is_rest i) l in
       rw g (rest_parameter_last found y k x c m w f h o r (supported_as _ x (tree.rest_pat (spanned c m) y) i s) i (ap kind_at (sym g) ∙ e))
 

@@ -17,12 +17,12 @@ use Rattle.swc_ecma_parser_model.specs.Tree.{Tree, Text, listed, trees}
 use Rattle.swc_ecma_parser_model.specs.Forms.{is_rest, is_pattern_target, is_plain_param, is_binding_name}
 use Rattle.swc_ecma_parser_grammar.specs.Looks.{kind_at, sees, same_kind, span_at, spanned}
 use Rattle.swc_ecma_parser_grammar.specs.Names.{Code, is_name, name_at, is_identifier, may_bind_await}
-use Rattle.swc_ecma_parser_grammar.specs.Reads.{with_in}
-use Rattle.swc_ecma_parser_grammar.specs.ReadsSupported.{ReadsClass, ReadsPat, ReadsElement, ReadsParams}
+use Rattle.swc_ecma_parser_grammar.specs.scaffold.ReadsSupported.{ReadsClass, ReadsPat, ReadsElement, ReadsParams}
+use Rattle.swc_ecma_parser_grammar.specs.language.PatternItems.{PatternItemRule, element_rule, rest_rule}
+use Rattle.swc_ecma_parser_grammar.specs.language.Contexts.{with_in}
 use Rattle.swc_ecma_parser_grammar.specs.language.Goals.{Goal, Class, Purpose, assignment, binding}
 use Rattle.swc_ecma_parser_grammar.specs.language.Lists.{ReadsListed, Elements, hole}
 use Rattle.swc_ecma_parser_grammar.specs.language.Parts.{ReadsName, ReadsWord}
-use Rattle.swc_ecma_parser_grammar.specs.language.Functions.{PatternItemRule, element_rule, rest_rule}
 use Rattle.swc_ecma_parser_grammar.specs.language.Patterns as patterns
 use Rattle.swc_ecma_parser_grammar.specs.language.Patterns.{PatternRule, PatternPropertyRule, PatternElementRule}
 use Rattle.swc_ecma_parser_grammar.specs.language.Reads.{Reads}

@@ -1,7 +1,7 @@
 use Rattle.std.proofs.Common.{map, sym, ◌∙◌}
 use Rattle.std.proofs.lemmas.List.{map_push}
 use Rattle.std.proofs.lemmas.Result.{err_from_is_err_and}
-use Rattle.swc_ecma_parser_grammar.specs.Reads.{nested_item}
+use Rattle.swc_ecma_parser_grammar.specs.language.Items.{nested_item}
 use Rattle.swc_ecma_parser_reader.specs.Reader.{stmt}
 use Rattle.swc_ecma_parser_reader.proofs.Loops.{items_err, stmt_shorter}
 use Rattle.swc_ecma_parser_bodies.specs.Bodies.{ends_of, directs_of}

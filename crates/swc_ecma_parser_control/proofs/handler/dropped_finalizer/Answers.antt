@@ -1,5 +1,5 @@
 use Rattle.swc_ecma_parser_trees.specs.Parts.{part_of}
-use Rattle.swc_ecma_parser_grammar.specs.Reads.{nested_item}
+use Rattle.swc_ecma_parser_grammar.specs.language.Items.{nested_item}
 use Rattle.swc_ecma_parser_reader.specs.Reader.{stmt, finalizer}
 use Rattle.swc_ecma_parser_recovery.proofs.Dropped.{module_behind_answer, module_behind_refusal, dropped_gives}
 use Rattle.swc_ecma_parser_control.proofs.Strays.{finalizer_passes}

@@ -1,6 +1,6 @@
 use Rattle.std.proofs.Common.{◌≡◌, length, map}
 use Rattle.std.specs.Prelude.{is_some}
-use Rattle.swc_ecma_parser_grammar.specs.Reads.{nested_item}
+use Rattle.swc_ecma_parser_grammar.specs.language.Items.{nested_item}
 use Rattle.swc_ecma_parser_grammar.specs.language.Goals.{expression}
 use Rattle.swc_ecma_parser_reader.specs.State.{loop}
 use Rattle.swc_ecma_parser_reader.specs.Reader as rules

@@ -1,7 +1,7 @@
 use Rattle.std.proofs.Common.{map, true, sym, ◌∙◌}
 use Rattle.std.proofs.lemmas.List.{map_push}
 use Rattle.std.proofs.lemmas.Result.{err_from_is_err_and}
-use Rattle.swc_ecma_parser_grammar.specs.Reads.{top_item}
+use Rattle.swc_ecma_parser_grammar.specs.language.Items.{top_item}
 use Rattle.swc_ecma_parser_reader.specs.Reader.{whole_stmt, at_end}
 use Rattle.swc_ecma_parser_reader.proofs.Loops.{items_err, whole_shorter}
 use Rattle.swc_ecma_parser_reader.proofs.Empty.{never_more}

@@ -1,6 +1,6 @@
 use Rattle.std.proofs.Common.{Ok, sym, ap, ◌∙◌}
 use Rattle.std.proofs.lemmas.Result.{err_from_is_err_and}
-use Rattle.swc_ecma_parser_grammar.specs.Entries.{script_code}
+use Rattle.swc_ecma_parser_grammar.specs.language.Contexts.{script_code}
 use Rattle.swc_ecma_parser_reader.specs.Entry.{unmarked}
 use Rattle.swc_ecma_parser_reader.specs.Reader.{script, script_body}
 use Rattle.swc_ecma_parser_reader.specs.State.{and_then, coded, flagged}

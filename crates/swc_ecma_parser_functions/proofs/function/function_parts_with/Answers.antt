@@ -8,7 +8,7 @@ use Rattle.swc_ecma_parser_model.specs.Tree.{Tree, listed, trees}
 use Rattle.swc_ecma_parser_model.specs.Forms.{are_plain_params}
 use Rattle.swc_ecma_parser_grammar.specs.Parameters.{parameter, parameters}
 use Rattle.swc_ecma_parser_grammar.specs.Own.{misplaced_directive}
-use Rattle.swc_ecma_parser_grammar.specs.Reads.{nested_item}
+use Rattle.swc_ecma_parser_grammar.specs.language.Items.{nested_item}
 use Rattle.swc_ecma_parser_reader.specs.Reader as rules
 use Rattle.swc_ecma_parser_reader.specs.State.{State}
 use Rattle.swc_ecma_parser_reader.specs.Dressed.{function_parts_with}

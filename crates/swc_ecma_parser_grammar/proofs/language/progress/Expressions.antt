@@ -5,18 +5,19 @@ use Rattle.swc_ecma_parser_model.specs.declared.leaves.MethodKind.{MethodKind}
 use Rattle.swc_ecma_parser_model.specs.Tree.{Tree, Text}
 use Rattle.swc_ecma_parser_grammar.specs.declared.position.Position.{Position}
 use Rattle.swc_ecma_parser_grammar.specs.Names.{Code}
-use Rattle.swc_ecma_parser_grammar.specs.Reads.{ReadsSeparated, with_in}
+use Rattle.swc_ecma_parser_grammar.specs.language.PatternItems.{PatternItemRule}
 use Rattle.swc_ecma_parser_grammar.specs.language.Goals.{Goal, member_goal, binding, Class, expression, assignment, operator, unary, left_side, callee, Purpose}
-use Rattle.swc_ecma_parser_grammar.specs.language.Contexts.{in_class}
+use Rattle.swc_ecma_parser_grammar.specs.language.Contexts.{in_class, with_in}
 use Rattle.swc_ecma_parser_grammar.specs.language.Lists as lists
-use Rattle.swc_ecma_parser_grammar.specs.language.Lists.{ReadsEach, LastComma, ReadsListed, Elements}
+use Rattle.swc_ecma_parser_grammar.specs.language.Lists.{ReadsEach, LastComma, ReadsListed, Elements, ReadsSeparated}
 use Rattle.swc_ecma_parser_grammar.specs.language.Parts as parts
 use Rattle.swc_ecma_parser_grammar.specs.language.Parts.{ReadsName, ReadsWord, OptionalName, PrivateRule, ComputedRule, KeyRule, AccessRule, ElementRule, ArgumentsRule}
 use Rattle.swc_ecma_parser_grammar.specs.language.Items.{nested_item, directed, directs_on, ItemsRule, BlockRule}
 use Rattle.swc_ecma_parser_grammar.specs.Follows as follows
 use Rattle.swc_ecma_parser_grammar.specs.Follows.{Star, AsyncWord}
 use Rattle.swc_ecma_parser_grammar.specs.language.Functions as functions
-use Rattle.swc_ecma_parser_grammar.specs.language.Functions.{PatternItemRule, ParametersRule, FunctionParts, FunctionRule, MethodHead, MethodRule}
+use Rattle.swc_ecma_parser_grammar.specs.language.PatternItems as pattern_items
+use Rattle.swc_ecma_parser_grammar.specs.language.Functions.{ParametersRule, FunctionParts, FunctionRule, MethodHead, MethodRule}
 use Rattle.swc_ecma_parser_grammar.specs.language.Classes as classes
 use Rattle.swc_ecma_parser_grammar.specs.language.Classes.{DecoratorRule, DecoratorsRule, behind_modifier, MemberKeyRule, FieldValueRule, CoreRule, has_accessor, is_static_word, MemberRule, HeritageRule, ClassRule}
 use Rattle.swc_ecma_parser_grammar.specs.language.Objects as objects
@@ -131,8 +132,8 @@ module _ (In : Goal → Type 0) (go : (g : Goal) → In g → Advances (begin g)
   -- ---- functions and methods
 
   pub pattern_item : {p : Purpose} {k : Code} {x : Tree} {c d : Place} → PatternItemRule In p k x c d → Advances c d
-  pattern_item (functions.element_rule r) = inner r
-  pattern_item (functions.rest_rule y h r a) = any_token ▹▸ inner r
+  pattern_item (pattern_items.element_rule r) = inner r
+  pattern_item (pattern_items.rest_rule y h r a) = any_token ▹▸ inner r
 
   pub parameters : {k : Code} {ps : List Tree} {c d : Place} → ParametersRule In k ps c d → Advances c d
   parameters {k} {ps} {c} r = token r.opens refl ▸▹ listed (PatternItemRule In binding (with_in k)) (λ x m n q. pattern_item q) true ps (after c) r.close r.reads_patterns ▹▹ any_token_to r.next

@@ -7,18 +7,16 @@ use Rattle.swc_ecma_parser_model.specs.Tree.{Tree}
 use Rattle.swc_ecma_parser_grammar.specs.declared.position.Position.{Position}
 use Rattle.swc_ecma_parser_grammar.specs.Names.{Code}
 use Rattle.swc_ecma_parser_grammar.specs.Follows.{AwaitWord}
-use Rattle.swc_ecma_parser_grammar.specs.Reads.{with_in}
 use Rattle.swc_ecma_parser_grammar.specs.Follows as follows
 use Rattle.swc_ecma_parser_grammar.specs.language.Goals.{Goal, expr_goal, callee_goal, pattern_goal, element_goal, stmt_goal, member_goal, decorator_goal, using_goal, attributes_goal, item_goal}
-use Rattle.swc_ecma_parser_grammar.specs.language.Contexts.{in_breakable}
+use Rattle.swc_ecma_parser_grammar.specs.language.Contexts.{in_breakable, with_in, head_code}
 use Rattle.swc_ecma_parser_grammar.specs.language.Items.{nested_item}
 use Rattle.swc_ecma_parser_grammar.specs.language.Declarations as declarations
 use Rattle.swc_ecma_parser_grammar.specs.language.Declarations.{DeclaratorRule, VariablesRule, UsingDeclaratorRule, UsingRule}
-use Rattle.swc_ecma_parser_grammar.specs.Reads.{head_code}
 use Rattle.swc_ecma_parser_grammar.specs.language.ForHeads as heads
 use Rattle.swc_ecma_parser_grammar.specs.language.ForHeads.{HeadVariablesRule, InitRule, PartRule, LeftRule, UsingNameRule, UsingHeadRule, OfLeftRule}
 use Rattle.swc_ecma_parser_grammar.specs.language.Statements as statements
-use Rattle.swc_ecma_parser_grammar.specs.language.Statements.{HeadRule, OperandRule, TargetRule, IfRule, ElseRule, CaseRule, CatchRule, FinallyRule, FormRule}
+use Rattle.swc_ecma_parser_grammar.specs.language.Statements.{HeadRule, ReturnedRule, TargetRule, IfRule, ElseRule, CaseRule, CatchRule, FinallyRule, FormRule}
 use Rattle.swc_ecma_parser_grammar.specs.language.ModuleParts as module_parts
 use Rattle.swc_ecma_parser_grammar.specs.language.ModuleParts.{BracedRule, StringRule, FromRule, ModuleNameRule, AttributesRule}
 use Rattle.swc_ecma_parser_grammar.specs.language.Imports as imports
@@ -158,7 +156,7 @@ module _ (In : Goal → Type 0) (go : (g : Goal) → In g → Advances (begin g)
   pub head : {k : Code} {x : Tree} {c d : Place} → HeadRule In k x c d → Advances c d
   head r = any_token ▹▸ inner r.reads ▸▹ any_token_to r.next
 
-  pub operand : {k : Code} {x : Tree} {c d : Place} → OperandRule In k x c d → Onward c d
+  pub operand : {k : Code} {x : Tree} {c d : Place} → ReturnedRule In k x c d → Onward c d
   operand (statements.no_operand_rule a e b) = stays e
   operand (statements.operand_rule a r) = goes (inner r)
 

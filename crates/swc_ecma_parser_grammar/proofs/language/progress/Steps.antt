@@ -7,8 +7,8 @@ use Rattle.swc_ecma_parser_token.specs.declared.token.Token.{Token}
 use Rattle.swc_ecma_parser_token.specs.declared.token.TokenAndSpan.{TokenAndSpan}
 use Rattle.swc_ecma_parser_input.specs.Place.{Place, past, after}
 use Rattle.swc_ecma_parser_grammar.specs.Looks.{first_kind, kind_at}
-use Rattle.swc_ecma_parser_grammar.specs.Reads.{ReadsToken}
 use Rattle.swc_ecma_parser_grammar.specs.Ends.{Ends, by_semicolon, by_insertion, OptionalEnds, by_a_semicolon, by_nothing}
+use Rattle.swc_ecma_parser_grammar.specs.language.Parts.{ReadsToken}
 use Rattle.swc_ecma_parser_grammar.specs.language.Laws.{Advances}
 
 infixr 5 ◌▸▸◌

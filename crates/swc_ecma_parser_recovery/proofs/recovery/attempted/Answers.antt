@@ -1,4 +1,4 @@
-use Rattle.swc_ecma_parser_grammar.specs.Reads.{with_in}
+use Rattle.swc_ecma_parser_grammar.specs.language.Contexts.{with_in}
 use Rattle.swc_ecma_parser_grammar.specs.language.Goals.{expression}
 use Rattle.swc_ecma_parser_reader.specs.Expressions.{inside}
 use Rattle.swc_ecma_parser_reader.specs.Reader.{expr}

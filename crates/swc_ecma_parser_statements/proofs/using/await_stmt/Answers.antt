@@ -1,6 +1,6 @@
 use Rattle.std.proofs.Common.{◌≡◌, true, sym, ap, ◌∙◌}
 use Rattle.swc_ecma_parser_input.specs.declared.context.Context.{Context}
-use Rattle.swc_ecma_parser_grammar.specs.Reads.{with_in}
+use Rattle.swc_ecma_parser_grammar.specs.language.Contexts.{with_in}
 use Rattle.swc_ecma_parser_reader.specs.State.{State, moved, coded}
 use Rattle.swc_ecma_parser_statements.proofs.AwaitStmt.{was_taken, code_stays}
 use Rattle.swc_ecma_parser_statements.proofs.using.await_stmt.Goals as goal

@@ -1,6 +1,6 @@
 use Rattle.std.proofs.Common.{◌∙◌, ap}
 use Rattle.std.proofs.lemmas.Result.{err_from_is_err_and}
-use Rattle.swc_ecma_parser_grammar.specs.Using.{misused}
+use Rattle.swc_ecma_parser_grammar.specs.scaffold.Using.{misused}
 use Rattle.swc_ecma_parser_reader.specs.Jumps.{told}
 use Rattle.swc_ecma_parser_statements.proofs.Misused.{misused_from, misused_next, told_ok, told_err}
 use Rattle.swc_ecma_parser_statements.proofs.using.each_misused.Goals as goal

@@ -1,5 +1,5 @@
 use Rattle.std.proofs.Common.{◌≡◌, map, drop}
-use Rattle.swc_ecma_parser_grammar.specs.Using.{each_misused}
+use Rattle.swc_ecma_parser_grammar.specs.scaffold.Using.{each_misused}
 use Rattle.swc_ecma_parser_reader.specs.Jumps.{told}
 use Rattle.swc_ecma_parser_statements.proofs.using.each_misused.Given as goal
 

@@ -1,4 +1,4 @@
--- The relation of the whole language on supported trees.
+-- The relation of the whole language on supported trees, and the small relation with its parts read so.
 use Rattle.std.specs.Prelude.{◌≡◌, ℕ, zero, suc, true, false, ◌||◌, List, []}
 use Rattle.swc_ecma_parser_token.specs.declared.kind.TokenKind.TheVariants as kind
 use Rattle.swc_ecma_parser_input.specs.Place.{Place}
@@ -7,9 +7,9 @@ use Rattle.swc_ecma_parser_model.specs.Tree.{Tree, trees, listed}
 use Rattle.swc_ecma_parser_grammar.specs.declared.position.Position.{Position}
 use Rattle.swc_ecma_parser_grammar.specs.Looks.{sees}
 use Rattle.swc_ecma_parser_grammar.specs.Names.{Code}
-use Rattle.swc_ecma_parser_grammar.specs.Reads.{StmtRule}
-use Rattle.swc_ecma_parser_grammar.specs.Decorated.{DeclaredRule, DecoratedRule, EitherRule}
-use Rattle.swc_ecma_parser_grammar.specs.Supported.{supported_in, all_supported_in}
+use Rattle.swc_ecma_parser_grammar.specs.scaffold.Reads.{SmallStmtRule}
+use Rattle.swc_ecma_parser_grammar.specs.scaffold.Decorated.{DeclaredRule, SmallDecoratedRule, EitherRule}
+use Rattle.swc_ecma_parser_grammar.specs.scaffold.Supported.{supported_in, all_supported_in}
 use Rattle.swc_ecma_parser_grammar.specs.language.Goals.{Class, callee, binding, assigning, expr_goal, callee_goal, pattern_goal, element_goal, member_goal, decorator_goal}
 use Rattle.swc_ecma_parser_grammar.specs.language.Functions.{ParametersRule}
 use Rattle.swc_ecma_parser_grammar.specs.language.Classes.{DecoratorsRule, ClassRule}
@@ -55,8 +55,8 @@ ReadsNamedClass n k name x c d = ClassRule (Reads n) k c (listed []) name x c d 
 -- a statement within so many levels
 abbrev pub ReadsStmt : ℕ → Code → Position → Tree → Place → Place → Type 0
 ReadsStmt zero k at x c d = ⊥
-ReadsStmt (suc n) k at x c d = EitherRule (StmtRule (ReadsStmt n) (ReadsClass n) (ReadsPat n) (ReadsTarget n) (ReadsParams n) (ReadsNamedClass n) k at x c d)
-    (DecoratedRule (ReadsDecorators n) (DeclaredRule (ReadsStmt n) (ReadsParams n) (ReadsNamedClass n)) k at x c d)
+ReadsStmt (suc n) k at x c d = EitherRule (SmallStmtRule (ReadsStmt n) (ReadsClass n) (ReadsPat n) (ReadsTarget n) (ReadsParams n) (ReadsNamedClass n) k at x c d)
+    (SmallDecoratedRule (ReadsDecorators n) (DeclaredRule (ReadsStmt n) (ReadsParams n) (ReadsNamedClass n)) k at x c d)
 
 -- a class or a function that is declared, with what stands in it within so many levels
 abbrev pub ReadsDeclared : ℕ → Code → Position → Tree → Place → Place → Type 0

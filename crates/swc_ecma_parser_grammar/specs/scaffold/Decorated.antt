@@ -9,7 +9,7 @@ use Rattle.swc_ecma_parser_grammar.specs.declared.position.Position.{Position}
 use Rattle.swc_ecma_parser_grammar.specs.Looks.{span_at}
 use Rattle.swc_ecma_parser_grammar.specs.Names.{Code}
 use Rattle.swc_ecma_parser_grammar.specs.Follows.{is_async_function}
-use Rattle.swc_ecma_parser_grammar.specs.Reads.{ReadsFunction}
+use Rattle.swc_ecma_parser_grammar.specs.scaffold.Reads.{ReadsFunction}
 
 -- A class and a function with the decorators that stand before them: the class begins where it is told, the function leaves them out.
 abbrev pub class_behind : (start : Span) → (decorators : List Tree) → Tree → Tree
@@ -33,7 +33,7 @@ pub data DeclaredRule (Stmt : Code → Position → Tree → Place → Place →
   declared_function : at.include_decl || is_async_function c ≡ true → ReadsFunction Stmt Params k x c d → DeclaredRule Stmt Params Named k at x c d
 
 -- with one decorator at least before it
-pub record DecoratedRule (Decorators : Code → List Tree → Place → Place → Type 0) (Declared : Code → Position → Tree → Place → Place → Type 0)
+pub record SmallDecoratedRule (Decorators : Code → List Tree → Place → Place → Type 0) (Declared : Code → Position → Tree → Place → Place → Type 0)
     (k : Code) (at : Position) (x : Tree) (c d : Place) : Type 0 where
   pub first : Tree
   pub others : List Tree

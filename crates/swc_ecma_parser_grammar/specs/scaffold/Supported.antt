@@ -1,5 +1,7 @@
--- The trees that are answered whatever the walk finds in them: all of the language, but in module code those with a fault of module
--- code alone in a function in an expression or in a member of a class.
+-- Supported trees, by their forms, one line for each. They told the forms that are read from those that are not. Now all are read, and
+-- every tree of the language is supported, so no promise of the parser names them. They remain since the theorems on the reader are
+-- stated with them, and say one thing beside the forms: in module code no fault of module code alone stands in a function or an arrow
+-- function in an expression, in a method or an accessor, or in a static block.
 use Rattle.std.specs.Prelude.{Bool, true, false, not, ◌&&◌, ◌||◌, List, [], ◌∷◌}
 use Rattle.swc_ecma_parser_error.specs.Kind.{Fault}
 use Rattle.swc_ecma_parser_model.specs.Tree as tree

@@ -1,4 +1,5 @@
--- What is declared with `using`: the proposal on explicit resource management, which adds it to ECMA-262, section 14.3.
+-- How the reader tells where `using` declares, and what of a declaration is a fault: the proposal on explicit resource management,
+-- which adds it to ECMA-262, section 14.3.
 use Rattle.std.specs.Prelude.{Bool, false, not, ◌&&◌, ◌||◌, List, [], ◌∷◌, ◌++◌, codes}
 use Rattle.swc_ecma_parser_common.specs.declared.span.Span.{Span}
 use Rattle.swc_ecma_parser_error.specs.Kind as kind
@@ -14,10 +15,7 @@ use Rattle.swc_ecma_parser_grammar.specs.Looks.{sees, breaks_at}
 use Rattle.swc_ecma_parser_grammar.specs.Names.{Code, identifier_at}
 use Rattle.swc_ecma_parser_grammar.specs.Follows.{word_at}
 use Rattle.swc_ecma_parser_grammar.specs.Own.{only}
-
--- `using` begins a declaration before a name on its line
-unfoldable pub is_using_declaration : Code → Place → Bool
-is_using_declaration k c = word_at (codes "using") c && (identifier_at k.flags (after c) && not (breaks_at (after c)))
+use Rattle.swc_ecma_parser_grammar.specs.language.Declarations.{is_using_declaration}
 
 -- behind `await` on its line, at the top level too
 unfoldable pub is_await_using_declaration : Position → Code → Place → Bool
