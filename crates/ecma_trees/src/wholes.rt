@@ -174,8 +174,8 @@ fn are_equal(left: Expr, right: Expr) -> bool {
 }
 
 /// Whether two expressions are alike but for their spans. Both are let go.
-fn are_alike(alloc: Global, left: Expr, right: Expr) -> Result<bool, AllocError> {
-    let are_alike = eq_ignore_span(alloc, &left, &right);
+fn are_alike(left: Expr, right: Expr) -> bool {
+    let are_alike = eq_ignore_span(&left, &right);
     left.discard();
     right.discard();
     are_alike
@@ -188,7 +188,7 @@ fn compared(alloc: Global, left: &str, right: &str, low: u32) -> Result<(bool, b
     match literal(alloc, right, span(low, end)) {
         Ok(second) => {
             let are_equal = first == second;
-            Ok((are_equal, are_alike(alloc, first, second)?))
+            Ok((are_equal, are_alike(first, second)))
         }
         Err(error) => {
             first.discard();

@@ -7,8 +7,8 @@ use Rattle.swc_ecma_parser_model.specs.Held.{Held, same_held}
 use Rattle.swc_ecma_parser_ast.specs.Nodes.{there_module_export_name, there_object_lit}
 use Rattle.swc_ecma_parser_ast.specs.Equal.{equal_span, equal_ident, equal_str, equal_object_lit, equal_stmt, equal_script, equal_module_export_name, equal_import_named_specifier, equal_import_default_specifier, equal_import_star_as_specifier, equal_import_specifier, equal_import_decl, equal_export_decl, equal_export_namespace_specifier, equal_export_default_specifier, equal_export_named_specifier, equal_export_specifier, equal_named_export, equal_default_decl, equal_export_default_decl, equal_export_default_expr, equal_export_all, equal_module_decl, equal_module_item, equal_module, equal_program}
 use Rattle.swc_ecma_parser_ast.specs.View.{view_str, view_object_lit, view_stmt, view_script, view_module_export_name, view_import_named_specifier, view_import_default_specifier, view_import_star_as_specifier, view_import_specifier, view_import_decl, view_export_decl, view_export_namespace_specifier, view_export_default_specifier, view_export_named_specifier, view_export_specifier, view_named_export, view_default_decl, view_export_default_decl, view_export_default_expr, view_export_all, view_module_decl, view_module_item, view_module, view_program}
-use Rattle.swc_ecma_parser_ast.proofs.Differ.{differ}
-use Rattle.swc_ecma_parser_ast.proofs.Apart.{kind_stmt}
+use Rattle.swc_ecma_parser_ast.specs.Differ.{differ}
+use Rattle.swc_ecma_parser_ast.specs.Apart.{kind_stmt}
 use Rattle.swc_ecma_parser_ast.proofs.Alike.{alike_each, alike_option, alike_object_lit, alike_decl, alike_class_expr, alike_fn_expr, alike_stmt}
 use Rattle.swc_ecma_parser_ast.specs.declared.script.Script.{Script}
 use Rattle.swc_ecma_parser_ast.specs.declared.imports.ModuleExportName.{ModuleExportName}

@@ -1,9 +1,9 @@
 pub mod Derived
 pub mod DerivedItem
-pub mod Differ
-pub mod Apart
 pub mod Alike
 pub mod Links
 pub mod AlikeItem
 pub mod Measured
 pub mod Directive
+pub mod Unlike
+pub mod LikeLinks

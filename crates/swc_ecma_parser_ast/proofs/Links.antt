@@ -14,7 +14,7 @@ use Rattle.swc_ecma_parser_ast.specs.View.{view_callee, view_expr, view_stmt}
 use Rattle.swc_ecma_parser_ast.specs.Falls.{le_any, marked_size}
 use Rattle.swc_ecma_parser_ast.specs.Chain.{alike_bins, alike_calls, alike_exprs, alike_ifs, alike_links, alike_members, alike_stmts, rest_of_any, rest_of_callee, rest_of_else, rest_of_expr, rest_of_stmt}
 use Rattle.swc_ecma_parser_ast.proofs.Alike.{alike_expr, alike_stmt}
-use Rattle.swc_ecma_parser_ast.proofs.Apart.{expr_stmt, stmt_expr}
+use Rattle.swc_ecma_parser_ast.specs.Apart.{expr_stmt, stmt_expr}
 use Rattle.swc_ecma_parser_ast.specs.declared.branch.IfStmt.{IfStmt}
 use Rattle.swc_ecma_parser_ast.specs.declared.call.CallExpr.{CallExpr}
 use Rattle.swc_ecma_parser_ast.specs.declared.call.Callee.{Callee}

@@ -4,3 +4,10 @@ pub mod View
 pub mod Nodes
 pub mod Equal
 pub mod Falls
+pub mod Unspanned
+pub mod Like
+pub mod LikeChain
+pub mod Differ
+pub mod Apart
+pub mod Respanned
+pub mod RespannedItem

@@ -81,6 +81,8 @@ pub use function::FnDecl;
 pub use function::FnExpr;
 pub use function::Function;
 pub use function::Param;
+pub use ignore_span::EqIgnoreSpan;
+pub use ignore_span::Viewed;
 pub use ignore_span::eq_ignore_span;
 pub use imports::ImportDecl;
 pub use imports::ImportDefaultSpecifier;

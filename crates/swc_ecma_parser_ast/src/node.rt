@@ -60,7 +60,7 @@ pub enum Any {
 #[cycle(ast)]
 #[derive(Debug)]
 pub struct Node {
-    inner: Any,
+    pub(crate) inner: Any,
 }
 
 impl Node {
@@ -144,7 +144,7 @@ impl Drop for Node {
 
 impl Any {
     /// The part on which a chain goes on, if this is a link of one.
-    fn rest(&self) -> Option<&Node>
+    pub(crate) fn rest(&self) -> Option<&Node>
         ensures { IfSome result (λ n. chain.rest_of_any self.now ≡ Some n.now) }
     {
         match self {

@@ -3,7 +3,7 @@ use Rattle.std.proofs.Common.{◌≡◌, ap}
 use Rattle.swc_ecma_parser_model.specs.Held.{Held}
 use Rattle.swc_ecma_parser_ast.specs.Parts.{marked, as_expr}
 use Rattle.swc_ecma_parser_ast.specs.View.{view_expr}
-use Rattle.swc_ecma_parser_ast.proofs.Apart.{kind_expr}
+use Rattle.swc_ecma_parser_ast.specs.Apart.{kind_expr}
 use Rattle.swc_ecma_parser_ast.specs.declared.expr.Expr.{Expr}
 
 pub as_expr_view : (x : Expr Held) → as_expr (view_expr x) ≡ view_expr x

@@ -7,7 +7,7 @@ use Rattle.swc_ecma_parser_ast.specs.declared.node.Node.TheView as node
 use Rattle.swc_ecma_parser_model.specs.Tree.{trees}
 use Rattle.swc_ecma_parser_ast.specs.View.{view_stmt}
 use Rattle.swc_ecma_parser_ast.proofs.Alike.{alike_expr, alike_pat, alike_stmt, alike_stmts}
-use Rattle.swc_ecma_parser_ast.proofs.Apart.{expr_list, expr_pat, expr_stmt, list_expr, list_pat, list_stmt, pat_expr, pat_list, pat_stmt, stmt_expr, stmt_list, stmt_pat}
+use Rattle.swc_ecma_parser_ast.specs.Apart.{expr_list, expr_pat, expr_stmt, list_expr, list_pat, list_stmt, pat_expr, pat_list, pat_stmt, stmt_expr, stmt_list, stmt_pat}
 use Rattle.swc_ecma_parser_ast.proofs.Measured.{doubled}
 use Rattle.swc_ecma_parser_ast.proofs.node.+ast.Goals as goal
 

@@ -6,7 +6,7 @@ use Rattle.swc_ecma_parser_model.specs.Same.{same, same_laws}
 use Rattle.swc_ecma_parser_model.specs.Held.{Held}
 use Rattle.swc_ecma_parser_ast.specs.View.{view_expr, view_stmt, view_pat}
 use Rattle.swc_ecma_parser_ast.specs.Parts.{marked, as_expr}
-use Rattle.swc_ecma_parser_ast.proofs.Differ.{differ}
+use Rattle.swc_ecma_parser_ast.specs.Differ.{differ}
 use Rattle.swc_ecma_parser_ast.specs.declared.decl.Decl.TheVariants as v_decl
 use Rattle.swc_ecma_parser_ast.specs.declared.expr.Expr.{Expr}
 use Rattle.swc_ecma_parser_ast.specs.declared.expr.Expr.TheVariants as v_expr
@@ -81,7 +81,7 @@ kind_pat (v_pat.Assign _) = refl
 kind_pat (v_pat.Invalid _) = refl
 kind_pat (v_pat.Expr _) = refl
 
-not_stmt_expr : (x : Expr Held) → is_stmt (view_expr x) ≡ false
+pub not_stmt_expr : (x : Expr Held) → is_stmt (view_expr x) ≡ false
 not_stmt_expr (v_expr.This _) = refl
 not_stmt_expr (v_expr.Array _) = refl
 not_stmt_expr (v_expr.Object _) = refl
@@ -113,7 +113,7 @@ not_stmt_expr (v_expr.Invalid _) = refl
 pub stmt_expr : (x : Stmt Held) (y : Expr Held) → same (view_stmt x) (view_expr y) ≡ false
 stmt_expr x y = differ is_stmt (view_stmt x) (view_expr y) (kind_stmt x) (not_stmt_expr y)
 
-not_pat_expr : (x : Expr Held) → is_pat (view_expr x) ≡ false
+pub not_pat_expr : (x : Expr Held) → is_pat (view_expr x) ≡ false
 not_pat_expr (v_expr.This _) = refl
 not_pat_expr (v_expr.Array _) = refl
 not_pat_expr (v_expr.Object _) = refl
@@ -145,7 +145,7 @@ not_pat_expr (v_expr.Invalid _) = refl
 pub pat_expr : (x : Pat Held) (y : Expr Held) → same (view_pat x) (view_expr y) ≡ false
 pat_expr x y = differ is_pat (view_pat x) (view_expr y) (kind_pat x) (not_pat_expr y)
 
-not_expr_stmt : (x : Stmt Held) → is_expr (view_stmt x) ≡ false
+pub not_expr_stmt : (x : Stmt Held) → is_expr (view_stmt x) ≡ false
 not_expr_stmt (v_stmt.Block _) = refl
 not_expr_stmt (v_stmt.Empty _) = refl
 not_expr_stmt (v_stmt.Debugger _) = refl
@@ -172,7 +172,7 @@ not_expr_stmt (v_stmt.Expr _) = refl
 pub expr_stmt : (x : Expr Held) (y : Stmt Held) → same (view_expr x) (view_stmt y) ≡ false
 expr_stmt x y = differ is_expr (view_expr x) (view_stmt y) (kind_expr x) (not_expr_stmt y)
 
-not_pat_stmt : (x : Stmt Held) → is_pat (view_stmt x) ≡ false
+pub not_pat_stmt : (x : Stmt Held) → is_pat (view_stmt x) ≡ false
 not_pat_stmt (v_stmt.Block _) = refl
 not_pat_stmt (v_stmt.Empty _) = refl
 not_pat_stmt (v_stmt.Debugger _) = refl
@@ -199,7 +199,7 @@ not_pat_stmt (v_stmt.Expr _) = refl
 pub pat_stmt : (x : Pat Held) (y : Stmt Held) → same (view_pat x) (view_stmt y) ≡ false
 pat_stmt x y = differ is_pat (view_pat x) (view_stmt y) (kind_pat x) (not_pat_stmt y)
 
-not_expr_pat : (x : Pat Held) → is_expr (view_pat x) ≡ false
+pub not_expr_pat : (x : Pat Held) → is_expr (view_pat x) ≡ false
 not_expr_pat (v_pat.Ident _) = refl
 not_expr_pat (v_pat.Array _) = refl
 not_expr_pat (v_pat.Rest _) = refl
@@ -211,7 +211,7 @@ not_expr_pat (v_pat.Expr _) = refl
 pub expr_pat : (x : Expr Held) (y : Pat Held) → same (view_expr x) (view_pat y) ≡ false
 expr_pat x y = differ is_expr (view_expr x) (view_pat y) (kind_expr x) (not_expr_pat y)
 
-not_stmt_pat : (x : Pat Held) → is_stmt (view_pat x) ≡ false
+pub not_stmt_pat : (x : Pat Held) → is_stmt (view_pat x) ≡ false
 not_stmt_pat (v_pat.Ident _) = refl
 not_stmt_pat (v_pat.Array _) = refl
 not_stmt_pat (v_pat.Rest _) = refl
