@@ -8,6 +8,7 @@ use crate::branch::IfStmt;
 use crate::call::{CallExpr, Callee, MemberExpr};
 use crate::expr::{BinExpr, Expr};
 use crate::stmt::Stmt;
+use std::fmt::{self, Debug, DebugList, Formatter, Write};
 
 /// The part on which a chain goes on, if this is a link of one.
 pub(crate) fn expr_rest<N>(expr: &Expr<N>) -> Option<&N>
@@ -85,4 +86,65 @@ fn are_alike_ifs<N: PartialEq>(a: &IfStmt<N>, b: &IfStmt<N>) -> bool
     ensures { result ≡ chain.alike_ifs N.eq a.now b.now }
 {
     a.span == b.span && a.test == b.test && a.cons == b.cons
+}
+
+/// A link of a chain, as it is printed: without the part on which the chain goes on, in whose place stands `..`.
+#[derive(Drop)]
+enum Link<'a, N> {
+    Bin(&'a BinExpr<N>),
+    Member(&'a MemberExpr<N>),
+    Call(&'a CallExpr<N>),
+    If(&'a IfStmt<N>),
+}
+
+impl<N: Debug> Debug for Link<'_, N> {
+    fn fmt<W: Write>(&self, f: &mut Formatter<W>) -> fmt::Result {
+        match self {
+            Link::Bin(x) => f
+                .debug_struct("BinExpr")
+                .field("span", &x.span)
+                .field("op", &x.op)
+                .field("right", &x.right)
+                .finish_non_exhaustive(),
+            Link::Member(x) => f
+                .debug_struct("MemberExpr")
+                .field("span", &x.span)
+                .field("prop", &x.prop)
+                .finish_non_exhaustive(),
+            Link::Call(x) => f
+                .debug_struct("CallExpr")
+                .field("span", &x.span)
+                .field("args", &x.args)
+                .finish_non_exhaustive(),
+            Link::If(x) => f
+                .debug_struct("IfStmt")
+                .field("span", &x.span)
+                .field("test", &x.test)
+                .field("cons", &x.cons)
+                .finish_non_exhaustive(),
+        }
+    }
+}
+
+/// Adds an entry to a list that is printed.
+pub(crate) fn add_entry<T: Debug, W: Write>(list: &mut DebugList<'_, W>, entry: &T) {
+    list.entry(entry);
+}
+
+/// Adds a link of a chain to the list of its links; nothing where it is none.
+pub(crate) fn add_expr_link<N: Debug, W: Write>(list: &mut DebugList<'_, W>, expr: &Box<Expr<N>>) {
+    match &**expr {
+        Expr::Bin(x) => add_entry(list, &Link::Bin(x)),
+        Expr::Member(x) => add_entry(list, &Link::Member(x)),
+        Expr::Call(x) => add_entry(list, &Link::Call(x)),
+        _ => {}
+    }
+}
+
+/// As `add_expr_link`.
+pub(crate) fn add_stmt_link<N: Debug, W: Write>(list: &mut DebugList<'_, W>, stmt: &Box<Stmt<N>>) {
+    match &**stmt {
+        Stmt::If(x) => add_entry(list, &Link::If(x)),
+        _ => {}
+    }
 }

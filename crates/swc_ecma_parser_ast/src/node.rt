@@ -11,11 +11,14 @@ ghost use Rattle.swc_ecma_parser_ast.specs.Equal as equal;
 
 use crate::branch::IfStmt;
 use crate::call::{CallExpr, Callee, ExprOrSpread, MemberExpr, MemberProp};
-use crate::chain::{are_alike_exprs, are_alike_stmts, expr_rest, stmt_rest};
+use crate::chain::{
+    add_entry, add_expr_link, add_stmt_link, are_alike_exprs, are_alike_stmts, expr_rest, stmt_rest,
+};
 use crate::expr::{BinExpr, Expr};
 use crate::pat::Pat;
 use crate::stmt::Stmt;
 use std::alloc::{AllocError, Global};
+use std::fmt::{self, Debug, DebugList, Formatter, Write};
 use std::marker::Model;
 use swc_ecma_parser_common::{BytePos, Span, Spanned};
 
@@ -45,7 +48,6 @@ pub struct StmtList<N = Node> {
 
 /// What a node may hold.
 #[cycle(ast)]
-#[derive(Debug)]
 pub enum Any {
     Expr(Box<Expr<Node>>),
     Pat(Box<Pat<Node>>),
@@ -55,10 +57,11 @@ pub enum Any {
 
 /// A part of a tree, of any kind. Contracts see it as the model's tree, which is never one that is left out.
 ///
-/// A chain on the left (`a + a + ..`, `a.a.a..`, `f()()..`) or of `else if` may be longer than any limit on levels. It is compared
-/// and let go in a loop.
+/// A chain on the left (`a + a + ..`, `a.a.a..`, `f()()..`) or of `else if` may be longer than any limit on levels. It is compared,
+/// printed and let go in a loop. `{:?}` lists its links, outermost first, each with `..` for the part on which the chain goes on, and
+/// last what it ends with, so a link adds its own text and no depth. But for spans and handles `a.b + c` is printed as
+/// `Node [BinExpr { op: Add, right: c, .. }, MemberExpr { prop: b, .. }, Expr(Ident(a))]`.
 #[cycle(ast)]
-#[derive(Debug)]
 pub struct Node {
     pub(crate) inner: Any,
 }
@@ -152,6 +155,52 @@ impl Any {
             Any::Stmt(x) => stmt_rest(x),
             _ => None,
         }
+    }
+}
+
+impl Debug for Any {
+    #[cycle(printed)]
+    fn fmt<W: Write>(&self, f: &mut Formatter<W>) -> fmt::Result {
+        match self {
+            Any::Expr(x) => write_held(f, "Expr", x),
+            Any::Pat(x) => write_held(f, "Pat", x),
+            Any::Stmt(x) => write_held(f, "Stmt", x),
+            Any::Stmts(x) => write_held(f, "Stmts", x),
+        }
+    }
+}
+
+/// Writes what a node holds behind the name of its kind.
+fn write_held<T: Debug, W: Write>(f: &mut Formatter<W>, kind: &str, held: &T) -> fmt::Result {
+    f.debug_tuple(kind).field(held).finish()
+}
+
+impl Debug for Node {
+    /// A chain is printed link by link, in a loop.
+    #[cycle(printed)]
+    fn fmt<W: Write>(&self, f: &mut Formatter<W>) -> fmt::Result {
+        if self.inner.rest().is_none() {
+            return f.debug_struct("Node").field("inner", &self.inner).finish();
+        }
+        f.write_str("Node ")?;
+        let mut list = f.debug_list();
+        let mut node = self;
+        while let Some(rest) = node.inner.rest() {
+            add_link(&mut list, &node.inner);
+            node = rest;
+        }
+        add_entry(&mut list, &node.inner);
+        list.finish()
+    }
+}
+
+/// Adds a link of a chain to the list of its links; nothing where it is none.
+#[cycle(printed)]
+fn add_link<W: Write>(list: &mut DebugList<'_, W>, link: &Any) {
+    match link {
+        Any::Expr(x) => add_expr_link(list, x),
+        Any::Stmt(x) => add_stmt_link(list, x),
+        _ => {}
     }
 }
 
