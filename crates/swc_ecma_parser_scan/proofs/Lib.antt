@@ -1,1 +1,4 @@
 pub mod Scans
+pub mod Bytes
+pub mod Runs
+pub mod Blanks

@@ -1,4 +1,4 @@
-//! Classes of characters.
+//! Classes of characters. Those of ASCII are told by cheap tests, without Unicode's tables.
 
 ghost use Rattle.std.specs.Prelude.{◌≡◌, [], MatchOption};
 ghost use Rattle.std.specs.Str.{chars};
@@ -20,17 +20,21 @@ pub fn first_char(text: &str) -> Option<(char, &str)>
 pub fn is_space(c: char) -> bool
     ensures { result ≡ class.is_space c }
 {
-    (c == '\t')
-        | (c == '\u{b}')
-        | (c == '\u{c}')
-        | (c == ' ')
-        | (c == '\u{a0}')
-        | (c == '\u{feff}')
-        | (c == '\u{1680}')
-        | (('\u{2000}' <= c) & (c <= '\u{200a}'))
-        | (c == '\u{202f}')
-        | (c == '\u{205f}')
-        | (c == '\u{3000}')
+    if c < '\u{80}' {
+        (c == '\t') | (c == '\u{b}') | (c == '\u{c}') | (c == ' ')
+    } else {
+        (c == '\t')
+            | (c == '\u{b}')
+            | (c == '\u{c}')
+            | (c == ' ')
+            | (c == '\u{a0}')
+            | (c == '\u{feff}')
+            | (c == '\u{1680}')
+            | (('\u{2000}' <= c) & (c <= '\u{200a}'))
+            | (c == '\u{202f}')
+            | (c == '\u{205f}')
+            | (c == '\u{3000}')
+    }
 }
 
 /// A line terminator: section 12.3.
@@ -46,7 +50,11 @@ pub fn is_line_break(c: char) -> bool
 pub fn is_name_start(c: char) -> bool
     ensures { result ≡ class.is_name_start c }
 {
-    (c == '$') | (c == '_') | unicode_ident::is_xid_start(c)
+    if c < '\u{80}' {
+        (c == '$') | (c == '_') | c.is_ascii_alphabetic()
+    } else {
+        (c == '$') | (c == '_') | unicode_ident::is_xid_start(c)
+    }
 }
 
 /// What a name may go on with: section 12.7.
@@ -54,7 +62,11 @@ pub fn is_name_start(c: char) -> bool
 pub fn is_name_part(c: char) -> bool
     ensures { result ≡ class.is_name_part c }
 {
-    (c == '$') | (c == '\u{200c}') | (c == '\u{200d}') | unicode_ident::is_xid_continue(c)
+    if c < '\u{80}' {
+        (c == '$') | (c.is_ascii_alphanumeric() | (c == '_'))
+    } else {
+        (c == '$') | (c == '\u{200c}') | (c == '\u{200d}') | unicode_ident::is_xid_continue(c)
+    }
 }
 
 /// A decimal digit.

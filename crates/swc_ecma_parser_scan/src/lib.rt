@@ -5,6 +5,7 @@
 mod chars;
 mod number;
 mod piece;
+mod run;
 mod state;
 mod step;
 

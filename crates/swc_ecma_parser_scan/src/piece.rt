@@ -6,6 +6,7 @@ ghost use Rattle.std.specs.Str.{chars, IsUtf8};
 ghost use Rattle.swc_ecma_parser_scan.specs.Scan as read;
 
 use crate::chars::first_char;
+use crate::run::past_run;
 use crate::state::{Mark, State};
 use crate::step::{begin, step};
 
@@ -32,12 +33,12 @@ fn munch(first: State, text: &str) -> Munched<'_>
     ensures utf8 { IsUtf8 result.rest.now }
 {
     let mut state = first;
-    let mut rest = text;
+    let mut rest = past_run(first, text);
     while let Some((c, behind)) = first_char(rest) {
         match step(state, c) {
             Some(next) => {
                 state = next;
-                rest = behind;
+                rest = past_run(next, behind);
             }
             None => return Munched { state, rest },
         }
