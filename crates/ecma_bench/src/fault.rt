@@ -10,8 +10,11 @@ use thiserror::Error;
 #[derive(Clone, Copy, Debug, Error)]
 pub enum Fault {
     /// The words are none of those that the program knows.
-    #[error("usage: ecma-bench expressions|nests|patterns BYTES")]
+    #[error("usage: ecma-bench expressions|nests|patterns BYTES, or: ecma-bench file NAME [module]")]
     Usage,
+    /// The file cannot be read, or is no text.
+    #[error("cannot read the file as UTF-8 text")]
+    CannotRead,
     /// Positions in the text do not fit 32 bits.
     #[error("the text is too long")]
     TooLong,

@@ -1,4 +1,4 @@
-//! The program `ecma-bench`: it makes a text of a shape, parses it once as a script, and prints what that took.
+//! The program `ecma-bench`: it makes a text of a shape or reads a file, parses it once, and prints what that took.
 #![tactic(auto)]
 
 mod command;
@@ -7,6 +7,7 @@ mod fault;
 mod measure;
 mod memory;
 mod parse;
+mod read;
 mod report;
 mod run;
 mod shape;

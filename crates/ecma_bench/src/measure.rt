@@ -1,95 +1,123 @@
-//! A parse of a text, with its figures.
+//! A text's lexing and its parse, with their figures.
 
-ghost use Rattle.std.specs.Prelude.{◌≡◌, ◌≤◌, ℕ, List, IfOk, IfErr, OnOk};
+ghost use Rattle.std.specs.Prelude.{◌≡◌, ◌≤◌, ℕ, List, IsOk, IfOk, IfErr, OnOk};
 ghost use Rattle.swc_ecma_parser_model.specs.Tree.{Tree};
-ghost use Rattle.ecma_report.specs.Spelled.{Spells};
 ghost use Rattle.ecma_bench.specs.Figures as figures;
+ghost use Rattle.ecma_bench.specs.Words.{least_of};
 
-use crate::command::Command;
+use crate::command::{Command, Goal};
 use crate::fault::Fault;
 use crate::memory::{growth, peak};
 use crate::parse::{discard, parse, token_count};
+use crate::read::text_of;
 use crate::report::Report;
-use crate::shape::Shape;
-use std::rt::{Clock, Files};
-use std::time::{Duration, Instant};
+use std::rt::Files;
+use std::time::{CpuClock, Duration};
+use swc_ecma_parser::ast::Program;
 
-/// The clock and the peak of the process's memory as a parse begins.
+/// What lexing a text finds and takes.
 #[derive(Clone, Copy)]
-struct Watch {
-    peak: Option<u64>,
-    start: Instant,
+struct Lexing {
+    tokens: u64,
+    elapsed: Duration,
 }
 
-/// What a parse took.
+/// What a parse takes, with its lexer, and letting its tree go.
 #[derive(Clone, Copy)]
-struct Cost {
+struct Parse {
     elapsed: Duration,
+    letting_go: Duration,
     growth: Option<u64>,
 }
 
-impl Watch {
-    fn start<R: Files + Clock + AllocGlobal>(rt: &R) -> Result<Watch, Fault>
-        ensures { IfErr result (λ fault. fault ≡ Fault.CannotReadClock) }
-    {
-        let peak = peak(rt);
-        match Instant::now(rt) {
-            Ok(start) => Ok(Watch { peak, start }),
-            Err(_) => Err(Fault::CannotReadClock),
-        }
-    }
-
-    fn stop<R: Files + Clock + AllocGlobal>(self, rt: &R) -> Result<Cost, Fault>
-        ensures { IfErr result (λ fault. fault ≡ Fault.CannotReadClock) }
-    {
-        match self.start.elapsed(rt) {
-            Ok(elapsed) => Ok(Cost {
-                elapsed,
-                growth: growth(self.peak, peak(rt)),
-            }),
-            Err(_) => Err(Fault::CannotReadClock),
-        }
+/// The processor time that the thread has used.
+fn now<R: CpuClock>(rt: &R) -> Result<Duration, Fault>
+    ensures { IfErr result (λ fault. fault ≡ Fault.CannotReadClock) }
+{
+    match rt.thread_cpu_time() {
+        Ok(time) => Ok(time),
+        Err(_) => Err(Fault::CannotReadClock),
     }
 }
 
-/// What the parse of a text takes. The clock stops before the tree is dropped.
-fn cost_of<R: Files + Clock + AllocGlobal>(rt: &R, text: &str) -> Result<Cost, Fault>
-    ensures { OnOk result ((x : Tree) × Spells text.now x) }
+/// How much of it was used since then.
+fn since<R: CpuClock>(rt: &R, start: Duration) -> Result<Duration, Fault>
+    ensures { IfErr result (λ fault. fault ≡ Fault.CannotReadClock) }
 {
-    let watch = Watch::start(rt)?;
-    let answer = parse(rt.alloc(), text);
-    let cost = watch.stop(rt);
-    discard(answer)?;
-    cost
+    Ok(now(rt)?.saturating_sub(start))
 }
 
-/// The figures of a text of a shape. Its tokens are counted before the clock starts.
-fn report_on<R: Files + Clock + AllocGlobal>(
-    rt: &R,
-    shape: Shape,
-    text: &str,
-) -> Result<Report, Fault>
-    ensures shape { IfOk result (λ report. report.shape ≡ shape) }
-    ensures figures { IfOk result (figures.Tells text.now) }
+/// Counts the tokens of a text.
+fn lexing_of<R: CpuClock + AllocGlobal>(rt: &R, text: &str) -> Result<Lexing, Fault>
+    ensures { IfOk result (λ lexing. lexing.tokens ≡ figures.token_count text.now) }
 {
+    let start = now(rt)?;
     let tokens = token_count(rt.alloc(), text)?;
-    let Cost { elapsed, growth } = cost_of(rt, text)?;
-    Ok(Report {
-        shape,
-        bytes: text.len(),
-        tokens,
-        elapsed,
+    let elapsed = since(rt, start)?;
+    Ok(Lexing { tokens, elapsed })
+}
+
+/// How long it takes to drop the answer of a parse.
+fn letting_go_of<R: CpuClock>(rt: &R, answer: Result<Program, Fault>) -> Result<Duration, Fault>
+    ensures { OnOk result (IsOk answer) }
+{
+    let start = now(rt);
+    discard(answer)?;
+    since(rt, start?)
+}
+
+/// Parses a text. The clock stops before the tree is dropped, and starts anew then.
+fn parse_of<R: Files + CpuClock + AllocGlobal>(
+    rt: &R,
+    text: &str,
+    goal: Goal,
+) -> Result<Parse, Fault>
+    ensures { OnOk result ((x : Tree) × figures.SpellsAs goal text.now x) }
+{
+    let before = peak(rt);
+    let start = now(rt)?;
+    let answer = parse(rt.alloc(), text, goal);
+    let elapsed = since(rt, start);
+    let growth = growth(before, peak(rt));
+    let letting_go = letting_go_of(rt, answer)?;
+    Ok(Parse {
+        elapsed: elapsed?,
+        letting_go,
         growth,
     })
 }
 
-/// Makes a text and parses it. The text is made before the clock starts.
-pub fn measure<R: Files + Clock + AllocGlobal>(rt: &R, command: Command) -> Result<Report, Fault>
-    ensures shape { IfOk result (λ report. report.shape ≡ command.shape) }
-    ensures bytes { IfOk result (λ report. command.bytes ≤ report.bytes) }
+/// The figures of a text. The clock is read six times: before and after lexing, the parse, and letting its tree go.
+fn report_on<'a, R: Files + CpuClock + AllocGlobal>(
+    rt: &R,
+    command: Command<'a>,
+    text: &str,
+) -> Result<Report<'a>, Fault>
+    ensures command { IfOk result (λ report. report.command ≡ command.entry) }
+    ensures figures { IfOk result (figures.Tells text.now) }
+{
+    let lexing = lexing_of(rt, text)?;
+    let parse = parse_of(rt, text, command.goal)?;
+    Ok(Report {
+        command,
+        bytes: text.len(),
+        tokens: lexing.tokens,
+        lexing: lexing.elapsed,
+        parse: parse.elapsed,
+        letting_go: parse.letting_go,
+        growth: parse.growth,
+    })
+}
+
+/// Measures a text. It is made or read before the clock starts.
+pub fn measure<'a, R: Files + CpuClock + AllocGlobal>(
+    rt: &R,
+    command: Command<'a>,
+) -> Result<Report<'a>, Fault>
+    ensures command { IfOk result (λ report. report.command ≡ command.entry) }
+    ensures bytes { IfOk result (λ report. least_of command.entry.source ≤ report.bytes) }
     ensures figures { IfOk result (λ report. (text : List ℕ) × figures.Tells text report) }
 {
-    let Command { shape, bytes } = command;
-    let text = shape.text(rt.alloc(), bytes)?;
-    report_on(rt, shape, text.as_str())
+    let text = text_of(rt, command.source)?;
+    report_on(rt, command, text.as_str())
 }

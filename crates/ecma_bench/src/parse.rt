@@ -1,23 +1,23 @@
 //! Texts before a lexer and before a parser.
 
-ghost use Rattle.std.specs.Prelude.{◌≡◌, ◌≤◌, ◌^◌, ◌||◌, true, [], length, IsOk, IfOk, IfErr, IsErrOf, IsErrAnd, IfSome, MatchResult, slice_get};
-ghost use Rattle.swc_ecma_parser_ast.specs.View.{view_script};
-ghost use Rattle.swc_ecma_parser_grammar.specs.language.Programs as programs;
-ghost use Rattle.swc_ecma_parser_grammar.specs.language.Programs.{ReadsEntry};
-ghost use Rattle.swc_ecma_parser_input.specs.Place as place;
-ghost use Rattle.swc_ecma_parser_input.specs.Place.{Place};
+ghost use Rattle.std.specs.Prelude.{◌≡◌, ◌≤◌, ◌^◌, ℕ, [], length, IsOk, IfOk, IfErr, IsErrOf, IsErrAnd, IfSome, MatchResult, slice_get};
+ghost use Rattle.swc_ecma_parser_ast.specs.View.{view_program};
+ghost use Rattle.swc_ecma_parser_exactness.specs.Decides.{DecidesScript};
+ghost use Rattle.swc_ecma_parser_exactness.specs.ModuleDecides.{DecidesModule};
+ghost use Rattle.swc_ecma_parser_exactness.specs.Supports.{Ordered};
 ghost use Rattle.swc_ecma_parser_model.specs.Tree.{Tree};
-ghost use Rattle.swc_ecma_parser_reader.specs.Entry.{unmarked, script_walk, SoundScript};
+ghost use Rattle.swc_ecma_parser_module_reader.specs.Entry.{IsEntered};
+ghost use Rattle.swc_ecma_parser_reader.specs.Entry.{unmarked};
 ghost use Rattle.swc_ecma_parser_reader.specs.State.{State};
-ghost use Rattle.ecma_report.specs.Spelled.{Spells};
 ghost use Rattle.ecma_bench.specs.Faults.{TellsRefusal, TellsRecord, TellsWant};
 ghost use Rattle.ecma_bench.specs.Figures as figures;
 
+use crate::command::Goal;
 use crate::count::count;
 use crate::fault::Fault;
 use std::alloc::Global;
 use swc_ecma_parser::Parser;
-use swc_ecma_parser::ast::Script;
+use swc_ecma_parser::ast::Program;
 use swc_ecma_parser::common::BytePos;
 use swc_ecma_parser::error::{Error, PResult, SyntaxError};
 use swc_ecma_parser::input::{Syntax, Tokens};
@@ -69,18 +69,18 @@ fn recorded(error: &Error) -> Fault
     }
 }
 
-/// The script of an answer with no faults beside it.
-fn clean(answer: PResult<Script>, faults: &[Error]) -> Result<Script, Fault>
-    ensures clean { IfOk result (λ script. (answer ≡ Ok script) × (faults.now ≡ [])) }
-    ensures script { IfOk answer (λ script. faults.now ≡ [] → result ≡ Ok script) }
+/// The tree of an answer with no faults beside it.
+fn clean(answer: PResult<Program>, faults: &[Error]) -> Result<Program, Fault>
+    ensures clean { IfOk result (λ program. (answer ≡ Ok program) × (faults.now ≡ [])) }
+    ensures tree { IfOk answer (λ program. faults.now ≡ [] → result ≡ Ok program) }
     ensures recorded { IfOk answer (λ _. IfSome (slice_get faults.now 0) (λ first. IsErrAnd result (TellsRecord first))) }
     ensures refused { IfErr answer (λ error. IsErrAnd result (TellsRefusal error)) }
 {
     match answer {
-        Ok(script) => match faults.first() {
-            None => Ok(script),
+        Ok(program) => match faults.first() {
+            None => Ok(program),
             Some(fault) => {
-                script.discard();
+                program.discard();
                 Err(recorded(fault))
             }
         },
@@ -88,41 +88,47 @@ fn clean(answer: PResult<Script>, faults: &[Error]) -> Result<Script, Fault>
     }
 }
 
-/// Has a parser read a script, with no fault beside it.
-fn script_of<I: Tokens>(parser: &mut Parser<I>) -> Result<Script, Fault>
-    ensures lacking { (place.lacks_memory (place.first parser.old.state.at.left) || place.lacks_memory (place.second parser.old.state.at.left)) ≡ true
-        → IsErrOf result Fault.OutOfMemory }
-    ensures sound { IfOk result (λ script. (t : State) × (t.faults ≡ [])
-        × SoundScript parser.old.limit (unmarked parser.old.state) (view_script script) t) }
-    ensures complete { (x : Tree) (d : Place) → ReadsEntry parser.old.limit programs.script parser.old.state.code x parser.old.state.at d
-        → script_walk parser.old.state x ≡ [] → parser.old.state.faults ≡ [] → MatchResult result (λ script. x ≡ view_script script) TellsWant }
+/// Has a parser read a whole text. An answer with no fault beside it is exactly what the tokens spell, unless memory ran out.
+fn read<I: Tokens>(parser: &mut Parser<I>, goal: Goal) -> PResult<Program>
+    ensures script { goal ≡ Goal.Script → DecidesScript view_program parser.old.limit (unmarked parser.old.state) result parser.new.state }
+    ensures module { goal ≡ Goal.Module → (from : ℕ) → Ordered from parser.old.state.at → (u : State) × IsEntered (unmarked parser.old.state) u
+        × DecidesModule view_program parser.old.limit u result parser.new.state }
 {
+    match goal {
+        Goal::Script => match parser.parse_script() {
+            Ok(script) => Ok(Program::Script(script)),
+            Err(error) => Err(error),
+        },
+        Goal::Module => match parser.parse_module() {
+            Ok(module) => Ok(Program::Module(module)),
+            Err(error) => Err(error),
+        },
+    }
+}
+
+/// Parses a text as a script or a module, with no fault beside it. An answer is what the text spells; a text that spells a tree has
+/// it as the answer, unless the text is too long or memory runs out.
+pub fn parse(alloc: Global, text: &str, goal: Goal) -> Result<Program, Fault>
+    ensures clean { IfOk result (λ program. figures.SpellsAs goal text.now (view_program program)) }
+    ensures spelled { (x : Tree) → figures.SpellsAs goal text.now x → MatchResult result (λ program. x ≡ view_program program) TellsWant }
+{
+    let input = input_of(text)?;
+    let mut parser = Parser::new(alloc, Syntax::default(), input, false);
     if parser.lacks_memory() {
         return Err(Fault::OutOfMemory);
     }
-    let answer = parser.parse_script();
+    let answer = read(&mut parser, goal);
     let faults = parser.take_errors();
     clean(answer, faults.as_slice())
 }
 
-/// Parses a text as a script, with no fault beside it. An answer is what the text spells; a text that spells a tree has it as the
-/// answer, unless the text is too long or memory runs out.
-pub fn parse(alloc: Global, text: &str) -> Result<Script, Fault>
-    ensures clean { IfOk result (λ script. Spells text.now (view_script script)) }
-    ensures spelled { (x : Tree) → Spells text.now x → MatchResult result (λ script. x ≡ view_script script) TellsWant }
-{
-    let input = input_of(text)?;
-    let mut parser = Parser::new(alloc, Syntax::default(), input, false);
-    script_of(&mut parser)
-}
-
-/// Drops a script. Where there is none, the fault is left.
-pub fn discard(answer: Result<Script, Fault>) -> Result<(), Fault>
+/// Drops the tree of an answer. Where there is none, the fault is left.
+pub fn discard(answer: Result<Program, Fault>) -> Result<(), Fault>
     ensures { MatchResult answer (λ _. IsOk result) (λ fault. IsErrOf result fault) }
 {
     match answer {
-        Ok(script) => {
-            script.discard();
+        Ok(program) => {
+            program.discard();
             Ok(())
         }
         Err(fault) => Err(fault),

@@ -4,5 +4,5 @@ use Rattle.ecma_bench.proofs.measure.report_on.Goals as goal
 
 pub returns-clause-figures : goal.returns-clause-figures
 returns-clause-figures g c =
-    let (x, p) = c.in_ok-elapsed.ensures in
-    record { bytes = search rules; tokens = c.in_ok-tokens.ensures.ok; tree = x; spelled = p }
+    let (x, p) = c.in_ok-parse.ensures in
+    record { bytes = search rules; tokens = c.in_ok-lexing.ensures; tree = x; spelled = p }

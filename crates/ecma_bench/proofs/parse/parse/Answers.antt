@@ -1,27 +1,30 @@
--- The parser begins at the text.
-use Rattle.std.proofs.Common.{◌≡◌, subst}
-use Rattle.std.specs.Prelude.{[], IfOk, MatchResult}
-use Rattle.swc_ecma_parser_ast.specs.View.{view_script}
-use Rattle.swc_ecma_parser_grammar.specs.language.Programs as programs
-use Rattle.swc_ecma_parser_grammar.specs.language.Programs.{ReadsEntry}
-use Rattle.swc_ecma_parser_input.specs.Place.{Place}
-use Rattle.swc_ecma_parser_model.specs.Tree.{Tree}
-use Rattle.swc_ecma_parser_reader.specs.Entry.{unmarked, SoundScript, script_walk}
-use Rattle.swc_ecma_parser_reader.specs.State.{State}
-use Rattle.ecma_bench.specs.Faults.{TellsWant}
-use Rattle.ecma_bench.proofs.Parsed.{begins, answer_spelled, spelled_answered}
+-- The answer is that of a parser which begins at the text.
+use Rattle.std.proofs.Common.{◌≡◌, sym, ◌∙◌, ap}
+use Rattle.swc_ecma_parser_error.specs.Kind.{faults_of}
+use Rattle.ecma_report.specs.Spelled.{start_of}
+use Rattle.ecma_bench.specs.Figures.{SpellsAs}
+use Rattle.ecma_bench.proofs.Parsed.{begins, neither, decided_as, Decided, clean_is_read, read_is_clean}
 use Rattle.ecma_bench.proofs.parse.parse.Goals as goal
 
 pub returns-clause-clean : goal.returns-clause-clean
 returns-clause-clean c =
     let s = c.new-parser.result.state in
-    let at_text = begins _ _ c.args.text.now _ s c.default.ensures c.in_ok-input.ensures.start c.in_ok-input.ensures.text c.new-parser.ensures.left in
-    let sound = subst (λ n. IfOk c.script_of.result (λ y. (t : State) × (t.faults ≡ []) × SoundScript n (unmarked s) (view_script y) t)) c.new-parser.ensures.limit c.script_of.ensures.sound in
-    answer_spelled c.args.text.now s _ at_text c.script_of.result c.script_of.ensures.lacking sound
+    let t = c.read-answer.new.parser.state in
+    let found = neither _ _ (sym c.lacks_memory.ensures ∙ c.if-lacks_memory.false) in
+    let at_text : s ≡ start_of c.args.text.now = c.new-parser.ensures.left found.0 found.1
+    ∙ begins _ _ c.args.text.now _ c.default.ensures c.in_ok-input.ensures.start c.in_ok-input.ensures.text in
+    let decided : Decided (SpellsAs c.args.goal c.args.text.now) c.read-answer.result t.faults = decided_as c.args.goal c.args.text.now s t _ c.read-answer.result at_text
+    c.new-parser.ensures.limit c.read-answer.ensures.script c.read-answer.ensures.«module» in
+    clean_is_read (SpellsAs c.args.goal c.args.text.now) c.read-answer.result c.as_slice.result.now t.faults decided (ap faults_of c.as_slice.ensures.value ∙ c.take_errors-faults.ensures.errors) c.clean.result c.clean.ensures.clean
 
 pub returns-clause-spelled : goal.returns-clause-spelled
 returns-clause-spelled c =
     let s = c.new-parser.result.state in
-    let at_text = begins _ _ c.args.text.now _ s c.default.ensures c.in_ok-input.ensures.start c.in_ok-input.ensures.text c.new-parser.ensures.left in
-    let complete = subst (λ n. (x : Tree) (d : Place) → ReadsEntry n programs.script s.code x s.at d → script_walk s x ≡ [] → s.faults ≡ [] → MatchResult c.script_of.result (λ y. x ≡ view_script y) TellsWant) c.new-parser.ensures.limit c.script_of.ensures.complete in
-    spelled_answered c.args.text.now s _ at_text c.script_of.result c.script_of.ensures.lacking complete
+    let t = c.read-answer.new.parser.state in
+    let found = neither _ _ (sym c.lacks_memory.ensures ∙ c.if-lacks_memory.false) in
+    let at_text : s ≡ start_of c.args.text.now = c.new-parser.ensures.left found.0 found.1
+    ∙ begins _ _ c.args.text.now _ c.default.ensures c.in_ok-input.ensures.start c.in_ok-input.ensures.text in
+    let decided : Decided (SpellsAs c.args.goal c.args.text.now) c.read-answer.result t.faults = decided_as c.args.goal c.args.text.now s t _ c.read-answer.result at_text
+    c.new-parser.ensures.limit c.read-answer.ensures.script c.read-answer.ensures.«module» in
+    read_is_clean (SpellsAs c.args.goal c.args.text.now) c.read-answer.result c.as_slice.result.now t.faults decided (ap faults_of c.as_slice.ensures.value ∙ c.take_errors-faults.ensures.errors) c.clean.result
+    c.clean.ensures.tree c.clean.ensures.refused
