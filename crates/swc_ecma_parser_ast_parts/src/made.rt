@@ -18,7 +18,7 @@ pub struct Made {
 
 impl Made {
     /// A handle of an expression; it fails only where memory runs out.
-    #[tactic(auto, using(swc_ecma_parser_ast::proofs::Apart::kind_expr))]
+    #[tactic(auto, using(swc_ecma_parser_ast::specs::Apart::kind_expr))]
     pub fn new(alloc: Global, expr: Expr) -> Result<Made, AllocError>
         ensures { IfOk result (λ x. x.handle.node.tree ≡ view_expr expr) }
     {
