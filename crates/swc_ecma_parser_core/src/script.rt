@@ -9,7 +9,7 @@ use crate::grammar::stmt;
 use swc_ecma_parser_bodies::body::direct;
 use swc_ecma_parser_error::{PResult, SyntaxError};
 use swc_ecma_parser_grammar::Position;
-use swc_ecma_parser_inner::steps::{pushed, since};
+use swc_ecma_parser_inner::steps::{pushed, since, whole_start};
 use swc_ecma_parser_source::Source;
 use swc_ecma_parser_token::TokenKind;
 use swc_ecma_parser_trees::{BuildsScript, BuildsStatements, MakerOf};
@@ -79,7 +79,7 @@ fn items<P: Source, T: BuildsStatements>(
 }
 
 /// A script, whose items may stand so many levels deep.
-#[tactic(auto, unfolding(swc_ecma_parser_reader::specs::Reader::script_body, swc_ecma_parser_grammar::specs::Looks::spanned))]
+#[tactic(auto, unfolding(swc_ecma_parser_reader::specs::Reader::script_body, swc_ecma_parser_grammar::specs::Looks::whole_span))]
 pub fn script_body<P: Source, T: BuildsStatements + BuildsScript>(
     t: &MakerOf<T>,
     p: &mut P,
@@ -88,7 +88,7 @@ pub fn script_body<P: Source, T: BuildsStatements + BuildsScript>(
     ensures gives { GivesAs T.script_of (rules.script_body limit (P.seen p.old)) result (P.seen p.new) }
     ensures outright { (P.seen p.old).at.left ≡ [] → IsOk result }
 {
-    let start = p.span();
+    let start = whole_start(p);
     let shebang = p.shebang()?;
     let body = items::<P, T>(t, p, limit)?;
     let span = since(p, start);

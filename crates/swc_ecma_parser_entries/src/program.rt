@@ -7,7 +7,7 @@ ghost use Rattle.swc_ecma_parser_reader.specs.Reader.{at_end};
 ghost use Rattle.swc_ecma_parser_reader.specs.State as reader;
 
 use swc_ecma_parser_error::PResult;
-use swc_ecma_parser_inner::steps::since;
+use swc_ecma_parser_inner::steps::{since, whole_start};
 use swc_ecma_parser_input::{Context, Tokens};
 use swc_ecma_parser_module_items::programs::{items_from, statements};
 use swc_ecma_parser_source::Source;
@@ -34,7 +34,7 @@ pub(crate) fn program_body<
         → AnswersProgram T.program_of limit s result state.new }
     ensures outright { state.old.at.left ≡ [] → IsOk result }
 {
-    let start = state.span();
+    let start = whole_start(state);
     let shebang = state.shebang()?;
     let front = statements::<Call<O, I>, T>(t, state, limit)?;
     if is_script(state) {

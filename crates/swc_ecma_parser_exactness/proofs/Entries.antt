@@ -4,7 +4,7 @@ use Rattle.std.specs.Prelude.{◌||◌}
 use Rattle.swc_ecma_parser_common.specs.declared.span.Span.{Span}
 use Rattle.swc_ecma_parser_input.specs.Place.{Place}
 use Rattle.swc_ecma_parser_model.specs.Tree.{Tree, Text, trees, listed}
-use Rattle.swc_ecma_parser_grammar.specs.Looks.{spanned}
+use Rattle.swc_ecma_parser_grammar.specs.Looks.{whole_span}
 use Rattle.swc_ecma_parser_grammar.specs.Names.{Code}
 use Rattle.swc_ecma_parser_grammar.specs.language.Goals.{Goal, stmt_goal, item_goal}
 use Rattle.swc_ecma_parser_grammar.specs.language.Items.{top_item, directed, directs_on}
@@ -62,13 +62,13 @@ module _ (In : Goal → Type 0) (small : (g : Goal) → In g → WholeGoal g) (g
   items_of : {is_certain : Bool} {k : Code} {x : Tree} {c d : Place} (from : ℕ) → (needs_order_in x ≡ true → Ordered from c) → (r : ModuleRule In is_certain k x c d) → EachItem r.items
   items_of {is_certain = is_certain} {k = k} {c = c} {d = d} from o r =
       each_item k true r.items r.awaits r.first d 0 (λ h.
-      let p = onward from c r.first (o (ap needs_order_in r.is ∙ decorated_whole (is_certain || is_module_body r.items r.awaits) (spanned c d) r.items r.shebang ∙ h)) (past_shebang r.reads_shebang) in
+      let p = onward from c r.first (o (ap needs_order_in r.is ∙ decorated_whole (is_certain || is_module_body r.items r.awaits) (whole_span c d) r.items r.shebang ∙ h)) (past_shebang r.reads_shebang) in
       from_outset p.from r.first.left p.ordered) r.reads_items
 
   program_whole : {is_certain : Bool} {k : Code} {x : Tree} {c d : Place} (from : ℕ) → (needs_order_in x ≡ true → Ordered from c) → ModuleRule In is_certain k x c d
       → supported_program x ≡ true
   program_whole {is_certain = is_certain} {c = c} {d = d} from o r =
-      ap supported_program r.is ∙ whole_program (is_certain || is_module_body r.items r.awaits) (spanned c d) r.items r.shebang (items_of from o r)
+      ap supported_program r.is ∙ whole_program (is_certain || is_module_body r.items r.awaits) (whole_span c d) r.items r.shebang (items_of from o r)
 
   module_whole : {k : Code} {x : Tree} {c d : Place} (from : ℕ) → (needs_order_in x ≡ true → Ordered from c) → ModuleRule In true k x c d → supported_module x ≡ true
   module_whole from o r = ap supported_module r.is ∙ all_items r.items (items_of from o r)

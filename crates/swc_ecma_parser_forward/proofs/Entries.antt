@@ -20,7 +20,7 @@ use Rattle.swc_ecma_parser_input.specs.TokenSource.{TokenSource, is_ordered}
 use Rattle.swc_ecma_parser_model.specs.Tree as tree
 use Rattle.swc_ecma_parser_model.specs.Tree.{Tree, Text, listed}
 use Rattle.swc_ecma_parser_grammar.specs.declared.position.Position.{Position}
-use Rattle.swc_ecma_parser_grammar.specs.Looks.{first_kind, kind_at, sees, same_kind, span_at, spanned}
+use Rattle.swc_ecma_parser_grammar.specs.Looks.{first_kind, kind_at, sees, same_kind, start_at, whole_span}
 use Rattle.swc_ecma_parser_grammar.specs.language.Contexts.{script_code}
 use Rattle.swc_ecma_parser_grammar.specs.language.Items.{top_item}
 use Rattle.swc_ecma_parser_grammar.specs.language.Programs.{at_top}
@@ -33,7 +33,7 @@ use Rattle.swc_ecma_parser_reader.proofs.Meets.{Meets, Refuses, meets_then, meet
 use Rattle.swc_ecma_parser_reader.proofs.expressions.SoundSteps.{meets_as}
 use Rattle.swc_ecma_parser_forward.proofs.Decorators.{SomeRead}
 use Rattle.swc_ecma_parser_forward.proofs.Levels.{whole_straight}
-use Rattle.swc_ecma_parser_forward.proofs.Places.{far, Here, Past, Ahead, Whole, Read, ReadMany, Straight, both, onward, first, taken, node, reads, here_in_order}
+use Rattle.swc_ecma_parser_forward.proofs.Places.{far, Here, Past, Ahead, Whole, Read, ReadMany, Straight, both, onward, first, taken, node, reads, here_in_order, start_begins}
 use Rattle.swc_ecma_parser_forward.proofs.Steps.{Looked}
 use Rattle.swc_ecma_parser_forward.proofs.Trees.{appended}
 
@@ -98,12 +98,12 @@ module _ (item : Reader Tree) (below : Straight item) (m : ℕ) where
   all_items_read s a = items_on_read [] s (record { straight = refl; ahead = a })
 
 pub script_straight : (n : ℕ) (s : State) → Here s.at → Meets (Read (far (after s.at))) (script n s)
-unfolding script script_body spanned
+unfolding script script_body whole_span
 script_straight n s f = let m = far (after s.at) in let b = coded (script_code s.code) s in
     meets_then (Read (far (after s.at))) (script_body n b) _
     (meets_then (Read (far (after s.at))) (shebang b) _ (shebang_ahead m b (first f)) (λ o t a.
     meets_then _ (items (whole_stmt n top_item) at_end true t) _ (all_items_read (whole_stmt n top_item) (whole_straight n top_item) m t a) (λ xs u g.
-    node (span_at s.at) (tree.script _ (listed xs) o) f.begins g.place (λ e. both e g.straight) refl)))
+    node (start_at s.at) (tree.script _ (listed xs) o) (start_begins s.at f) g.place (λ e. both e g.straight) refl)))
     (λ x t h. h)
 
 -- ---- entries

@@ -13,3 +13,4 @@ pub mod Statements
 pub mod Levels
 pub mod Entries
 pub mod Leaves
+pub mod Follows

@@ -9,7 +9,7 @@ use Rattle.swc_ecma_parser_input.specs.Place.{Place, after, past}
 use Rattle.swc_ecma_parser_model.specs.declared.leaves.Ident.{Ident}
 use Rattle.swc_ecma_parser_model.specs.Forms.{span_of}
 use Rattle.swc_ecma_parser_model.specs.Tree.{Tree, trees}
-use Rattle.swc_ecma_parser_grammar.specs.Looks.{span_at}
+use Rattle.swc_ecma_parser_grammar.specs.Looks.{first_start, span_at, start_at}
 use Rattle.swc_ecma_parser_grammar.proofs.Tests.{and_yes, and_both}
 use Rattle.swc_ecma_parser_reader.specs.Entry.{last_span, IsBehind}
 use Rattle.swc_ecma_parser_forward.specs.Forward.{is_forward, in_order, forward, all_forward}
@@ -33,7 +33,7 @@ pub record Here (c : Place) : Type 0 where
   pub begins : (span_at c).lo.0 ≤ far (after c)
   pub ends : (span_at c).hi ≡ (after c).last.hi
 
-parts : (at : ℕ) (t : TokenAndSpan) (ts : List TokenAndSpan) → ordered_from at (t ∷ ts) ≡ true → (at ≤ t.span.lo.0) × (t.span.lo.0 ≤ t.span.hi.0) × (ordered_from t.span.hi.0 ts ≡ true)
+pub parts : (at : ℕ) (t : TokenAndSpan) (ts : List TokenAndSpan) → ordered_from at (t ∷ ts) ≡ true → (at ≤ t.span.lo.0) × (t.span.lo.0 ≤ t.span.hi.0) × (ordered_from t.span.hi.0 ts ≡ true)
 parts at t ts h =
     let b = and_yes (nat_le at t.span.lo.0) _ h in
     let c = and_yes (nat_le t.span.lo.0 t.span.hi.0) _ b.1 in
@@ -46,6 +46,15 @@ here_by last (t ∷ ts) f o = let p = parts last.hi.0 t ts o in record { order =
 
 pub here_in_order : (c : Place) → in_order c ≡ true → Here c
 here_in_order c h = let p = and_yes (is_forward c.last) _ h in here_by c.last c.left (leb-true c.last.lo.0 c.last.hi.0 p.0) p.1
+
+-- where a whole begins
+start_begins_in : (last : Span) (ts : List TokenAndSpan) → ordered_from last.hi.0 ts ≡ true → (first_start last ts).lo.0 ≤ far (past (record { last = last; left = ts }) ts)
+start_begins_in last [] o = le_refl last.hi.0
+start_begins_in last (t ∷ ts) o = (parts last.hi.0 t ts o).1
+
+pub start_begins : (c : Place) → Here c → (start_at c).lo.0 ≤ far (after c)
+unfolding start_at after
+start_begins c f = start_begins_in c.last c.left f.order
 
 -- behind the first token
 past_here : (last : Span) (ts : List TokenAndSpan) → last.lo.0 ≤ last.hi.0 → ordered_from last.hi.0 ts ≡ true → Here (past (record { last = last; left = ts }) ts)
@@ -93,7 +102,7 @@ ahead_less l h = record { here = h.here; ahead = le_trans l h.ahead }
 
 -- ---- behind some tokens
 
-past_some : (m : ℕ) (last : Span) (ts us : List TokenAndSpan) → m ≤ last.hi.0 → last.lo.0 ≤ last.hi.0 → ordered_from last.hi.0 (ts ++ us) ≡ true → Past m (record { last = last_span last ts; left = us })
+pub past_some : (m : ℕ) (last : Span) (ts us : List TokenAndSpan) → m ≤ last.hi.0 → last.lo.0 ≤ last.hi.0 → ordered_from last.hi.0 (ts ++ us) ≡ true → Past m (record { last = last_span last ts; left = us })
 past_some m last [] us g f o = record { here = here_by last us f o; gone = g }
 past_some m last (t ∷ ts) us g f o = let p = parts last.hi.0 t (ts ++ us) o in past_some m t.span ts us (le_trans (le_trans g p.0) p.1) p.1 p.2
 

@@ -1,2 +1,3 @@
 pub mod Forward
+pub mod Follows
 pub mod Laws

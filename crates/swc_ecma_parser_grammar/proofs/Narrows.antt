@@ -17,7 +17,7 @@ use Rattle.swc_ecma_parser_model.specs.Tree as tree
 use Rattle.swc_ecma_parser_model.specs.Tree.{Tree, Text, trees, listed, absent}
 use Rattle.swc_ecma_parser_model.specs.Directive.{is_use_strict}
 use Rattle.swc_ecma_parser_grammar.specs.declared.position.Position.{Position}
-use Rattle.swc_ecma_parser_grammar.specs.Looks.{kind_at, sees, same_kind, spanned, breaks_at}
+use Rattle.swc_ecma_parser_grammar.specs.Looks.{kind_at, sees, same_kind, spanned, breaks_at, whole_span}
 use Rattle.swc_ecma_parser_grammar.specs.Names.{Code}
 use Rattle.swc_ecma_parser_grammar.specs.scaffold.Reads.{SmallDeclaratorRule, plain_rule, initialized_rule, ReadsItems, SmallStmtRule, block_rule, empty_rule, debugger_rule, variables_rule, using_rule, if_statement_rule, SmallTargetRule, no_target_rule, target_rule, SmallReturnedRule, no_operand_rule, operand_rule, break_rule, continue_rule, return_rule, case_clause_rule, default_clause_rule, ReadsCases, switch_rule, throw_rule, try_rule, with_rule, while_rule, do_while_rule, expr_rule, import_rule, ReadsBlock, SmallCatchRule, no_catch_rule, catch_rule, catch_parameter_rule, SmallFinallyRule, no_finally_rule, finally_rule, ReadsHead, SmallIfRule, if_rule, SmallElseRule, no_else_rule, else_rule, else_if_rule, ReadsBraced, ReadsFunction, class_rule, function_rule, labeled_rule, HeadVariables, SmallInitRule, no_init_rule, init_variables_rule, init_expression_rule, SmallLeftRule, declared_rule, left_target_rule, for_in_rule, for_of_rule, SmallPartRule, no_part_rule, part_rule, for_rule, SmallOfLeftRule, of_left_rule, of_using_rule, of_await_rule}
 use Rattle.swc_ecma_parser_grammar.specs.scaffold.Entries.{ReadsScript, ReadsShebang, some_shebang, no_shebang, small_items_await, small_script_awaits}
@@ -492,7 +492,7 @@ script_narrows n k x c d (r, notes) h = record {
   reads_shebang = shebang_narrows c r.first r.shebang r.reads_shebang;
   items = r.items;
   reads_items = items_narrow n top_item (λ j. ReadsTop n j top_item) (λ j y a b q s g. top_narrows n j top_item y a b q s g) (script_code k) true r.items r.first d never_module r.reads_items
-      (supported_as _ x (tree.script (spanned c d) (listed r.items) r.shebang) r.is h);
+      (supported_as _ x (tree.script (whole_span c d) (listed r.items) r.shebang) r.is h);
   whole = r.to_the_end;
   is = r.is;
 }
@@ -502,4 +502,4 @@ pub script_awaits_as : (n : ℕ) (k : Code) (x : Tree) (c d : Place) (r : ReadsE
     → small_script_awaits n k x c d (script_narrows n k x c d r h) ≡ programs.script_awaits n k x c d r
 unfolding script_narrows
 script_awaits_as n k x c d (r, notes) h = items_await_as n top_item (λ j. ReadsTop n j top_item) (λ j y a b q s g. top_narrows n j top_item y a b q s g) (script_code k) true r.items r.first d
-    never_module r.reads_items (supported_as _ x (tree.script (spanned c d) (listed r.items) r.shebang) r.is h)
+    never_module r.reads_items (supported_as _ x (tree.script (whole_span c d) (listed r.items) r.shebang) r.is h)

@@ -13,7 +13,7 @@ use Rattle.swc_ecma_parser_token.specs.Text.{word_text}
 use Rattle.swc_ecma_parser_input.specs.Place.{Place, after}
 use Rattle.swc_ecma_parser_model.specs.Tree as tree
 use Rattle.swc_ecma_parser_model.specs.Tree.{Tree, Text}
-use Rattle.swc_ecma_parser_grammar.specs.Looks.{kind_at, breaks_at, span_at, same_kind, spanned}
+use Rattle.swc_ecma_parser_grammar.specs.Looks.{kind_at, breaks_at, span_at, same_kind, spanned, start_at, whole_span}
 use Rattle.swc_ecma_parser_grammar.specs.Names.{Code, is_reserved, is_identifier, is_clean_name, identifier_at}
 use Rattle.swc_ecma_parser_grammar.specs.Ends.{can_end}
 use Rattle.swc_ecma_parser_grammar.specs.Follows.{word_at, is_async_function, continues_left_side}
@@ -78,7 +78,7 @@ is_value k w s c d = is_operand k w c && not (continues_assignment k (tree.ident
 
 -- all that is asked of the tokens at a place
 unfoldable pub looks : ℕ
-unfolding kind_at breaks_at span_at same_kind spanned after is_reserved is_identifier is_clean_name identifier_at can_end word_at is_async_function continues_left_side may_await awaits begins_unary begins_expression continues_callee continues_unary continues_operand continues_head continues_conditional continues_assignment continues_yield ends_key is_static_word is_accessor_word is_accessor_key is_operand is_value
+unfolding kind_at breaks_at span_at same_kind spanned start_at whole_span after is_reserved is_identifier is_clean_name identifier_at can_end word_at is_async_function continues_left_side may_await awaits begins_unary begins_expression continues_callee continues_unary continues_operand continues_head continues_conditional continues_assignment continues_yield ends_key is_static_word is_accessor_word is_accessor_key is_operand is_value
 looks = 0
 
 -- ---- one token

@@ -10,7 +10,7 @@ use Rattle.swc_ecma_parser_token.specs.Text.{word_text}
 use Rattle.swc_ecma_parser_input.specs.Place.{Place}
 use Rattle.swc_ecma_parser_model.specs.Tree as tree
 use Rattle.swc_ecma_parser_model.specs.Tree.{Tree, Text, listed}
-use Rattle.swc_ecma_parser_grammar.specs.Looks.{kind_at, sees, spanned}
+use Rattle.swc_ecma_parser_grammar.specs.Looks.{kind_at, sees, whole_span}
 use Rattle.swc_ecma_parser_grammar.specs.Names.{Code}
 use Rattle.swc_ecma_parser_grammar.specs.Ends.{ends_at}
 use Rattle.swc_ecma_parser_grammar.specs.Follows.{is_let_declaration, may_begin_expression_statement, begins_import_expression}
@@ -77,18 +77,18 @@ module_of lo hi xs = tree.module_program (at lo hi) (listed xs) None
 -- ---- wholes
 
 pub script_read : (n : ℕ) (k : Code) (items : List Tree) (c d : Place) → sees kind.Shebang c ≡ false → ItemsRule (Reads n) (entry_code script k) true top_item items c d
-    → kind_at d ≡ kind.End → ReadsEntry n script k (tree.script (spanned c d) (listed items) None) c d
+    → kind_at d ≡ kind.End → ReadsEntry n script k (tree.script (whole_span c d) (listed items) None) c d
 script_read n k items c d h r e =
     (record { shebang = None; first = c; items = items; reads_shebang = no_shebang h refl; reads_items = r; to_the_end = e; is = refl }, λ i. cc)
 
 -- one that the walk finds nothing in
 pub whole_script : (n : ℕ) (k : Code) (items : List Tree) (c d : Place) → sees kind.Shebang c ≡ false → ItemsRule (Reads n) (entry_code script k) true top_item items c d
-    → kind_at d ≡ kind.End → walk (env_of (entry_code script k) []) (tree.script (spanned c d) (listed items) None) ≡ []
-    → Spells n script k [] (tree.script (spanned c d) (listed items) None) c d
+    → kind_at d ≡ kind.End → walk (env_of (entry_code script k) []) (tree.script (whole_span c d) (listed items) None) ≡ []
+    → Spells n script k [] (tree.script (whole_span c d) (listed items) None) c d
 whole_script n k items c d h r e w = (script_read n k items c d h r e, w)
 
 pub whole_items : (n : ℕ) (is_certain : Bool) (k : Code) (items : List Tree) (awaits : Bool) (c d : Place) → sees kind.Shebang c ≡ false
     → ModuleItemsRule (Reads n) k true items awaits c d → kind_at d ≡ kind.End
-    → ModuleRule (Reads n) is_certain k (whole (is_certain || is_module_body items awaits) (spanned c d) (listed items) None) c d
+    → ModuleRule (Reads n) is_certain k (whole (is_certain || is_module_body items awaits) (whole_span c d) (listed items) None) c d
 whole_items n is_certain k items awaits c d h r e =
     record { shebang = None; first = c; items = items; awaits = awaits; reads_shebang = no_shebang h refl; reads_items = r; to_the_end = e; is = refl }

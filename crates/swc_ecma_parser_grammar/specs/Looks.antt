@@ -44,6 +44,18 @@ sees k c = same_kind (kind_at c) k
 unfoldable pub spanned : Place → Place → Span
 spanned c d = record { lo = (span_at c).lo; hi = d.last.hi }
 
+abbrev pub first_start : Span → List TokenAndSpan → Span
+first_start last [] = record { lo = last.hi; hi = last.hi }
+first_start last (t ∷ ts) = t.span
+
+-- where a whole begins: the span of the first token, or, where none is left, the empty one at the end of what was read last
+unfoldable pub start_at : Place → Span
+start_at c = first_start c.last c.left
+
+-- the span of a whole: from there to the end of what was read last before another place
+unfoldable pub whole_span : Place → Place → Span
+whole_span c d = record { lo = (start_at c).lo; hi = d.last.hi }
+
 -- whether an error token stands in a list
 abbrev pub has_error_token : List TokenAndSpan → Bool
 has_error_token [] = false

@@ -2,6 +2,7 @@
 
 ghost use Rattle.std.specs.Prelude.{◌≡◌, true, [], ◌∷◌, ◌++◌, Ok, IfOk, IfErr, OnOk};
 ghost use Rattle.swc_ecma_parser_error.specs.Kind.{IsOutOfMemory, kind_of};
+ghost use Rattle.swc_ecma_parser_grammar.specs.Looks.{start_at};
 ghost use Rattle.swc_ecma_parser_grammar.specs.Own.{only};
 ghost use Rattle.swc_ecma_parser_reader.specs.Jumps.{told};
 ghost use Rattle.swc_ecma_parser_reader.specs.State as reader;
@@ -13,6 +14,7 @@ use swc_ecma_parser_error::{PResult, SyntaxError};
 use swc_ecma_parser_input::Context;
 use swc_ecma_parser_model::Ident;
 use swc_ecma_parser_source::{Source, is_identifier, is_name};
+use swc_ecma_parser_token::TokenKind;
 
 /// From the start of a place to the end of what was read last.
 pub fn since<P: Source>(p: &P, start: Span) -> Span
@@ -22,6 +24,18 @@ pub fn since<P: Source>(p: &P, start: Span) -> Span
         lo: start.lo,
         hi: p.last_span().hi,
     }
+}
+
+/// Where a whole begins: the span of the first token, or, where none is left, the empty one at the end of what was read last.
+#[tactic(auto, using(swc_ecma_parser_reader::proofs::Empty::start_ends, swc_ecma_parser_reader::proofs::Empty::start_goes))]
+pub fn whole_start<P: Source>(p: &P) -> Span
+    ensures { result ≡ start_at (P.seen p.now).at }
+{
+    if p.sees(TokenKind::End) {
+        let end = p.last_span().hi;
+        return Span { lo: end, hi: end };
+    }
+    p.span()
 }
 
 /// What was made, or that memory ran out.

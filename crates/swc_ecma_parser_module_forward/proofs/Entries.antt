@@ -7,7 +7,7 @@ use Rattle.swc_ecma_parser_token.specs.declared.kind.TokenKind.TheVariants as ki
 use Rattle.swc_ecma_parser_input.specs.Place.{Place, after}
 use Rattle.swc_ecma_parser_model.specs.Tree as tree
 use Rattle.swc_ecma_parser_model.specs.Tree.{Tree, listed, trees}
-use Rattle.swc_ecma_parser_grammar.specs.Looks.{sees, span_at, spanned}
+use Rattle.swc_ecma_parser_grammar.specs.Looks.{sees, start_at, whole_span}
 use Rattle.swc_ecma_parser_grammar.specs.Notes.{as_note}
 use Rattle.swc_ecma_parser_grammar.specs.language.Items.{nested_item, top_item}
 use Rattle.swc_ecma_parser_grammar.specs.language.Goals.{expression}
@@ -25,7 +25,7 @@ use Rattle.swc_ecma_parser_reader.proofs.expressions.SoundSteps.{meets_as}
 use Rattle.swc_ecma_parser_forward.proofs.Decorators.{SomeRead, LeadingRead, leading_reads, misplaced_ahead, stmt_behind_reads}
 use Rattle.swc_ecma_parser_forward.proofs.Entries.{ended_past, shebang_ahead, items_on_read, all_items_read, RunsForward, runs_forward, of_answer, answered_forward}
 use Rattle.swc_ecma_parser_forward.proofs.Levels.{expr_straight, pattern_is_straight, member_is_straight, parameters_are_straight, stmt_straight, plain_stmt_straight, object_alone_straight, decorated_in_straight, whole_straight}
-use Rattle.swc_ecma_parser_forward.proofs.Places.{far, Here, Ahead, Read, ReadMany, Straight, Whole, both, onward, first, node, reads, past_less, ahead_less, here_in_order}
+use Rattle.swc_ecma_parser_forward.proofs.Places.{far, Here, Ahead, Read, ReadMany, Straight, Whole, both, onward, first, node, reads, past_less, ahead_less, here_in_order, start_begins}
 use Rattle.swc_ecma_parser_forward.proofs.Trees.{appended, joined}
 use Rattle.swc_ecma_parser_module_reader.specs.Decorated.{begins_decorators, export_with}
 use Rattle.swc_ecma_parser_module_reader.specs.Entry.{AnswersModule}
@@ -51,7 +51,7 @@ export_in_straight zero s f = too_deep_meets _ s
 export_in_straight (suc n) s f = export_item_straight (stmt n nested_item) (expr n) (pattern n) (parameters n) (member n) (object_alone n) (decorated_in n)
     (stmt_straight n nested_item) (expr_straight n) (pattern_is_straight n) (parameters_are_straight n) (member_is_straight n) (object_alone_straight n) (decorated_in_straight n) (expr_keeps n expression) s f
 
-item_behind_reads : (n m : ℕ) (v : Leading) (s : State) → LeadingRead m v s.at → Meets (Read m) (item_behind n v s)
+pub item_behind_reads : (n m : ℕ) (v : Leading) (s : State) → LeadingRead m v s.at → Meets (Read m) (item_behind n v s)
 unfolding item_behind
 item_behind_reads n m v s h = meets_if _ (begins_import s.at) _ _
     (λ _. meets_then _ (misplaced v s) _ (misplaced_ahead m v s h.ahead) (λ _ t a. reads (import_decl (object_alone n)) (import_straight (object_alone n) (object_alone_straight n)) {m = m} t a))
@@ -75,12 +75,12 @@ module_item_straight n s f = meets_if _ (begins_import s.at) _ _ (λ _. import_i
 -- ---- a module
 
 module_straight : (n : ℕ) (s : State) → Here s.at → Meets (Read (far (after s.at))) (module_whole n s)
-unfolding module_whole module_body spanned
+unfolding module_whole module_body whole_span
 module_straight n s f = let m = far (after s.at) in let b = coded (module_code s.code) s in
     meets_then (Read (far (after s.at))) (module_body n b) _
     (meets_then (Read (far (after s.at))) (shebang b) _ (shebang_ahead m b (first f)) (λ o t a.
     meets_then _ (items (module_item n) at_end true t) _ (all_items_read (module_item n) (module_item_straight n) m t a) (λ xs u g.
-    node (span_at s.at) (tree.module_program _ (listed xs) o) f.begins g.place (λ e. both e g.straight) refl)))
+    node (start_at s.at) (tree.module_program _ (listed xs) o) (start_begins s.at f) g.place (λ e. both e g.straight) refl)))
     (λ x t h. h)
 
 -- ---- a program: statements, and decorators behind them
@@ -145,20 +145,20 @@ abbrev pub ReadFirst : ℕ → Tree × List Fault → State → Type 0
 ReadFirst m p t = Whole m p.0 t.at
 
 program_straight : (n : ℕ) (recorded : List Fault) (s : State) → Here s.at → Meets (ReadFirst (far (after s.at))) (program_whole n recorded s)
-unfolding program_whole program_body as_script as_module spanned at_end
+unfolding program_whole program_body as_script as_module whole_span at_end
 program_straight n recorded s f = let m = far (after s.at) in let b = coded (program_code s.code) s in
     meets_then (ReadFirst (far (after s.at))) (program_body n recorded b) _
     (meets_then (ReadFirst (far (after s.at))) (shebang b) _ (shebang_ahead m b (first f)) (λ o t a.
     meets_then _ (front n t) _ (front_reads m n t a) (λ w u h.
     meets_if _ (at_end u.at && not u.notes.found_module_item) _ _
-    (λ e. node (span_at s.at) (tree.script _ (listed w.before) o) f.begins (ended_past m u.at (and_yes (at_end u.at) _ e).0 (front_ahead h)) (λ i. both i h.before) refl)
+    (λ e. node (start_at s.at) (tree.script _ (listed w.before) o) (start_begins s.at f) (ended_past m u.at (and_yes (at_end u.at) _ e).0 (front_ahead h)) (λ i. both i h.before) refl)
     (λ _. meets_then _ (behind_front n w.list (entered recorded u)) _ (behind_front_reads m n w (entered recorded u) h) (λ xs v g.
-    node (span_at s.at) (tree.module_program _ (listed (w.before ++ xs)) o) f.begins g.place (λ i. both i (joined w.before xs h.before g.straight)) refl)))))
+    node (start_at s.at) (tree.module_program _ (listed (w.before ++ xs)) o) (start_begins s.at f) g.place (λ i. both i (joined w.before xs h.before g.straight)) refl)))))
     (λ p t h. h)
 
 -- ---- one item by itself
 
-begun_here : (recorded : List Fault) (s : State) → Here s.at → Here (begun_item recorded s).at
+pub begun_here : (recorded : List Fault) (s : State) → Here s.at → Here (begun_item recorded s).at
 unfolding begun_item
 begun_here recorded s f = by_word (begins_module s.at)
   where
@@ -166,7 +166,7 @@ begun_here recorded s f = by_word (begins_module s.at)
     by_word true = f
     by_word false = f
 
-begun_leading : (recorded : List Fault) (m : ℕ) (v : Leading) (s : State) → LeadingRead m v s.at → LeadingRead m v (begun_item recorded s).at
+pub begun_leading : (recorded : List Fault) (m : ℕ) (v : Leading) (s : State) → LeadingRead m v s.at → LeadingRead m v (begun_item recorded s).at
 unfolding begun_item
 begun_leading recorded m v s h = by_word (begins_module s.at)
   where
@@ -178,7 +178,7 @@ begun_reads : (m : ℕ) (recorded : List Fault) (p : Reader Tree) (s : State) �
 unfolding begun
 begun_reads m recorded p s h = meets_then _ (p (begun_item recorded s)) _ h (λ x t k. k)
 
-begun_far : (recorded : List Fault) (s : State) → (begun_item recorded s).at ≡ s.at
+pub begun_far : (recorded : List Fault) (s : State) → (begun_item recorded s).at ≡ s.at
 unfolding begun_item
 begun_far recorded s = by_word (begins_module s.at)
   where

@@ -1,3 +1,5 @@
 pub mod Imports
 pub mod Exports
 pub mod Entries
+pub mod Since
+pub mod Follows

@@ -1,7 +1,7 @@
 //! No span of what the reader of modules answers starts after its end: proofs alone.
 #![tactic(auto)]
 
-ghost use Rattle.swc_ecma_parser_module_forward.specs.Laws.{ModulesRunForward, ProgramsRunForward, ItemsRunForward};
+ghost use Rattle.swc_ecma_parser_module_forward.specs.Laws.{ModulesRunForward, ProgramsRunForward, ItemsRunForward, ModulesFollow, ProgramsFollow, ItemsFollow};
 
 /// A law: of tokens that stand one behind another, each span of a module, a program or an item of a module runs forward, whatever is
 /// recorded.
@@ -9,4 +9,11 @@ pub fn runs_forward()
     ensures modules { ModulesRunForward }
     ensures programs { ProgramsRunForward }
     ensures items { ItemsRunForward }
+{}
+
+/// A law: of such tokens a module, a program or an item stands on what was read, and the items of a whole stand one behind another.
+pub fn items_follow()
+    ensures modules { ModulesFollow }
+    ensures programs { ProgramsFollow }
+    ensures items { ItemsFollow }
 {}

@@ -13,7 +13,7 @@ use swc_ecma_parser_core::grammar::{leading, stmt_behind};
 use swc_ecma_parser_core::script::whole_stmt;
 use swc_ecma_parser_error::PResult;
 use swc_ecma_parser_grammar::Position;
-use swc_ecma_parser_inner::steps::{grown, pushed, since};
+use swc_ecma_parser_inner::steps::{grown, pushed, since, whole_start};
 use swc_ecma_parser_input::Context;
 use swc_ecma_parser_members::decorators::{Leading, misplaced};
 use swc_ecma_parser_modules::imports::import_decl;
@@ -196,7 +196,7 @@ pub(crate) fn items<P: Source, T: BuildsStatements + BuildsExport + BuildsVarDec
 }
 
 /// A module, whose items may stand so many levels deep.
-#[tactic(auto, unfolding(swc_ecma_parser_module_reader::specs::Modules::module_body, swc_ecma_parser_grammar::specs::Looks::spanned))]
+#[tactic(auto, unfolding(swc_ecma_parser_module_reader::specs::Modules::module_body, swc_ecma_parser_grammar::specs::Looks::whole_span))]
 pub fn module_body<P: Source, T: BuildsStatements + BuildsExport + BuildsVarDecl>(
     t: &MakerOf<T>,
     p: &mut P,
@@ -205,7 +205,7 @@ pub fn module_body<P: Source, T: BuildsStatements + BuildsExport + BuildsVarDecl
     ensures gives { GivesAs T.module_of (modules.module_body limit (P.seen p.old)) result (P.seen p.new) }
     ensures outright { (P.seen p.old).at.left ≡ [] → IsOk result }
 {
-    let start = p.span();
+    let start = whole_start(p);
     let shebang = p.shebang()?;
     let body = items::<P, T>(t, p, limit)?;
     let span = since(p, start);

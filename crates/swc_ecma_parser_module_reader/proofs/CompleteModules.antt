@@ -9,7 +9,7 @@ use Rattle.swc_ecma_parser_model.specs.Kinds.{is_module_decl}
 use Rattle.swc_ecma_parser_model.specs.Tree as tree
 use Rattle.swc_ecma_parser_model.specs.Tree.{Tree, Text, listed, trees}
 use Rattle.swc_ecma_parser_grammar.specs.scaffold.Entries.{ReadsShebang, some_shebang, no_shebang}
-use Rattle.swc_ecma_parser_grammar.specs.Looks.{kind_at, sees, same_kind, spanned}
+use Rattle.swc_ecma_parser_grammar.specs.Looks.{kind_at, sees, same_kind, whole_span}
 use Rattle.swc_ecma_parser_grammar.specs.Names.{Code}
 use Rattle.swc_ecma_parser_grammar.specs.Notes.{notes, all_notes}
 use Rattle.swc_ecma_parser_grammar.specs.scaffold.ReadsSupported.{ReadsTop}
@@ -197,7 +197,7 @@ module _ (export_reads : (n : ℕ) (k : Code) (x : Tree) (c d : Place) → IsMod
 
   module_by : (n : ℕ) (s : State) (d : Place) (shebang : Option Text) (first : Place) (xs : List Tree) (awaits : Bool) → ShebangRule s.at first shebang
       → ModuleItemsRule (Reads n) (module_code s.code) true xs awaits first d → kind_at d ≡ kind.End → all_supported_items (trees xs) ≡ true → all_notes (trees xs) ≡ [] → OrderedFor (any_led (trees xs)) first
-      → let x : Tree = tree.module_program (spanned s.at d) (listed xs) shebang in module_whole n s ≡ Ok (x, module_left s x d awaits)
+      → let x : Tree = tree.module_program (whole_span s.at d) (listed xs) shebang in module_whole n s ≡ Ok (x, module_left s x d awaits)
   unfolding module_whole module_body
   module_by n s d shebang first xs awaits r rs e t q order =
       rw (
@@ -207,7 +207,7 @@ module _ (export_reads : (n : ℕ) (k : Code) (x : Tree) (c d : Place) → IsMod
 
   pub module_reads : (n : ℕ) (s : State) (x : Tree) (d : Place) (r : ReadsSupportedModule n s.code x s.at d) → module_whole n s ≡ Ok (x, module_left s x d r.0.0.awaits)
   module_reads n s x d (r, t, order) =
-      let y : Tree = tree.module_program (spanned s.at d) (listed r.0.items) r.0.shebang in
+      let y : Tree = tree.module_program (whole_span s.at d) (listed r.0.items) r.0.shebang in
       let e : x ≡ y = r.0.is in
       let q : notes x ≡ [] = r.1 (rw e refl) in
       subst (λ z. module_whole n s ≡ Ok (z, module_left s z d r.0.awaits)) (sym e)

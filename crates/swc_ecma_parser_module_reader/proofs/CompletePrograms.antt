@@ -10,7 +10,7 @@ use Rattle.swc_ecma_parser_model.specs.Kinds.{is_module_decl}
 use Rattle.swc_ecma_parser_model.specs.Tree as tree
 use Rattle.swc_ecma_parser_model.specs.Tree.{Tree, Text, listed, trees}
 use Rattle.swc_ecma_parser_grammar.specs.scaffold.Entries.{small_items_await}
-use Rattle.swc_ecma_parser_grammar.specs.Looks.{kind_at, spanned, sees, same_kind}
+use Rattle.swc_ecma_parser_grammar.specs.Looks.{kind_at, sees, same_kind, whole_span}
 use Rattle.swc_ecma_parser_grammar.specs.Names.{Code}
 use Rattle.swc_ecma_parser_grammar.specs.Notes.{notes, all_notes}
 use Rattle.swc_ecma_parser_grammar.specs.scaffold.Reads.{ReadsItems}
@@ -73,7 +73,7 @@ or_comm false b = sym (or_nil b)
 script_by : (n : ℕ) (recorded : List Fault) (s : State) (shebang : Option Text) (first d : Place) (xs : List Tree) → ShebangRule s.at first shebang
     → (r : ReadsItems (Item n) (program_code s.code) true xs first d) → kind_at d ≡ kind.End
     → (s.notes.found_module_item || (any_has_meta (trees xs) || small_items_await (Item n) (program_code s.code) true xs first d r)) ≡ false
-    → let x : Tree = tree.script (spanned s.at d) (listed xs) shebang in
+    → let x : Tree = tree.script (whole_span s.at d) (listed xs) shebang in
     program_whole n recorded s
     ≡ Ok ((x, []), program_left s x d (small_items_await (Item n) (program_code s.code) true xs first d r) (walks (env_of (program_code s.code) s.scope.labels) true (trees xs)) [] [])
 unfolding program_whole program_body as_script before_module
@@ -96,7 +96,7 @@ module_by : (n : ℕ) (recorded : List Fault) (s : State) (shebang : Option Text
     → before_module m ≡ true → is_error (kind_at m) ≡ false
     → (at_end m && not (s.notes.found_module_item || (any_has_meta (trees before) || small_items_await (Item n) (program_code s.code) true before first m r))) ≡ false
     → all_supported_items (trees behind) ≡ true → all_notes (trees before) ≡ [] → all_notes (trees behind) ≡ [] → OrderedFor (any_led (trees behind)) m
-    → let x : Tree = tree.module_program (spanned s.at d) (listed (before ++ behind)) shebang in
+    → let x : Tree = tree.module_program (whole_span s.at d) (listed (before ++ behind)) shebang in
     program_whole n recorded s ≡ Ok (
       (x, s.notes.held_back),
       program_left s x d (small_items_await (Item n) (program_code s.code) true before first m r || others)
@@ -132,7 +132,7 @@ code_may k directives (x ∷ xs) h = code_may (directed k directives x) (directs
 -- a module by what was read before it began and behind
 module_of : (n : ℕ) (recorded : List Fault) (s : State) (shebang : Option Text) (first : Place) (w : Front) (u : State) (ys : List Tree) (v : State) → ShebangRule s.at first shebang
     → front n (st first (program_code s.code) s.scope s.faults s.notes) ≡ Ok (w, u) → (at_end u.at && not u.notes.found_module_item) ≡ false → behind_front n w.list (entered recorded u) ≡ Ok (ys, v)
-    → program_whole n recorded s ≡ Ok ((tree.module_program (spanned s.at v.at) (listed (w.before ++ ys)) shebang, u.notes.held_back), flagged (module_code s.code) v)
+    → program_whole n recorded s ≡ Ok ((tree.module_program (whole_span s.at v.at) (listed (w.before ++ ys)) shebang, u.notes.held_back), flagged (module_code s.code) v)
 unfolding program_whole program_body as_module
 module_of n recorded s shebang first w u ys v o h g i =
     rw (shebang_reads shebang s.at first (program_code s.code) s.scope s.faults s.notes (shebang_as s.at first shebang o), h, g, i) refl
@@ -210,7 +210,7 @@ module _ (n : ℕ) (recorded : List Fault) (s : State) (shebang : Option Text) (
   same_code : ◌≡◌ {A = Code} j (in_module k1)
   same_code = entered_code k1 (code_may k0 true before refl)
 
-  led_read : program_whole (suc n) recorded s ≡ Ok ((tree.module_program (spanned s.at d) (listed (before ++ (y ∷ ys))) shebang, u.notes.held_back), flagged (module_code s.code) v)
+  led_read : program_whole (suc n) recorded s ≡ Ok ((tree.module_program (whole_span s.at d) (listed (before ++ (y ∷ ys))) shebang, u.notes.held_back), flagged (module_code s.code) v)
   led_read =
       let (list, any, read, behind) = led_reads n k1 j y m i l s.scope f1 h1 calm in
       let g = sign_goes m sign in
@@ -228,7 +228,7 @@ module _ (n : ℕ) (recorded : List Fault) (s : State) (shebang : Option Text) (
   none_held = ap (λ z. (s.notes.held_back ++ z) ++ notes l.list) p ∙ ap (λ z. (s.notes.held_back ++ []) ++ z) l.list_quiet ∙ append-nil (s.notes.held_back ++ []) ∙ append-nil s.notes.held_back
 
   abbrev whole_module : Tree
-  whole_module = tree.module_program (spanned s.at d) (listed (before ++ (y ∷ ys))) shebang
+  whole_module = tree.module_program (whole_span s.at d) (listed (before ++ (y ∷ ys))) shebang
 
   has_led_meta : ((notes_of l.list).found_module_item || (notes_of l.bare).found_module_item) ≡ has_meta y
   has_led_meta = ap {A = Notes} (λ z. z.found_module_item) l.noted
@@ -287,7 +287,7 @@ led_first : (n : ℕ) (recorded : List Fault) (s : State) (shebang : Option Text
     (t : all_supported_items (trees (before ++ y ∷ ys)) ≡ true) (q : all_notes (trees (before ++ y ∷ ys)) ≡ []) (order : OrderedFor (any_led (trees (y ∷ ys))) m) (declares : is_module_decl y ≡ true)
     (walked : walk_items (env_of (program_code s.code) s.scope.labels) true (trees (before ++ y ∷ ys))
     ≡ walks (env_of (program_code s.code) s.scope.labels) true (trees before) ++ walk_items (env_of (code_behind (program_code s.code) true before) s.scope.labels) true (trees (y ∷ ys)))
-    → SignThere (code_behind (program_code s.code) true before) m → Answer n recorded s (tree.module_program (spanned s.at d) (listed (before ++ y ∷ ys)) shebang) d awaits
+    → SignThere (code_behind (program_code s.code) true before) m → Answer n recorded s (tree.module_program (whole_span s.at d) (listed (before ++ y ∷ ys)) shebang) d awaits
 led_first zero recorded s shebang first d o ends m before y ys others awaits r z i more one rs f t q order declares walked sign = absurd one
 led_first (suc n) recorded s shebang first d o ends m before y ys others awaits r z i more (statement_rule b) rs f t q order declares walked sign = no_rule y declares (statement_told (Reads n) _ top_item y m i b.1)
 led_first (suc n) recorded s shebang first d o ends m before y ys others awaits r z i more (import_item_rule b) rs f t q order declares walked sign = no_import_sign m (import_seen n _ y m i b) sign.0
@@ -305,7 +305,7 @@ led_first (suc n) recorded s shebang first d o ends m before y ys others awaits 
     let left = led_left n recorded s shebang first m d before y ys more o r i rest ends c.1 w.0 g.1 after_first sign.0 sign.1 l calm in
     let held = none_held n recorded s shebang first m d before y ys more o r i rest ends c.1 w.0 g.1 after_first sign.0 sign.1 l calm in
     let a = small_items_await (Item (suc n)) (program_code s.code) true before first m r in
-    let x : Tree = tree.module_program (spanned s.at d) (listed (before ++ y ∷ ys)) shebang in
+    let x : Tree = tree.module_program (whole_span s.at d) (listed (before ++ y ∷ ys)) shebang in
     let same : awaits ≡ (a || more) = z ∙ ap (λ v. a || v) (f ∙ ap (λ v. (not v && sees kind.Await m) || more) declares) in
     let fl = walk (env_of kb s.scope.labels) l.list in
     let fb = walk (env_of (module_code kb) s.scope.labels) l.bare in
@@ -322,11 +322,11 @@ led_first (suc n) recorded s shebang first d o ends m before y ys others awaits 
 module _ (n : ℕ) (recorded : List Fault) (s : State) (shebang : Option Text) (first d : Place) (o : ShebangRule s.at first shebang) (ends : kind_at d ≡ kind.End) where
   script_case : (m : Place) (xs : List Tree) (awaits : Bool) → d ≡ m → (r : ReadsItems (Item n) (program_code s.code) true xs first m) → awaits ≡ small_items_await (Item n) (program_code s.code) true xs first m r
       → (s.notes.found_module_item || (any_has_meta (trees xs) || small_items_await (Item n) (program_code s.code) true xs first m r)) ≡ false
-      → Answer n recorded s (tree.script (spanned s.at d) (listed xs) shebang) d awaits
+      → Answer n recorded s (tree.script (whole_span s.at d) (listed xs) shebang) d awaits
   script_case m xs awaits i r z g =
       let fs = walks (env_of (program_code s.code) s.scope.labels) true (trees xs) in
-      subst (λ v. Answer n recorded s (tree.script (spanned s.at v) (listed xs) shebang) v awaits) (sym i)
-      (subst (λ b. Answer n recorded s (tree.script (spanned s.at m) (listed xs) shebang) m b) (sym z)
+      subst (λ v. Answer n recorded s (tree.script (whole_span s.at v) (listed xs) shebang) v awaits) (sym i)
+      (subst (λ b. Answer n recorded s (tree.script (whole_span s.at m) (listed xs) shebang) m b) (sym z)
       (fs, [], append-nil fs, script_by n recorded s shebang first m xs o r (sym (ap kind_at i) ∙ ends) g))
 
   module_case : (m : Place) (before behind : List Tree) (others awaits : Bool) (r : ReadsItems (Item n) (program_code s.code) true before first m)
@@ -336,10 +336,10 @@ module _ (n : ℕ) (recorded : List Fault) (s : State) (shebang : Option Text) (
       → all_supported_items (trees (before ++ behind)) ≡ true → all_notes (trees (before ++ behind)) ≡ [] → OrderedFor (any_led (trees behind)) m
       → walk_items (env_of (program_code s.code) s.scope.labels) true (trees (before ++ behind))
       ≡ walks (env_of (program_code s.code) s.scope.labels) true (trees before) ++ walk_items (env_of (module_code (code_behind (program_code s.code) true before)) s.scope.labels) true (trees behind)
-      → Answer n recorded s (tree.module_program (spanned s.at d) (listed (before ++ behind)) shebang) d awaits
+      → Answer n recorded s (tree.module_program (whole_span s.at d) (listed (before ++ behind)) shebang) d awaits
   module_case m before behind others awaits r z rs b v g t q order walked =
       let u = nil-split (all_notes (trees before)) (all_notes (trees behind)) (sym (notes_joined before behind) ∙ q) in
-      subst (λ b. Answer n recorded s (tree.module_program (spanned s.at d) (listed (before ++ behind)) shebang) d b) (sym z) (
+      subst (λ b. Answer n recorded s (tree.module_program (whole_span s.at d) (listed (before ++ behind)) shebang) d b) (sym z) (
         walks (env_of (program_code s.code) s.scope.labels) true (trees before),
         walk_items (env_of (module_code (code_behind (program_code s.code) true before)) s.scope.labels) true (trees behind),
         sym walked,
@@ -365,7 +365,7 @@ module _ (n : ℕ) (recorded : List Fault) (s : State) (shebang : Option Text) (
     first_order : OrderedFor (is_led y) m
     first_order h = order (ap (λ b. b || any_led (trees ys)) h)
 
-    plain_first : WordThere m → Answer n recorded s (tree.module_program (spanned s.at d) (listed (before ++ y ∷ ys)) shebang) d awaits
+    plain_first : WordThere m → Answer n recorded s (tree.module_program (whole_span s.at d) (listed (before ++ y ∷ ys)) shebang) d awaits
     plain_first there =
         let off = no_sign m there.0 in
         module_case m before (y ∷ ys) others awaits r z (
@@ -386,11 +386,11 @@ module _ (n : ℕ) (recorded : List Fault) (s : State) (shebang : Option Text) (
       → walk_items (env_of (program_code s.code) s.scope.labels) true (trees (before ++ behind))
       ≡ walks (env_of (program_code s.code) s.scope.labels) true (trees before) ++ walk_items (env_of (code_behind (program_code s.code) true before) s.scope.labels) true (trees behind)
       → (s.notes.found_module_item || is_module_body (before ++ behind) awaits) ≡ w
-      → Answer n recorded s (whole w (spanned s.at d) (listed (before ++ behind)) shebang) d awaits
+      → Answer n recorded s (whole w (whole_span s.at d) (listed (before ++ behind)) shebang) d awaits
   by_parts false m before [] others awaits r z (i, f) plain begins t q order walked w =
       let a = small_items_await (Item n) (program_code s.code) true before first m r in
       let y : awaits ≡ a = z ∙ ap (λ v. a || v) f ∙ or_nil a in
-      subst (λ ys. Answer n recorded s (tree.script (spanned s.at d) (listed ys) shebang) d awaits) (sym (append-nil before))
+      subst (λ ys. Answer n recorded s (tree.script (whole_span s.at d) (listed ys) shebang) d awaits) (sym (append-nil before))
       (script_case m before awaits i r y (sym (alone before a awaits s.notes.found_module_item plain y) ∙ w))
   by_parts true m before [] others awaits r z (i, f) plain begins t q order walked w =
       let a = small_items_await (Item n) (program_code s.code) true before first m r in
@@ -405,10 +405,10 @@ module _ (n : ℕ) (recorded : List Fault) (s : State) (shebang : Option Text) (
 
   by_items : (w : Bool) (xs : List Tree) (awaits : Bool) → ModuleItemsRule (Reads n) (program_code s.code) true xs awaits first d → all_supported_items (trees xs) ≡ true
       → ((program_code s.code).flags.«module» ≡ true → all_notes (trees xs) ≡ []) → (w ≡ true → all_notes (trees xs) ≡ []) → OrderedFor (any_led (trees xs)) first → (s.notes.found_module_item || is_module_body xs awaits) ≡ w
-      → Answer n recorded s (whole w (spanned s.at d) (listed xs) shebang) d awaits
+      → Answer n recorded s (whole w (whole_span s.at d) (listed xs) shebang) d awaits
   by_items w xs awaits r t p q order g =
       let a : Parts n (program_code s.code) true xs awaits first d = parts n (program_code s.code) true xs awaits first d r t p in
-      subst (λ ys. Answer n recorded s (whole w (spanned s.at d) (listed ys) shebang) d awaits) (sym a.is)
+      subst (λ ys. Answer n recorded s (whole w (whole_span s.at d) (listed ys) shebang) d awaits) (sym a.is)
       (by_parts w a.middle a.before a.behind a.others awaits a.reads_before a.awaited a.reads_behind a.plain a.begins
       (ap (λ ys. all_supported_items (trees ys)) (sym a.is) ∙ t) (λ h. ap (λ ys. all_notes (trees ys)) (sym a.is) ∙ q h)
       (λ h. a.ordered (order (ap (λ ys. any_led (trees ys)) a.is ∙ led_behind a.before a.behind h)))
@@ -434,10 +434,10 @@ pub program_reads : (n : ℕ) (s : State) (x : Tree) (d : Place) (r : ReadsSuppo
     × (program_whole n recorded s ≡ Ok ((x, if is_module_program x then s.notes.held_back else []), program_left s x d r.0.0.awaits before (if is_module_program x then recorded else []) behind))
 program_reads n s x d (r, t, order) recorded =
     let w = s.notes.found_module_item || is_module_body r.0.items r.0.awaits in
-    let y : Tree = whole w (spanned s.at d) (listed r.0.items) r.0.shebang in
+    let y : Tree = whole w (whole_span s.at d) (listed r.0.items) r.0.shebang in
     let e : x ≡ y = r.0.is in
-    let q = whole_unnoted w (program_code s.code) (spanned s.at d) r.0.items r.0.shebang (subst (λ z. is_module_code (program_code s.code) z ≡ true → notes z ≡ []) e r.1) in
+    let q = whole_unnoted w (program_code s.code) (whole_span s.at d) r.0.items r.0.shebang (subst (λ z. is_module_code (program_code s.code) z ≡ true → notes z ≡ []) e r.1) in
     subst (λ z. Answer n recorded s z d r.0.awaits) (sym e)
     (by_items n recorded s r.0.shebang r.0.first d r.0.reads_shebang r.0.to_the_end w r.0.items r.0.awaits r.0.reads_items
-    (whole_supported w (spanned s.at d) r.0.items r.0.shebang (sym (ap supported_program e) ∙ t)) q.0 q.1
-    (λ h. ordered_first_line s.at r.0.first r.0.shebang r.0.reads_shebang (order (ap any_led_in e ∙ whole_led w (spanned s.at d) r.0.items r.0.shebang ∙ h))) refl)
+    (whole_supported w (whole_span s.at d) r.0.items r.0.shebang (sym (ap supported_program e) ∙ t)) q.0 q.1
+    (λ h. ordered_first_line s.at r.0.first r.0.shebang r.0.reads_shebang (order (ap any_led_in e ∙ whole_led w (whole_span s.at d) r.0.items r.0.shebang ∙ h))) refl)

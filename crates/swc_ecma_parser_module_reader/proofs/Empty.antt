@@ -5,7 +5,7 @@ use Rattle.swc_ecma_parser_input.specs.Place.{Place}
 use Rattle.swc_ecma_parser_model.specs.Tree as tree
 use Rattle.swc_ecma_parser_model.specs.Tree.{listed}
 use Rattle.swc_ecma_parser_grammar.specs.scaffold.Entries.{no_shebang}
-use Rattle.swc_ecma_parser_grammar.specs.Looks.{sees, same_kind, spanned}
+use Rattle.swc_ecma_parser_grammar.specs.Looks.{sees, same_kind, whole_span}
 use Rattle.swc_ecma_parser_reader.specs.Reader.{items, at_end}
 use Rattle.swc_ecma_parser_reader.specs.State.{State, coded}
 use Rattle.swc_ecma_parser_reader.proofs.CompleteParts.{at_end_at, shebang_reads}
@@ -17,7 +17,7 @@ pub no_shebang_there : (c : Place) → c.left ≡ [] → sees kind.Shebang c ≡
 unfolding same_kind
 no_shebang_there c e = rw (ended c e) refl
 
-pub module_of_nothing : (n : ℕ) (s : State) → s.at.left ≡ [] → module_whole n s ≡ Ok (tree.module_program (spanned s.at s.at) (listed []) None, coded (module_code s.code) s)
+pub module_of_nothing : (n : ℕ) (s : State) → s.at.left ≡ [] → module_whole n s ≡ Ok (tree.module_program (whole_span s.at s.at) (listed []) None, coded (module_code s.code) s)
 unfolding module_whole module_body items
 module_of_nothing n s e =
     rw (

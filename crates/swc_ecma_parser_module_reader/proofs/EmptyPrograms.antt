@@ -6,7 +6,7 @@ use Rattle.swc_ecma_parser_input.specs.Place.{Place}
 use Rattle.swc_ecma_parser_model.specs.Tree as tree
 use Rattle.swc_ecma_parser_model.specs.Tree.{Tree, listed}
 use Rattle.swc_ecma_parser_grammar.specs.scaffold.Entries.{no_shebang}
-use Rattle.swc_ecma_parser_grammar.specs.Looks.{spanned, span_at}
+use Rattle.swc_ecma_parser_grammar.specs.Looks.{span_at, whole_span}
 use Rattle.swc_ecma_parser_reader.specs.Reader.{items, at_end}
 use Rattle.swc_ecma_parser_reader.specs.State.{State, coded}
 use Rattle.swc_ecma_parser_reader.proofs.CompleteParts.{at_end_at, shebang_reads}
@@ -54,7 +54,7 @@ none_mapped f (x ∷ xs) h = cc
 
 -- a script without statements, and the state as before
 pub script_of_nothing : (n : ℕ) (recorded : List Fault) (s : State) → s.at.left ≡ [] → s.notes.found_module_item ≡ false
-    → program_whole n recorded s ≡ Ok ((tree.script (spanned s.at s.at) (listed []) None, []), s)
+    → program_whole n recorded s ≡ Ok ((tree.script (whole_span s.at s.at) (listed []) None, []), s)
 unfolding program_whole program_body as_script
 script_of_nothing n recorded s e g =
     rw (
@@ -66,7 +66,7 @@ script_of_nothing n recorded s e g =
 
 -- a module without items, where module code begins
 pub module_program_of_nothing : (n : ℕ) (recorded : List Fault) (s : State) → s.at.left ≡ [] → s.notes.found_module_item ≡ true
-    → program_whole n recorded s ≡ Ok ((tree.module_program (spanned s.at s.at) (listed []) None, s.notes.held_back), entered recorded s)
+    → program_whole n recorded s ≡ Ok ((tree.module_program (whole_span s.at s.at) (listed []) None, s.notes.held_back), entered recorded s)
 unfolding program_whole program_body as_module
 module_program_of_nothing n recorded s e g =
     rw (

@@ -5,7 +5,7 @@ use Rattle.swc_ecma_parser_error.specs.declared.error.Error.{Error}
 use Rattle.swc_ecma_parser_error.specs.Kind.{Fault, fault_of, kind_of, OutOfMemory}
 use Rattle.swc_ecma_parser_model.specs.Tree as tree
 use Rattle.swc_ecma_parser_model.specs.Tree.{Tree, Text, listed}
-use Rattle.swc_ecma_parser_grammar.specs.Looks.{spanned}
+use Rattle.swc_ecma_parser_grammar.specs.Looks.{whole_span}
 use Rattle.swc_ecma_parser_grammar.specs.Names.{Code}
 use Rattle.swc_ecma_parser_grammar.specs.Notes.{as_note}
 use Rattle.swc_ecma_parser_grammar.specs.language.Items.{directed, top_item}
@@ -92,14 +92,14 @@ module _ (n : ℕ) (recorded : List Fault) (s : State) where
 
     module _ (front_read : Front) (u : State) (g : front n t ≡ Ok (front_read, u)) where
       -- it is a script
-      pub is_script : at_end u.at && not u.notes.found_module_item ≡ true → program_body n recorded s ≡ Ok ((tree.script (spanned s.at u.at) (listed front_read.before) first, []), u)
+      pub is_script : at_end u.at && not u.notes.found_module_item ≡ true → program_body n recorded s ≡ Ok ((tree.script (whole_span s.at u.at) (listed front_read.before) first, []), u)
       unfolding program_body as_script
       is_script e = rw (h, g, e) refl
 
       module _ (e : at_end u.at && not u.notes.found_module_item ≡ false) where
         -- it is a module
         pub is_module : (behind : List Tree) (v : State) → behind_front n front_read.list (entered recorded u) ≡ Ok (behind, v)
-            → program_body n recorded s ≡ Ok ((tree.module_program (spanned s.at v.at) (listed (front_read.before ++ behind)) first, u.notes.held_back), v)
+            → program_body n recorded s ≡ Ok ((tree.module_program (whole_span s.at v.at) (listed (front_read.before ++ behind)) first, u.notes.held_back), v)
         unfolding program_body as_module
         is_module behind v k = rw (h, g, e, k) refl
 
@@ -142,7 +142,7 @@ module _ (X : Type 0) (view : X → Tree) (n : ℕ) (s : State) where
     answers_before e u g = λ m. ([], u, whole_refused n [] s _ (refused_before n [] begun first t h _ (g m)), set_back_self u)
 
     module _ (front_read : Front) (u : State) (g : front n t ≡ Ok (front_read, u)) where
-      pub answers_script : at_end u.at && not u.notes.found_module_item ≡ true → (x : X) → view x ≡ tree.script (spanned s.at u.at) (listed front_read.before) first
+      pub answers_script : at_end u.at && not u.notes.found_module_item ≡ true → (x : X) → view x ≡ tree.script (whole_span s.at u.at) (listed front_read.before) first
           → AnswersProgram view n s (Ok x) (flagged s.code u)
       answers_script e x is = ([], whole_read n [] s _ u (is_script n [] begun first t h front_read u g e) ∙ ap {A = Tree} {B = Outcome (Tree × List Fault)} (λ y. Ok ((y, []), flagged s.code u)) (sym is))
 
@@ -156,15 +156,15 @@ module _ (X : Type 0) (view : X → Tree) (n : ℕ) (s : State) where
             (behind, rw is k, joins)
         behind_read (Err p) k all w i = let j : items_from n front_read v ≡ Err p = rw (enters, k) refl in cc
 
-        pub answers_module : (all : List Tree) (w : State) → items_from n front_read v ≡ Ok (all, w) → (x : X) → view x ≡ tree.module_program (spanned s.at w.at) (listed all) first
+        pub answers_module : (all : List Tree) (w : State) → items_from n front_read v ≡ Ok (all, w) → (x : X) → view x ≡ tree.module_program (whole_span s.at w.at) (listed all) first
             → AnswersProgram view n s (Ok x) w
         answers_module all w i x is =
             let (behind, k, joins) = behind_read (behind_front n front_read.list (entered recorded u)) refl all w i in (
               recorded,
               whole_read n recorded s _ w (is_module n recorded begun first t h front_read u g e behind w k)
-                  ∙ ap {A = State} {B = Outcome (Tree × List Fault)} (λ z. Ok ((tree.module_program (spanned s.at w.at) (listed (front_read.before ++ behind)) first, u.notes.held_back), z))
+                  ∙ ap {A = State} {B = Outcome (Tree × List Fault)} (λ z. Ok ((tree.module_program (whole_span s.at w.at) (listed (front_read.before ++ behind)) first, u.notes.held_back), z))
                   (flagged_same (module_code s.code) w (behind_code n begun first t h front_read u g refl recorded behind w k))
-                  ∙ ap {A = Tree} {B = Outcome (Tree × List Fault)} (λ y. Ok ((y, u.notes.held_back), w)) (ap (λ z. tree.module_program (spanned s.at w.at) (listed z) first) (sym joins) ∙ sym is)
+                  ∙ ap {A = Tree} {B = Outcome (Tree × List Fault)} (λ y. Ok ((y, u.notes.held_back), w)) (ap (λ z. tree.module_program (whole_span s.at w.at) (listed z) first) (sym joins) ∙ sym is)
                   ∙ ap {A = List Fault} {B = Outcome (Tree × List Fault)} (λ z. Ok ((view x, z), w)) (sym noted),
             )
 

@@ -19,7 +19,7 @@ use Rattle.swc_ecma_parser_input.specs.Place.{Place}
 use Rattle.swc_ecma_parser_model.specs.Kinds.{is_module_decl}
 use Rattle.swc_ecma_parser_model.specs.Tree as tree
 use Rattle.swc_ecma_parser_model.specs.Tree.{Tree, Text, listed, trees}
-use Rattle.swc_ecma_parser_grammar.specs.Looks.{kind_at, sees, same_kind, spanned}
+use Rattle.swc_ecma_parser_grammar.specs.Looks.{kind_at, sees, same_kind, whole_span}
 use Rattle.swc_ecma_parser_grammar.specs.Names.{Code}
 use Rattle.swc_ecma_parser_grammar.specs.Notes.{notes, all_notes}
 use Rattle.swc_ecma_parser_grammar.specs.scaffold.ReadsSupported.{ReadsTop}
@@ -270,7 +270,7 @@ record ReadsBody (n : ℕ) (b : Bool) (x : Tree) (k : Code) (c d : Place) : Type
   body : List Tree
   reads_line : ShebangRule c first line
   reads_body : ReadsModuleItems n b body k first d
-  is : x ≡ tree.module_program (spanned c d) (listed body) line
+  is : x ≡ tree.module_program (whole_span c d) (listed body) line
 
 abbrev SoundBody : ℕ → State → Tree → State → Type 0
 SoundBody n s x t = (b : Bool) × Sound same (λ k l. walk (env_of k l) x) (notes_with x b) (ReadsBody n b x) s t × (kind_at t.at ≡ kind.End)

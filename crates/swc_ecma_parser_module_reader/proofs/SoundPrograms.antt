@@ -10,7 +10,7 @@ use Rattle.swc_ecma_parser_input.specs.Place.{Place}
 use Rattle.swc_ecma_parser_model.specs.Kinds.{is_module_decl}
 use Rattle.swc_ecma_parser_model.specs.Tree as tree
 use Rattle.swc_ecma_parser_model.specs.Tree.{Tree, Text, listed, trees}
-use Rattle.swc_ecma_parser_grammar.specs.Looks.{kind_at, sees, same_kind, spanned}
+use Rattle.swc_ecma_parser_grammar.specs.Looks.{kind_at, sees, same_kind, whole_span}
 use Rattle.swc_ecma_parser_grammar.specs.Names.{Code}
 use Rattle.swc_ecma_parser_grammar.specs.Follows.{begins_import_expression}
 use Rattle.swc_ecma_parser_grammar.specs.Notes.{notes, all_notes, as_note}
@@ -159,10 +159,10 @@ no_body false false false true e g = cc
 no_body false false false false e g = refl
 
 script_is : (n : ℕ) (s : State) (o : Option Text) (b : Bool) (xs : List Tree) (t : State) → SoundFront n (begun s) o b xs t → any_module_decl (trees xs) ≡ false
-    → at_end t.at ≡ true → t.notes.found_module_item ≡ false → SoundProgram n s (tree.script (spanned s.at t.at) (listed xs) o) (flagged s.code t)
+    → at_end t.at ≡ true → t.notes.found_module_item ≡ false → SoundProgram n s (tree.script (whole_span s.at t.at) (listed xs) o) (flagged s.code t)
 script_is n s o b xs t p stated ends found =
     let e = at_end_seen t.at ends in
-    let x = tree.script (spanned s.at t.at) (listed xs) o in
+    let x = tree.script (whole_span s.at t.at) (listed xs) o in
     let plain : (es : List Fault) → es ++ [] ≡ [] → es ≡ [] = λ es h. sym (append-nil es) ∙ h in
     let f = s.notes.found_module_item in
     let is_none : (f || is_module_body xs b) ≡ false = no_body f (list_any is_module_decl xs) (list_any has_meta xs) b (declarations_listed xs ∙ stated)
@@ -177,7 +177,7 @@ script_is n s o b xs t p stated ends found =
           (subst (λ zs. ModuleItemsRule (Reads n) (program_code s.code) true zs (b || false) r.0 t.at) (append-nil xs)
           (items_joined n (program_code s.code) true xs [] b false r.0 t.at t.at r.2.0 r.2.1 (refl, refl) tt));
       to_the_end = e;
-      is = ap (λ z. whole z (spanned s.at t.at) (listed xs) o) (sym is_none);
+      is = ap (λ z. whole z (whole_span s.at t.at) (listed xs) o) (sym is_none);
     } in
     record {
       code = flags_back s.code t.code (ap (λ k. k.setting) p.code ∙ code_setting (program_code s.code) true xs);
@@ -235,7 +235,7 @@ module _ (n : ℕ) (s : State) (o : Option Text) (recorded entering : List Fault
   k1 = code_after k0 true xs
 
   abbrev the_module : Tree
-  the_module = tree.module_program (spanned s.at t.at) (listed (xs ++ ys)) o
+  the_module = tree.module_program (whole_span s.at t.at) (listed (xs ++ ys)) o
 
   the_end : kind_at t.at ≡ kind.End
   the_end = at_end_seen t.at ends
@@ -287,7 +287,7 @@ module _ (n : ℕ) (s : State) (o : Option Text) (recorded entering : List Fault
     reads_shebang = r.1;
     reads_items = items_joined n k0 true xs ys b c r.0 m.at t.at r.2.0 r.2.1 (subst (λ j. ModuleItemsRule (Reads n) j true ys c m.at t.at) p.code (q.reads g).0) q.leads;
     to_the_end = the_end;
-    is = ap (λ v. whole v (spanned s.at t.at) (listed (xs ++ ys)) o) (sym is_module);
+    is = ap (λ v. whole v (whole_span s.at t.at) (listed (xs ++ ys)) o) (sym is_module);
   }
 
   module_is : SoundProgram n s the_module (flagged (module_code s.code) t)
@@ -361,7 +361,7 @@ module _ (n : ℕ) (recorded : List Fault) (s : State) where
     module_answered : HeldBehind s m → (u : State) (w : Front) → w.before ≡ xs → Meets (Behind u.notes.held_back) (behind_front n w.list (entered recorded u)) → Meets Body (as_module n recorded s.at w o u)
     unfolding as_module
     module_answered held u w is h = meets_then {P = Behind u.notes.held_back} _ (behind_front n w.list (entered recorded u)) _ h (λ ys t (c, q, turned, ends).
-        subst (λ zs. Body (tree.module_program (spanned s.at t.at) (listed (zs ++ ys)) o, u.notes.held_back) t) (sym is) (
+        subst (λ zs. Body (tree.module_program (whole_span s.at t.at) (listed (zs ++ ys)) o, u.notes.held_back) t) (sym is) (
           λ noted_as. module_is n s o recorded u.notes.held_back b xs m p stated held noted_as c ys t q turned ends,
           p.remembers (q.remembers (ap has_out_of_memory_token (nothing_at_end t.at (at_end_seen t.at ends)))),
         ))

@@ -13,7 +13,7 @@ use Rattle.swc_ecma_parser_reader.specs.DecoratedStatements.{stmt_behind}
 use Rattle.swc_ecma_parser_reader.specs.DecoratorLevels.{decorated_in}
 use Rattle.swc_ecma_parser_reader.specs.Decorators.{Leading, leading, misplaced}
 use Rattle.swc_ecma_parser_reader.specs.Reader.{expr, pattern, member, stmt, parameters, object_alone, items, at_end, whole_stmt, shebang, plain_stmt}
-use Rattle.swc_ecma_parser_reader.specs.State.{Reader, ◌>>=◌, pure, here, spanned_from, coded, flagged, too_deep, ◌>>◌}
+use Rattle.swc_ecma_parser_reader.specs.State.{Reader, ◌>>=◌, pure, here, whole_from, coded, flagged, too_deep, ◌>>◌}
 use Rattle.swc_ecma_parser_module_reader.specs.Imports.{import_decl}
 use Rattle.swc_ecma_parser_module_reader.specs.Decorated.{begins_decorators, export_item, export_with}
 
@@ -66,7 +66,7 @@ module_body n = do
   start ← here
   first ← shebang
   body ← items (module_item n) at_end true
-  span ← spanned_from start
+  span ← whole_from start
   pure (tree.module_program span (listed body) first)
 
 unfoldable pub module_whole : ℕ → Reader Tree

@@ -10,7 +10,7 @@ use Rattle.swc_ecma_parser_grammar.specs.Names.{Code}
 use Rattle.swc_ecma_parser_grammar.specs.language.Items.{directed, top_item}
 use Rattle.swc_ecma_parser_grammar.specs.language.Programs.{entry_code, program, code_behind}
 use Rattle.swc_ecma_parser_reader.specs.Reader.{items, at_end, whole_stmt, shebang, directs, items_turn, plain_stmt}
-use Rattle.swc_ecma_parser_reader.specs.State.{State, Reader, ◌>>=◌, ◌>>◌, pure, here, spanned_from, coded, flagged, too_deep, Step, More, Done, loop}
+use Rattle.swc_ecma_parser_reader.specs.State.{State, Reader, ◌>>=◌, ◌>>◌, pure, here, whole_from, coded, flagged, too_deep, Step, More, Done, loop}
 use Rattle.swc_ecma_parser_module_reader.specs.Modules.{begins_import, module_code, module_item, item_behind}
 use Rattle.swc_ecma_parser_reader.specs.DecoratedStatements.{stmt_behind}
 use Rattle.swc_ecma_parser_reader.specs.DecoratorLevels.{decorated_in}
@@ -86,14 +86,14 @@ items_from n w = do
 
 unfoldable pub as_script : Place → List Tree → Option Text → Reader (Tree × List Fault)
 as_script start body first = do
-  span ← spanned_from start
+  span ← whole_from start
   pure (tree.script span (listed body) first, [])
 
 unfoldable pub as_module : ℕ → List Fault → Place → Front → Option Text → Reader (Tree × List Fault)
 as_module n recorded start w first = λ s. (do
   enter recorded
   behind ← behind_front n w.list
-  span ← spanned_from start
+  span ← whole_from start
   pure (tree.module_program span (listed (w.before ++ behind)) first, s.notes.held_back)) s
 
 -- Statements up to an import, an export or the end; a script where the end comes first and nothing was read that makes it a module.

@@ -24,7 +24,7 @@ use Rattle.swc_ecma_parser_model.specs.Tree as tree
 use Rattle.swc_ecma_parser_model.specs.Tree.{Tree, Text, listed, trees}
 use Rattle.swc_ecma_parser_model.specs.Directive.{is_use_strict}
 use Rattle.swc_ecma_parser_grammar.specs.declared.position.Position.{Position}
-use Rattle.swc_ecma_parser_grammar.specs.Looks.{kind_at, sees, same_kind, span_at, spanned}
+use Rattle.swc_ecma_parser_grammar.specs.Looks.{kind_at, sees, same_kind, span_at, whole_span}
 use Rattle.swc_ecma_parser_grammar.specs.Names.{Code}
 use Rattle.swc_ecma_parser_grammar.specs.scaffold.Reads.{ReadsItems}
 use Rattle.swc_ecma_parser_grammar.specs.scaffold.ReadsSupported.{ReadsStmt, ReadsTop}
@@ -321,7 +321,7 @@ record ReadsBody (n : ℕ) (awaits : Bool) (x : Tree) (k : Code) (c d : Place) :
   reads_shebang : ReadsShebang c first shebang
   items : List Tree
   reads_items : ReadsTops n awaits items k first d
-  is : x ≡ tree.script (spanned c d) (listed items) shebang
+  is : x ≡ tree.script (whole_span c d) (listed items) shebang
 
 -- on its tokens, and ends where the list does
 abbrev SoundBody : ℕ → State → Tree → State → Type 0

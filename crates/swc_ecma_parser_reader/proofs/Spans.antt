@@ -37,6 +37,8 @@ use Rattle.swc_ecma_parser_reader.specs.Methods.{star}
 use Rattle.swc_ecma_parser_reader.specs.Expressions.{Cover}
 use Rattle.swc_ecma_parser_reader.specs.Reader as reader
 use Rattle.swc_ecma_parser_reader.specs.Reader.{decorated_in, told, named, items, closes, close, declarators, declaration_end, stray, link, link_from, condition, alternative, head, clauses, target, unbroken, uncontinued, operand, braced, handler, finalizer, handled, optional_end, note_with, await_here, unless_awaited, Opening, as_init, as_left, opening, head_part, misdeclared, misdirected, labelled_body, relabels, no_label, note_statement, empty, debugger, variables, block, block_from, stmt_end, expr_stmt, expr_stmt_at, import_stmt_at, thrown, throw, while_stmt, with_stmt, do_while, for_parts, for_in, for_of, for_behind, for_stmt, goes_on, links, if_stmt, break_stmt, continue_stmt, returned, return_stmt, misplaced, begins_label, labeled_stmt, other_stmt, switch_stmt, try_stmt, function_word, function_body, function_parts, function_decl, function_stmt, const_stmt, let_stmt, async_or_other, stmt_by, stmt_level, stmt, top_await_fault, top_await, whole_stmt, expr, head_cover, pattern, member, misusing, using_from, using_stmt, using_or_other, await_using_stmt, plain_stmt}
+use Rattle.swc_ecma_parser_reader.specs.DecoratedStatements.{begins_declared, stmt_behind}
+use Rattle.swc_ecma_parser_reader.specs.Decorators.{Leading, leading}
 use Rattle.swc_ecma_parser_reader.specs.Entry.{last_span, are_errors, TakesSome, TakesErrors, Taken, is_stray, errors_behind, dropped_behind, StandsAt, IsBehind}
 use Rattle.swc_ecma_parser_reader.proofs.Takes.{Falls}
 use Rattle.swc_ecma_parser_reader.proofs.Falls.{stmt_falls, stmt_level_falls, expr_falls, pattern_falls, head_cover_falls, parameters_fall, member_falls, decorated_in_falls, declarators_fall}
@@ -47,7 +49,7 @@ use Rattle.swc_ecma_parser_reader.proofs.Words.{async_parts}
 use Rattle.swc_ecma_parser_reader.proofs.KeepsParts.{target_keeps}
 use Rattle.swc_ecma_parser_reader.proofs.Keeps.{loses_nothing, function_params_keep, function_body_keep, parameters_keep, stmt_keeps, level_keeps, head_cover_keeps, expr_keeps, member_keeps, operators_keep, pattern_keeps, decorated_in_keeps, declarators_keeps_all}
 use Rattle.swc_ecma_parser_reader.proofs.decorators.Declared.{declared_is_bare, first_declares}
-use Rattle.swc_ecma_parser_reader.proofs.decorators.Spans.{StandsPlainly, either_stands}
+use Rattle.swc_ecma_parser_reader.proofs.decorators.Spans.{StandsPlainly, stmt_behind_stands, leading_takes, either_stands}
 use Rattle.swc_ecma_parser_reader.proofs.SoundParts.{after_return_meets}
 use Rattle.swc_ecma_parser_reader.proofs.expressions.SoundSteps.{reject_meets, meets_as}
 use Rattle.swc_ecma_parser_reader.proofs.expressions.Keeps.{star_keeps}
@@ -515,6 +517,21 @@ unfolding stmt
 stmt_stands zero at s = too_deep_meets _ s
 stmt_stands (suc n) at s = either_stands (plain n at) at (plain_stands n at)
     (λ t h. first_declares (found n at) (reader.nests n) (rest n at) at t (λ x u. IsBare x) h (declared_is_bare (stmt n) (expr n) (pattern n) (head_cover n) (reader.parameters n) (member n) (reader.operators n) at t h)) (decorated_in n) (decorated_in_keeps n) (decorated_in_falls n) s
+
+-- ---- behind decorators that were read before it was known what they belong to
+
+module _ (n : ℕ) (at : Position) where
+  bare_there : (t : State) → begins_declared t.at ≡ true → Meets (λ x u. IsBare x) (plain n at at t)
+  bare_there t h = first_declares (found n at) (reader.nests n) (rest n at) at t (λ x u. IsBare x) h
+      (declared_is_bare (stmt n) (expr n) (pattern n) (head_cover n) (reader.parameters n) (member n) (reader.operators n) at t h)
+
+  -- these
+  pub leading_on_tokens : (s : State) → sees kind.At s.at && s.code.setting.decorators ≡ true → Meets (λ v t. TakesSome s.at t.at × (v.place ≡ spanned s.at t.at)) (leading (decorated_in n) s)
+  leading_on_tokens s h = leading_takes (plain n at) at (plain_stands n at) bare_there (decorated_in n) (decorated_in_keeps n) (decorated_in_falls n) s h
+
+  -- a statement behind them
+  pub behind_stands : (s m : State) (v : Leading) → kind_at s.at ≡ kind.At → TakesSome s.at m.at → v.place ≡ spanned s.at m.at → Meets (λ x t. StandsAt x s.at t.at) (stmt_behind (plain_stmt n) at v m)
+  behind_stands s m v h p e = stmt_behind_stands (plain n at) at (plain_stands n at) bare_there s m v h p e
 
 -- ---- of a statement that stands in no other
 

@@ -10,7 +10,7 @@ use Rattle.swc_ecma_parser_input.specs.Place.{Place}
 use Rattle.swc_ecma_parser_model.specs.Tree as tree
 use Rattle.swc_ecma_parser_model.specs.Tree.{Tree, Text, listed}
 use Rattle.swc_ecma_parser_model.specs.Forms.{span_of}
-use Rattle.swc_ecma_parser_grammar.specs.Looks.{kind_at, sees, same_kind, spanned, has_error_token}
+use Rattle.swc_ecma_parser_grammar.specs.Looks.{kind_at, sees, same_kind, spanned, has_error_token, whole_span}
 use Rattle.swc_ecma_parser_grammar.specs.Names.{Code}
 use Rattle.swc_ecma_parser_grammar.specs.scaffold.Supported.{supported}
 use Rattle.swc_ecma_parser_grammar.specs.language.Contexts.{script_code}
@@ -109,7 +109,7 @@ pub record StandsAsScript (x : Tree) (awaits : Bool) (c d : Place) : Type 0 wher
   pub items : List Tree
   pub reads_shebang : ShebangRule c first shebang
   pub stand : Stand items awaits first d
-  pub is : x ≡ tree.script (spanned c d) (listed items) shebang
+  pub is : x ≡ tree.script (whole_span c d) (listed items) shebang
 
 -- ---- a script
 

@@ -37,7 +37,7 @@ unfoldable pub use Rattle.swc_ecma_parser_reader.specs.Jumps.{told, target, unbr
 unfoldable pub use Rattle.swc_ecma_parser_reader.specs.Recovery.{any_token, behind_any, end_turn, up_to_end, no_end, declaration_end, is_sign, lacks_end, operators_on, stmt_end}
 unfoldable pub use Rattle.swc_ecma_parser_reader.specs.Using.{misusing, using_from, using_stmt, await_using_stmt, await_using_or}
 use Rattle.swc_ecma_parser_reader.specs.Patterns.{pattern_level, element_level, parameter_list}
-use Rattle.swc_ecma_parser_reader.specs.State.{Reader, ◌>>=◌, ◌>>◌, pure, here, span_here, since, skip, moved, spanned_from, coded, flagged, within, below_label, note_module_item, attempted, fault, fault_at, end_of, module_fault, wanted, too_deep, refuse, reject, refused, labelled, reference, expect, end, stuck, Step, More, Done, loop}
+use Rattle.swc_ecma_parser_reader.specs.State.{Reader, ◌>>=◌, ◌>>◌, pure, here, span_here, since, skip, moved, spanned_from, whole_from, coded, flagged, within, below_label, note_module_item, attempted, fault, fault_at, end_of, module_fault, wanted, too_deep, refuse, reject, refused, labelled, reference, expect, end, stuck, Step, More, Done, loop}
 
 -- ---- statements
 
@@ -776,7 +776,7 @@ script_body n = do
   start ← here
   first ← shebang
   body ← items (whole_stmt n top_item) at_end true
-  span ← spanned_from start
+  span ← whole_from start
   pure (tree.script span (listed body) first)
 
 unfoldable pub script : ℕ → Reader Tree

@@ -15,7 +15,7 @@ use Rattle.swc_ecma_parser_input.specs.declared.context.Context.{Context}
 use Rattle.swc_ecma_parser_input.specs.Place.{Place, after}
 use Rattle.swc_ecma_parser_model.specs.declared.leaves.Ident.{Ident}
 use Rattle.swc_ecma_parser_model.specs.Tree.{Text}
-use Rattle.swc_ecma_parser_grammar.specs.Looks.{sees, span_at, spanned}
+use Rattle.swc_ecma_parser_grammar.specs.Looks.{sees, span_at, spanned, whole_span}
 use Rattle.swc_ecma_parser_grammar.specs.Names.{Code, is_name, is_identifier, may_bind_await}
 use Rattle.swc_ecma_parser_grammar.specs.Ends.{can_end}
 use Rattle.swc_ecma_parser_grammar.specs.Follows.{word_at}
@@ -85,6 +85,10 @@ skip = λ s. Ok (tt, moved s)
 -- what was read since a place
 abbrev pub spanned_from : Place → Reader Span
 spanned_from c = λ s. Ok (spanned c s.at, s)
+
+-- the same of a whole
+abbrev pub whole_from : Place → Reader Span
+whole_from c = λ s. Ok (whole_span c s.at, s)
 
 abbrev pub coded : Code → State → State
 coded k s = record s { code = k }

@@ -9,7 +9,7 @@ use Rattle.swc_ecma_parser_model.specs.Tree as tree
 use Rattle.swc_ecma_parser_model.specs.Tree.{Tree, Text, listed}
 use Rattle.swc_ecma_parser_model.specs.Kinds.{is_module_decl}
 use Rattle.swc_ecma_parser_grammar.specs.declared.position.Position.{Position}
-use Rattle.swc_ecma_parser_grammar.specs.Looks.{kind_at, sees, spanned}
+use Rattle.swc_ecma_parser_grammar.specs.Looks.{kind_at, sees, whole_span}
 use Rattle.swc_ecma_parser_grammar.specs.Names.{Code}
 use Rattle.swc_ecma_parser_grammar.specs.Notes.{notes}
 use Rattle.swc_ecma_parser_grammar.specs.Walk.{walk, env_of}
@@ -52,7 +52,7 @@ pub record ScriptRule (In : Goal → Type 0) (k : Code) (x : Tree) (c d : Place)
   pub reads_shebang : ShebangRule c first shebang
   pub reads_items : ItemsRule In k true top_item items first d
   pub to_the_end : kind_at d ≡ kind.End
-  pub is : x ≡ tree.script (spanned c d) (listed items) shebang
+  pub is : x ≡ tree.script (whole_span c d) (listed items) shebang
 
 -- A program is a module where an import or an export stands in it, where a statement of its own begins with `await`, and where
 -- `import.meta` stands in it outside the bodies of functions.
@@ -72,7 +72,7 @@ pub record ModuleRule (In : Goal → Type 0) (is_certain : Bool) (k : Code) (x :
   pub reads_shebang : ShebangRule c first shebang
   pub reads_items : ModuleItemsRule In k true items awaits first d
   pub to_the_end : kind_at d ≡ kind.End
-  pub is : x ≡ whole (is_certain || is_module_body items awaits) (spanned c d) (listed items) shebang
+  pub is : x ≡ whole (is_certain || is_module_body items awaits) (whole_span c d) (listed items) shebang
 
 -- ---- entries
 

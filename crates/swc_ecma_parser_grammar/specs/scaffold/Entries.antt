@@ -6,7 +6,7 @@ use Rattle.swc_ecma_parser_token.specs.declared.token.Token.TheVariants as token
 use Rattle.swc_ecma_parser_input.specs.Place.{Place}
 use Rattle.swc_ecma_parser_model.specs.Tree as tree
 use Rattle.swc_ecma_parser_model.specs.Tree.{Tree, Text, listed}
-use Rattle.swc_ecma_parser_grammar.specs.Looks.{kind_at, sees, spanned}
+use Rattle.swc_ecma_parser_grammar.specs.Looks.{kind_at, sees, whole_span}
 use Rattle.swc_ecma_parser_grammar.specs.Names.{Code}
 use Rattle.swc_ecma_parser_grammar.specs.scaffold.Reads.{ReadsItems}
 use Rattle.swc_ecma_parser_grammar.specs.language.Contexts.{script_code}
@@ -32,7 +32,7 @@ pub record ReadsScript (n : ℕ) (k : Code) (x : Tree) (c d : Place) : Type 0 wh
   pub items : List Tree
   pub reads_items : ReadsItems (λ j. ReadsTop n j top_item) (script_code k) true items first d
   pub whole : kind_at d ≡ kind.End
-  pub is : x ≡ tree.script (spanned c d) (listed items) shebang
+  pub is : x ≡ tree.script (whole_span c d) (listed items) shebang
 
 -- whether one of its own statements begins with `await`
 abbrev pub small_script_awaits : (n : ℕ) (k : Code) (x : Tree) (c d : Place) → ReadsScript n k x c d → Bool

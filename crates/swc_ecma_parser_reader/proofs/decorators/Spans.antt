@@ -127,7 +127,7 @@ module _ (plain : Position → Reader Tree) (at : Position) (stands : (s : State
         }
         by_span (inr g) = left_out x (decorated_by v.place v.found x) t (stray_decorated v.place v.found x) g q
 
-    stmt_behind_stands : Meets (λ x t. StandsAt x s.at t.at) (stmt_behind plain at v m)
+    pub stmt_behind_stands : Meets (λ x t. StandsAt x s.at t.at) (stmt_behind plain at v m)
     unfolding stmt_behind declared_behind exported_behind other_behind
     stmt_behind_stands = meets_if _ (begins_declared m.at) _ _
         (λ i. meets_then _ (plain at m) _ (meets_both _ _ (plain at m) (bare m i) (stands m)) (λ x t (b, q). declared_stands x t b q))
@@ -142,7 +142,7 @@ module _ (plain : Position → Reader Tree) (at : Position) (stands : (s : State
 
   module _ (further : Reader Tree) (keeps : Passes further) (falls : (s : State) → Falls 1 (length s.at.left) (further s)) where
     -- its tokens, and where it stands
-    leading_takes : (s : State) → sees kind.At s.at && s.code.setting.decorators ≡ true → Meets (λ v t. TakesSome s.at t.at × (v.place ≡ spanned s.at t.at)) (leading further s)
+    pub leading_takes : (s : State) → sees kind.At s.at && s.code.setting.decorators ≡ true → Meets (λ v t. TakesSome s.at t.at × (v.place ≡ spanned s.at t.at)) (leading further s)
     leading_takes s h = meets_as (leading further s)
         (meets_both _ _ (leading further s) (leading_fewer further falls s h) (meets_both _ _ (leading further s) (kept s (leading further s) (leading_keeps further keeps s s (behind_self s))) (leading_place further s)))
         (λ v t q. (taken_by s t q.1.0.0 q.0, q.1.1))

@@ -2,7 +2,7 @@ use Rattle.std.proofs.Common.{◌≡◌, true, false, map, sym, ◌∙◌, ap, s
 use Rattle.std.proofs.lemmas.Result.{err_from_is_err_and}
 use Rattle.swc_ecma_parser_model.specs.Tree as tree
 use Rattle.swc_ecma_parser_model.specs.Tree.{listed}
-use Rattle.swc_ecma_parser_grammar.specs.Looks.{span_at, spanned}
+use Rattle.swc_ecma_parser_grammar.specs.Looks.{start_at, whole_span}
 use Rattle.swc_ecma_parser_reader.specs.Reader.{shebang}
 use Rattle.swc_ecma_parser_reader.specs.State.{coded}
 use Rattle.swc_ecma_parser_reader.proofs.Empty.{nothing_taken}
@@ -31,7 +31,7 @@ returns-in_err-front-clause-outright g c = λ h.
 
 -- a script leaves the context that stood before
 pub returns-then-is_script-clause-answers : goal.returns-then-is_script-clause-answers
-unfolding spanned
+unfolding whole_span
 returns-then-is_script-clause-answers g c = λ s e f.
     let u = c.statements.new.p in
     let first = c.in_ok-shebang.shebang in
@@ -40,8 +40,8 @@ returns-then-is_script-clause-answers g c = λ s e f.
     let m : c.args.outer.module ≡ u.code.flags.module =
     ap (λ k. k.module) e ∙ sym (front_module c.args.limit (coded (program_code s.code) s) first _ h front u c.in_ok-front.ensures.gives) in
     let left = c.leave_program.ensures m ∙ ap (λ k. coded (record u.code { flags = k }) u) e in
-    let span : c.since-span.result ≡ spanned s.at u.at =
-    c.since-span.ensures ∙ ap (λ z. record { lo = z.lo; hi = u.at.last.hi }) (c.span-start.ensures ∙ ap (λ z. span_at z.at) f) in
+    let span : c.since-span.result ≡ whole_span s.at u.at =
+    c.since-span.ensures ∙ ap (λ z. record { lo = z.lo; hi = u.at.last.hi }) (c.whole_start-start.ensures ∙ ap (λ z. start_at z.at) f) in
     subst (λ t. AnswersProgram g.T.BuildsItem.program_of c.args.limit s (Ok c.script_program.result) t) (sym left)
     (answers_script _ g.T.BuildsItem.program_of c.args.limit s first _ h front u c.in_ok-front.ensures.gives (sym c.is_script.ensures ∙ c.if-is_script.true) c.script_program.result
     (c.script_program.ensures ∙ c.script.ensures ∙ ap (λ z. tree.script z (listed front.before) first) span))
@@ -67,7 +67,7 @@ returns-in_err-body-clause-outright g c = λ h.
     (none_mapped g.T.Trees.stmt_of c.in_ok-front.front.before.items none) (none_mapped g.T.BuildsFunction.decorator_of c.in_ok-front.front.list.found.items list) in cc
 
 pub returns-clause-answers : goal.returns-clause-answers
-unfolding spanned
+unfolding whole_span
 returns-clause-answers g c = λ s e f.
     let u = c.statements.new.p in
     let v = c.enter_module.new.self in
@@ -78,8 +78,8 @@ returns-clause-answers g c = λ s e f.
     let (recorded, faults, noted) = c.enter_module.ensures.faults in
     let enters : v ≡ entered recorded u =
     λ i. record { at = c.enter_module.ensures.at i; code = c.enter_module.ensures.code i; scope = c.enter_module.ensures.scope i; faults = faults i; notes = c.enter_module.ensures.found i } in
-    let span : c.since-span-2.result ≡ spanned s.at w.at =
-    c.since-span-2.ensures ∙ ap (λ z. record { lo = z.lo; hi = w.at.last.hi }) (c.span-start.ensures ∙ ap (λ z. span_at z.at) f) in
+    let span : c.since-span-2.result ≡ whole_span s.at w.at =
+    c.since-span-2.ensures ∙ ap (λ z. record { lo = z.lo; hi = w.at.last.hi }) (c.whole_start-start.ensures ∙ ap (λ z. start_at z.at) f) in
     answers_module _ g.T.BuildsItem.program_of c.args.limit s first _ (ap shebang (sym f) ∙ c.in_ok-shebang.ensures.gives) front u c.in_ok-front.ensures.gives
     (sym c.is_script.ensures ∙ c.if-is_script.false) recorded v enters noted body w c.in_ok-body.ensures.gives c.module_program.result
     (c.module_program.ensures ∙ c.module.ensures ∙ ap (λ z. tree.module_program z (listed body) first) span)
