@@ -116,11 +116,11 @@ fn a_look_ahead_draws_no_more(rt: HostRuntime) -> Result<(), Fail> {
     Ok(())
 }
 
-/// What an answer begins with once a text is read up to its end: of an item the refusal, of a whole the kind.
+/// What an answer begins with once a text is read up to its end: of an item the refusal, of a whole the kind and the empty span.
 fn head_behind_all(alloc: Global, entry: Entry, end: u32) -> Result<String, AllocError> {
     match entry {
-        Entry::Script | Entry::Program => format!(in alloc; "Script "),
-        Entry::Module => format!(in alloc; "Module "),
+        Entry::Script | Entry::Program => format!(in alloc; "Script {end}..{end}\n"),
+        Entry::Module => format!(in alloc; "Module {end}..{end}\n"),
         Entry::Stmt | Entry::StmtListItem | Entry::ModuleItem => {
             format!(in alloc; "refused {end}..{end} Eof\n")
         }

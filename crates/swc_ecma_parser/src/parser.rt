@@ -5,6 +5,7 @@ ghost use Rattle.swc_ecma_parser_ast.specs.View.{view_module, view_module_item, 
 ghost use Rattle.swc_ecma_parser_error.specs.Kind as kinds;
 ghost use Rattle.swc_ecma_parser_error.specs.Kind.{fault_of, faults_of, kind_of, IsOutOfMemory};
 ghost use Rattle.swc_ecma_parser_error.specs.declared.error.Error.{Error};
+ghost use Rattle.swc_ecma_parser_forward.specs.Follows.{ItemInOrder, ItemsInOrder};
 ghost use Rattle.swc_ecma_parser_forward.specs.Forward.{in_order, AnswersForward};
 ghost use Rattle.swc_ecma_parser_input.specs.Place as place;
 ghost use Rattle.swc_ecma_parser_input.specs.Setting.{setting_of};
@@ -117,6 +118,10 @@ impl<I: Tokens> Parser<I> {
         // Of tokens in order, whatever is recorded: no span of an answer starts after its end, and what is left is in order.
         ensures forward { in_order self.old.state.at ≡ true → AnswersForward view_script result self.new.state.at }
 
+        // Of such tokens the answer begins at or behind the end of what was read last before the call, and ends at or before the end of
+        // what was read last behind it; each of its items does, and ends at or before the next begins.
+        ensures items_in_order { in_order self.old.state.at ≡ true → ItemsInOrder view_script self.old.state.at result self.new.state.at }
+
         // Where memory ran out for one of the two tokens that are read ahead, that is the answer.
         ensures ahead { lacks_ahead self.old.state.at ≡ true → IsErrAnd result (λ e. kind_of e.kind ≡ kinds.OutOfMemory) }
 
@@ -182,6 +187,10 @@ impl<I: Tokens> Parser<I> {
 
         // Of tokens in order, whatever is recorded: no span of an answer starts after its end, and what is left is in order.
         ensures forward { in_order self.old.state.at ≡ true → AnswersForward view_module result self.new.state.at }
+
+        // Of such tokens the answer begins at or behind the end of what was read last before the call, and ends at or before the end of
+        // what was read last behind it; each of its items does, and ends at or before the next begins.
+        ensures items_in_order { in_order self.old.state.at ≡ true → ItemsInOrder view_module self.old.state.at result self.new.state.at }
 
         // Where memory ran out for one of the two tokens that are read ahead, that is the answer.
         ensures ahead { lacks_ahead self.old.state.at ≡ true → IsErrAnd result (λ e. kind_of e.kind ≡ kinds.OutOfMemory) }
@@ -250,6 +259,10 @@ impl<I: Tokens> Parser<I> {
         // Of tokens in order, whatever is recorded: no span of an answer starts after its end, and what is left is in order.
         ensures forward { in_order self.old.state.at ≡ true → AnswersForward view_program result self.new.state.at }
 
+        // Of such tokens the answer begins at or behind the end of what was read last before the call, and ends at or before the end of
+        // what was read last behind it; each of its items does, and ends at or before the next begins.
+        ensures items_in_order { in_order self.old.state.at ≡ true → ItemsInOrder view_program self.old.state.at result self.new.state.at }
+
         // Where memory ran out for one of the two tokens that are read ahead, that is the answer.
         ensures ahead { lacks_ahead self.old.state.at ≡ true → IsErrAnd result (λ e. kind_of e.kind ≡ kinds.OutOfMemory) }
 
@@ -317,6 +330,10 @@ impl<I: Tokens> Parser<I> {
         // Of tokens in order, whatever is recorded: no span of an answer starts after its end, and what is left is in order.
         ensures forward { in_order self.old.state.at ≡ true → AnswersForward view_module_item result self.new.state.at }
 
+        // Of such tokens the answer begins at or behind the end of what was read last before the call, and ends at or before the end of
+        // what was read last behind it: so the answers of calls in a row lie one behind another.
+        ensures items_in_order { in_order self.old.state.at ≡ true → ItemInOrder view_module_item self.old.state.at result self.new.state.at }
+
         // Where memory ran out for one of the two tokens that are read ahead, that is the answer.
         ensures ahead { lacks_ahead self.old.state.at ≡ true → IsErrAnd result (λ e. kind_of e.kind ≡ kinds.OutOfMemory) }
 
@@ -379,6 +396,10 @@ impl<I: Tokens> Parser<I> {
 
         // Of tokens in order, whatever is recorded: no span of an answer starts after its end, and what is left is in order.
         ensures forward { in_order self.old.state.at ≡ true → AnswersForward view_stmt result self.new.state.at }
+
+        // Of such tokens the answer begins at or behind the end of what was read last before the call, and ends at or before the end of
+        // what was read last behind it: so the answers of calls in a row lie one behind another.
+        ensures items_in_order { in_order self.old.state.at ≡ true → ItemInOrder view_stmt self.old.state.at result self.new.state.at }
 
         // Where memory ran out for one of the two tokens that are read ahead, that is the answer.
         ensures ahead { lacks_ahead self.old.state.at ≡ true → IsErrAnd result (λ e. kind_of e.kind ≡ kinds.OutOfMemory) }
@@ -445,6 +466,10 @@ impl<I: Tokens> Parser<I> {
 
         // Of tokens in order, whatever is recorded: no span of an answer starts after its end, and what is left is in order.
         ensures forward { in_order self.old.state.at ≡ true → AnswersForward view_stmt result self.new.state.at }
+
+        // Of such tokens the answer begins at or behind the end of what was read last before the call, and ends at or before the end of
+        // what was read last behind it: so the answers of calls in a row lie one behind another.
+        ensures items_in_order { in_order self.old.state.at ≡ true → ItemInOrder view_stmt self.old.state.at result self.new.state.at }
 
         // Where memory ran out for one of the two tokens that are read ahead, that is the answer.
         ensures ahead { lacks_ahead self.old.state.at ≡ true → IsErrAnd result (λ e. kind_of e.kind ≡ kinds.OutOfMemory) }

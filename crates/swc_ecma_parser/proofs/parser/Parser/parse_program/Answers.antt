@@ -6,6 +6,7 @@ use Rattle.swc_ecma_parser_module_reader.proofs.ProgramAnswers as answers
 use Rattle.swc_ecma_parser_exactness.proofs.Completed.{program_completes}
 use Rattle.swc_ecma_parser_exactness.proofs.Decided.{program_decided}
 use Rattle.swc_ecma_parser_module_forward.proofs.Entries.{program_answers_forward}
+use Rattle.swc_ecma_parser_module_forward.proofs.Follows.{program_items_in_order}
 use Rattle.swc_ecma_parser_exactness.proofs.Walked.{program_walked}
 use Rattle.swc_ecma_parser_module_reader.specs.ProgramEntry.{program_walk}
 use Rattle.swc_ecma_parser_exactness.specs.Completes.{CompletesProgram}
@@ -34,6 +35,9 @@ returns-clause-decides g c = rw (← (kept_is _ _ _ _ (sym c.take.ensures.value 
 
 pub returns-clause-forward : goal.returns-clause-forward
 returns-clause-forward g c = rw (← (kept_is _ _ _ _ (sym c.take.ensures.value ∙ c.unwrap-state.ensures) c.self.view_is)) (λ o. program_answers_forward _ view_program c.self.inside.limit (unmarked c.unwrap-state.result) o c.program-state.result.1 c.program-state.result.0 c.program-state.ensures.answers)
+
+pub returns-clause-items_in_order : goal.returns-clause-items_in_order
+returns-clause-items_in_order g c = rw (← (kept_is _ _ _ _ (sym c.take.ensures.value ∙ c.unwrap-state.ensures) c.self.view_is)) (λ o. program_items_in_order _ view_program c.self.inside.limit (unmarked c.unwrap-state.result) o c.program-state.result.1 c.program-state.result.0 c.program-state.ensures.answers)
 
 pub returns-clause-memory : goal.returns-clause-memory
 returns-clause-memory g c = rw (← (kept_is _ _ _ _ (sym c.take.ensures.value ∙ c.unwrap-state.ensures) c.self.view_is)) (lasts _ c.unwrap-state.result c.program-state.result.1 c.program-state.result.0 (scope_told c.program-state.result.1 c.program-state.result.0 (programs.sound _ view_program c.self.inside.limit (unmarked c.unwrap-state.result) c.program-state.result.1 c.program-state.result.0 c.program-state.ensures.answers) (λ x p. ap (λ z. z.mark) p.scope)) (answers.stays _ view_program c.self.inside.limit c.unwrap-state.result c.program-state.result.1 c.program-state.result.0 c.program-state.ensures.answers) c.program-state.ensures.leaves)

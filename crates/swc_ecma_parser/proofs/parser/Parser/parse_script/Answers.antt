@@ -6,6 +6,7 @@ use Rattle.swc_ecma_parser_reader.proofs.Keeps as keeps
 use Rattle.swc_ecma_parser_exactness.proofs.Completed.{script_completes}
 use Rattle.swc_ecma_parser_exactness.proofs.Decided.{script_decided}
 use Rattle.swc_ecma_parser_forward.proofs.Entries.{script_answers_forward}
+use Rattle.swc_ecma_parser_forward.proofs.Follows.{script_items_in_order}
 use Rattle.swc_ecma_parser_exactness.proofs.Walked.{script_walked}
 use Rattle.swc_ecma_parser_reader.specs.Entry.{script_walk}
 use Rattle.swc_ecma_parser_exactness.specs.Completes.{CompletesScript}
@@ -34,6 +35,9 @@ returns-clause-decides g c = rw (← (kept_is _ _ _ _ (sym c.take.ensures.value 
 
 pub returns-clause-forward : goal.returns-clause-forward
 returns-clause-forward g c = rw (← (kept_is _ _ _ _ (sym c.take.ensures.value ∙ c.unwrap-state.ensures) c.self.view_is)) (λ o. script_answers_forward _ view_script c.self.inside.limit c.unwrap-state.result o c.script-state.result.1 c.script-state.result.0 c.script-state.ensures.answers)
+
+pub returns-clause-items_in_order : goal.returns-clause-items_in_order
+returns-clause-items_in_order g c = rw (← (kept_is _ _ _ _ (sym c.take.ensures.value ∙ c.unwrap-state.ensures) c.self.view_is)) (λ o. script_items_in_order _ view_script c.self.inside.limit c.unwrap-state.result o c.script-state.result.1 c.script-state.result.0 c.script-state.ensures.answers)
 
 pub returns-clause-memory : goal.returns-clause-memory
 returns-clause-memory g c = rw (← (kept_is _ _ _ _ (sym c.take.ensures.value ∙ c.unwrap-state.ensures) c.self.view_is)) (lasts _ c.unwrap-state.result c.script-state.result.1 c.script-state.result.0 (scope_told c.script-state.result.1 c.script-state.result.0 (entries.entry_sound _ view_script c.self.inside.limit (unmarked c.unwrap-state.result) c.script-state.result.1 c.script-state.result.0 c.script-state.ensures.answers) (λ x p. ap (λ z. z.mark) p.scope)) (keeps.script_stays _ view_script c.self.inside.limit c.unwrap-state.result c.script-state.result.1 c.script-state.result.0 c.script-state.ensures.answers) c.script-state.ensures.leaves)

@@ -6,6 +6,7 @@ use Rattle.swc_ecma_parser_reader.proofs.Keeps as keeps
 use Rattle.swc_ecma_parser_exactness.proofs.Completed.{statement_completes}
 use Rattle.swc_ecma_parser_exactness.proofs.Decided.{statement_decided}
 use Rattle.swc_ecma_parser_forward.proofs.Entries.{statement_answers_forward}
+use Rattle.swc_ecma_parser_forward.proofs.Follows.{statement_in_order}
 use Rattle.swc_ecma_parser_exactness.proofs.Walked.{statement_walked}
 use Rattle.swc_ecma_parser_reader.specs.Entry.{statement_walk}
 use Rattle.swc_ecma_parser_exactness.specs.Completes.{CompletesStatement}
@@ -34,6 +35,9 @@ returns-clause-decides g c = rw (← (kept_is _ _ _ _ (sym c.take.ensures.value 
 
 pub returns-clause-forward : goal.returns-clause-forward
 returns-clause-forward g c = rw (← (kept_is _ _ _ _ (sym c.take.ensures.value ∙ c.unwrap-state.ensures) c.self.view_is)) (λ o. statement_answers_forward _ view_stmt c.self.inside.limit c.unwrap-state.result o false c.args.top_level c.statement-state.result.1 c.statement-state.result.0 c.statement-state.ensures.answers)
+
+pub returns-clause-items_in_order : goal.returns-clause-items_in_order
+returns-clause-items_in_order g c = rw (← (kept_is _ _ _ _ (sym c.take.ensures.value ∙ c.unwrap-state.ensures) c.self.view_is)) (λ o. statement_in_order _ view_stmt c.self.inside.limit c.unwrap-state.result o false c.args.top_level c.statement-state.result.1 c.statement-state.result.0 c.statement-state.ensures.answers)
 
 pub returns-clause-memory : goal.returns-clause-memory
 returns-clause-memory g c = rw (← (kept_is _ _ _ _ (sym c.take.ensures.value ∙ c.unwrap-state.ensures) c.self.view_is)) (lasts _ c.unwrap-state.result c.statement-state.result.1 c.statement-state.result.0 (scope_told c.statement-state.result.1 c.statement-state.result.0 (statements.statement_sound _ view_stmt c.self.inside.limit false c.args.top_level (unmarked c.unwrap-state.result) c.statement-state.result.1 c.statement-state.result.0 c.statement-state.ensures.answers) (λ x p. ap (λ z. z.mark) p.scope)) (keeps.statement_stays _ view_stmt c.self.inside.limit c.unwrap-state.result false c.args.top_level c.statement-state.result.1 c.statement-state.result.0 c.statement-state.ensures.answers) c.statement-state.ensures.leaves)
