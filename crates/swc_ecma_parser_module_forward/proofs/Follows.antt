@@ -31,7 +31,7 @@ use Rattle.swc_ecma_parser_forward.proofs.Decorators.{LeadingRead, leading_reads
 use Rattle.swc_ecma_parser_forward.proofs.Follows.{Between, Follow, between_follow, past_takes, word_begins, stands_between, whole_between, follow_grows, follow_more, follow_none, follow_join}
 use Rattle.swc_ecma_parser_forward.proofs.Levels.{decorated_in_straight}
 use Rattle.swc_ecma_parser_forward.proofs.Places.{far, Here, Past, both, first, stands, next, here_in_order}
-use Rattle.swc_ecma_parser_module_reader.specs.Decorated.{begins_decorators, no_leading, export_with}
+use Rattle.swc_ecma_parser_module_reader.specs.Decorated.{begins_decorators, no_leading, export_with, export_item}
 use Rattle.swc_ecma_parser_module_reader.specs.Entry.{AnswersModule}
 use Rattle.swc_ecma_parser_module_reader.specs.Imports.{import_decl}
 use Rattle.swc_ecma_parser_module_reader.specs.ItemEntry.{AnswersItem}
@@ -71,7 +71,7 @@ import_in_bounded (suc n) s l = meets_as (import_decl (object_alone n) s) (impor
 export_in_bounded : (n : ℕ) (s : State) → far s.at ≤ (span_at s.at).lo.0 → Meets (Bounded s.at) (export_in n s)
 unfolding export_in
 export_in_bounded zero s l = too_deep_meets _ s
-export_in_bounded (suc n) s l = meets_as _ (export_item_since (stmt n nested_item) (expr n) (pattern n) (parameters n) (member n) (object_alone n) (decorated_in n) s) (λ x t e. since_bounded s.at s.at x t l e)
+export_in_bounded (suc n) s l = meets_as (export_item (stmt n nested_item) (expr n) (pattern n) (parameters n) (member n) (object_alone n) (decorated_in n) s) (export_item_since (stmt n nested_item) (expr n) (pattern n) (parameters n) (member n) (object_alone n) (decorated_in n) s) (λ x t e. since_bounded s.at s.at x t l e)
 
 -- ---- behind decorators
 
@@ -83,7 +83,7 @@ module _ (c : Place) (n : ℕ) (v : Leading) (m : State) (a : Past (far c) m.at)
       since_bounded c m.at x u (le_trans a.gone (import_begins m a.here h)) (subst (λ (z : Place). Since (span_at z) x u) i e)))
 
   export_behind_bounded : sees kind.Export m.at ≡ true → Meets (Bounded c) (export_behind n v m)
-  export_behind_bounded h = meets_as _ (export_with_since (stmt n nested_item) (expr n) (pattern n) (parameters n) (member n) (object_alone n) (decorated_in n) v m)
+  export_behind_bounded h = meets_as (export_with (stmt n nested_item) (expr n) (pattern n) (parameters n) (member n) (object_alone n) (decorated_in n) v m) (export_with_since (stmt n nested_item) (expr n) (pattern n) (parameters n) (member n) (object_alone n) (decorated_in n) v m)
       (λ x t e. since_bounded c m.at x t (le_trans a.gone (export_begins m a.here h)) e)
 
 item_behind_bounded : (n : ℕ) (v : Leading) (s m : State) → Here s.at → kind_at s.at ≡ kind.At → TakesSome s.at m.at → v.place ≡ spanned s.at m.at → Meets (Bounded s.at) (item_behind n v m)
