@@ -3,7 +3,7 @@ use Rattle.std.proofs.Common.{◌≡◌, ℕ, zero, suc, ◌≤◌, Bool, true, 
 use Rattle.swc_ecma_parser_common.specs.declared.span.Span.{Span}
 use Rattle.swc_ecma_parser_input.specs.Place.{Place}
 use Rattle.swc_ecma_parser_model.specs.Tree.{Tree, Text, listed}
-use Rattle.swc_ecma_parser_grammar.specs.Looks.{spanned}
+use Rattle.swc_ecma_parser_grammar.specs.Looks.{whole_span}
 use Rattle.swc_ecma_parser_grammar.specs.Names.{Code}
 use Rattle.swc_ecma_parser_grammar.specs.Depth.{depth}
 use Rattle.swc_ecma_parser_grammar.specs.Levels.{LevelsAreDepth}
@@ -117,7 +117,7 @@ module _ (In Out : Goal → Type 0) (fits : (g : Goal) → In g → Fitting g) w
         to_the_end = r.to_the_end;
         is = r.is;
       }))
-      (ap depth r.is ∙ whole_depth (is_certain || is_module_body r.items r.awaits) (spanned c d) (listed r.items) r.shebang)
+      (ap depth r.is ∙ whole_depth (is_certain || is_module_body r.items r.awaits) (whole_span c d) (listed r.items) r.shebang)
 
   entry_inside : (entry : Entry) (k : Code) (x : Tree) (c d : Place) → EntryRule In entry k x c d → Inside In Out (EntryRule Out entry k x c d) (depth x)
   entry_inside script k x c d r = script_inside r
