@@ -1,5 +1,5 @@
 -- What a statement or a script is read as stands on what was read, and the items of a script stand one behind another.
-use Rattle.std.proofs.Common.{◌≡◌, ℕ, ◌≤◌, Bool, true, List, [], ◌∷◌, ◌++◌, Option, Result, Ok, Err, refl, sym, ◌∙◌, ap, subst, le_refl, le_trans, le-leb, leb-true}
+use Rattle.std.proofs.Common.{false, ◌≡◌, ℕ, ◌≤◌, Bool, true, List, [], ◌∷◌, ◌++◌, Option, Result, Ok, Err, refl, sym, ◌∙◌, ap, subst, le_refl, le_trans, le-leb, leb-true}
 use Rattle.std.specs.Prelude.{nat_le}
 use Rattle.swc_ecma_parser_common.specs.declared.span.Span.{Span}
 use Rattle.swc_ecma_parser_error.specs.declared.error.Error.{Error}
