@@ -43,39 +43,41 @@ use Rattle.swc_ecma_parser_reader.proofs.Between.{SoundStep}
 use Rattle.swc_ecma_parser_module_reader.proofs.Keeps.{parts_keep}
 use Rattle.swc_ecma_parser_grammar.specs.scaffold.Using.{is_await_using_declaration}
 
--- ---- what is left of tokens that are fine
+module _ {T : Fault → Type 0} where
+  -- ---- what is left of tokens that are fine
 
-fine_last : (m : ℕ) (read ts : List TokenAndSpan) → Fine m (read ++ ts) → Fine m ts
-fine_last m [] ts f = f
-fine_last m (t ∷ read) ts f = fine_last m read ts
-    (record { few = let l = f.few in omega arith; shallow = (either_false (is_too_deep t.token) (has_too_deep_token (read ++ ts)) f.shallow).1 })
+  fine_last : (m : ℕ) (read ts : List TokenAndSpan) → Fine T m (read ++ ts) → Fine T m ts
+  fine_last m [] ts f = f
+  fine_last m (t ∷ read) ts f = fine_last m read ts
+      (record { few = let l = f.few in omega arith; shallow = (either_false (is_too_deep t.token) (has_too_deep_token (read ++ ts)) f.shallow).1 })
 
-fine_behind : (m : ℕ) (s t : State) → IsBehind s t → Fine m s.at.left → Fine m t.at.left
-fine_behind m s t h f = fine_last m h.read t.at.left (subst (Fine m) h.tokens f)
+  fine_behind : (m : ℕ) (s t : State) → IsBehind s t → Fine T m s.at.left → Fine T m t.at.left
+  fine_behind m s t h f = fine_last m h.read t.at.left (subst (Fine T m) h.tokens f)
 
--- a reader that keeps its tokens answers fine ones
-with_refusals : {A : Type 0} (m : ℕ) (s : State) (o : Outcome A) → Answers (behind.Kept s) (Lost s) o → Fine m s.at.left → ((e : Fault) (t : State) → o ≡ Err (e, t) → e.kind ≢ faults.TooDeep)
-    → Answers (Kept m) Shallow o
-with_refusals m s (Ok p) h f g = fine_behind m s p.1 h.0 f
-with_refusals m s (Err e) h f g = g e.0 e.1 refl
+  -- a reader that keeps its tokens answers fine ones
+  with_refusals : {A : Type 0} (m : ℕ) (s : State) (o : Outcome A) → Answers (behind.Kept s) (Lost s) o → Fine T m s.at.left → ((e : Fault) (t : State) → o ≡ Err (e, t) → e.kind ≢ faults.TooDeep)
+      → Answers (Kept T m) (Shallow T) o
+  with_refusals m s (Ok p) h f g = fine_behind m s p.1 h.0 f
+  with_refusals m s (Err e) h f g = g e.0 e.1 refl
 
--- ---- statements
+  -- ---- statements
 
-pub whole_shallow : (n : ℕ) (at : Position) (m : ℕ) (s : State) → 2 * m + 2 ≤ n → Fine m s.at.left → Answers (Kept m) Shallow (whole_stmt n at s)
-whole_shallow n at m s l f = with_refusals m s (whole_stmt n at s) (whole_stmt_keeps n at s s (behind_self s)) f
-    (λ e t g. whole_fits n at s e t (let k = f.few in omega arith) g f.shallow)
+  pub whole_shallow : (n : ℕ) (at : Position) (m : ℕ) (s : State) → 2 * m + 2 ≤ n → Fine T m s.at.left → Answers (Kept T m) (Shallow T) (whole_stmt n at s)
+  whole_shallow n at m s l f = with_refusals m s (whole_stmt n at s) (whole_stmt_keeps n at s s (behind_self s)) f
+      (λ e t g. whole_fits n at s e t (let k = f.few in omega arith) g f.shallow)
 
 -- one inside another begins with no `await` of the top level
 as_whole : (n : ℕ) (s : State) → whole_stmt n nested_item s ≡ stmt n nested_item s
 unfolding whole_stmt top_await
 as_whole n s = refl
 
-pub stmt_shallow : (n m : ℕ) (s : State) → 2 * m + 2 ≤ n → Fine m s.at.left → Answers (Kept m) Shallow (stmt n nested_item s)
-stmt_shallow n m s l f = subst (Answers (Kept m) Shallow) (as_whole n s) (whole_shallow n nested_item m s l f)
+module _ {T : Fault → Type 0} where
+  pub stmt_shallow : (n m : ℕ) (s : State) → 2 * m + 2 ≤ n → Fine T m s.at.left → Answers (Kept T m) (Shallow T) (stmt n nested_item s)
+  stmt_shallow n m s l f = subst (Answers (Kept T m) (Shallow T)) (as_whole n s) (whole_shallow n nested_item m s l f)
 
--- a refusal of such a statement
-stmt_fits : (n m : ℕ) (s : State) (e : Fault) (t : State) → 2 * m + 2 ≤ n → Fine m s.at.left → stmt n nested_item s ≡ Err (e, t) → e.kind ≢ faults.TooDeep
-stmt_fits n m s e t l f g = subst (Answers (Kept m) Shallow) g (stmt_shallow n m s l f)
+  -- a refusal of such a statement
+  stmt_fits : (n m : ℕ) (s : State) (e : Fault) (t : State) → 2 * m + 2 ≤ n → Fine T m s.at.left → stmt n nested_item s ≡ Err (e, t) → e.kind ≢ faults.TooDeep
+  stmt_fits n m s e t l f g = subst (Answers (Kept T m) (Shallow T)) g (stmt_shallow n m s l f)
 
 -- ---- expressions: as behind `while (`
 
@@ -92,17 +94,18 @@ refused_in_while : (k : ℕ) (s : State) (p : Fault × State) → expr (suc k) a
 unfolding stmt either_stmt await_using_or is_await_using_declaration stmt_level while_stmt head expect expr expr_level expression_expr a_token kind_at same_kind after
 refused_in_while k s p h = rw h refl
 
-expr_fits : (n m : ℕ) (s : State) (e : Fault) (t : State) → 2 * m + 5 ≤ n → Fine m s.at.left → expr n assignment (coded (with_in s.code) s) ≡ Err (e, t) → e.kind ≢ faults.TooDeep
-unfolding a_token
-expr_fits zero m s e t l f g = absurd (omega arith)
-expr_fits (suc k) m s e t l f g =
-    stmt_fits (suc (suc k)) (suc (suc m)) (in_while s) e t (omega arith) (record { few = let i = f.few in omega arith; shallow = f.shallow }) (refused_in_while k s (e, t) g)
+module _ {T : Fault → Type 0} where
+  expr_fits : (n m : ℕ) (s : State) (e : Fault) (t : State) → 2 * m + 5 ≤ n → Fine T m s.at.left → expr n assignment (coded (with_in s.code) s) ≡ Err (e, t) → e.kind ≢ faults.TooDeep
+  unfolding a_token
+  expr_fits zero m s e t l f g = absurd (omega arith)
+  expr_fits (suc k) m s e t l f g =
+      stmt_fits (suc (suc k)) (suc (suc m)) (in_while s) e t (omega arith) (record { few = let i = f.few in omega arith; shallow = f.shallow }) (refused_in_while k s (e, t) g)
 
--- an assignment expression in which `in` is an operator
-pub whole_expr_shallow : (n m : ℕ) (s : State) → 2 * m + 5 ≤ n → Fine m s.at.left → Answers (Kept m) Shallow (within with_in (expr n assignment) s)
-whole_expr_shallow n m s l f =
-    let k = coded (with_in s.code) s in
-    answers_then (Kept m) _ (expr n assignment k) _ (with_refusals m k (expr n assignment k) (expr_keeps n assignment k k (behind_self k)) f (λ e t g. expr_fits n m s e t l f g)) (λ x t h. h)
+  -- an assignment expression in which `in` is an operator
+  pub whole_expr_shallow : (n m : ℕ) (s : State) → 2 * m + 5 ≤ n → Fine T m s.at.left → Answers (Kept T m) (Shallow T) (within with_in (expr n assignment) s)
+  whole_expr_shallow n m s l f =
+      let k = coded (with_in s.code) s in
+      answers_then (Kept T m) _ (expr n assignment k) _ (with_refusals m k (expr n assignment k) (expr_keeps n assignment k k (behind_self k)) f (λ e t g. expr_fits n m s e t l f g)) (λ x t h. h)
 
 -- ---- the parts of a function: as behind its words and a name
 
@@ -135,17 +138,18 @@ refused_in_function k true false start s p h = rw (async_name s, h) refl
 refused_in_function k false true start s p h = rw (async_name s, h) refl
 refused_in_function k false false start s p h = rw (async_name s, h) refl
 
-fine_in_function : (w v : Bool) (start : Span) (m : ℕ) (s : State) → Fine m s.at.left → Fine (m + 2 + cost w + cost v) (in_function w v start s).at.left
-unfolding a_token
-fine_in_function true true start m s f = record { few = let i = f.few in omega arith; shallow = f.shallow }
-fine_in_function true false start m s f = record { few = let i = f.few in omega arith; shallow = f.shallow }
-fine_in_function false true start m s f = record { few = let i = f.few in omega arith; shallow = f.shallow }
-fine_in_function false false start m s f = record { few = let i = f.few in omega arith; shallow = f.shallow }
+module _ {T : Fault → Type 0} where
+  fine_in_function : (w v : Bool) (start : Span) (m : ℕ) (s : State) → Fine T m s.at.left → Fine T (m + 2 + cost w + cost v) (in_function w v start s).at.left
+  unfolding a_token
+  fine_in_function true true start m s f = record { few = let i = f.few in omega arith; shallow = f.shallow }
+  fine_in_function true false start m s f = record { few = let i = f.few in omega arith; shallow = f.shallow }
+  fine_in_function false true start m s f = record { few = let i = f.few in omega arith; shallow = f.shallow }
+  fine_in_function false false start m s f = record { few = let i = f.few in omega arith; shallow = f.shallow }
 
-pub parts_shallow : (n m : ℕ) (w v : Bool) (start : Span) (s : State) → 2 * (m + 2 + cost w + cost v) + 2 ≤ suc n → Fine m s.at.left
-    → Answers (Kept m) Shallow (function_parts (stmt n nested_item) (parameters n) w v start s)
-parts_shallow n m w v start s l f = with_refusals m s (function_parts (stmt n nested_item) (parameters n) w v start s) (parts_keep n w v start s s (behind_self s)) f
-    (λ e t g. stmt_fits (suc n) (m + 2 + cost w + cost v) (in_function w v start s) e t l (fine_in_function w v start m s f) (refused_in_function n w v start s (e, t) g))
+  pub parts_shallow : (n m : ℕ) (w v : Bool) (start : Span) (s : State) → 2 * (m + 2 + cost w + cost v) + 2 ≤ suc n → Fine T m s.at.left
+      → Answers (Kept T m) (Shallow T) (function_parts (stmt n nested_item) (parameters n) w v start s)
+  parts_shallow n m w v start s l f = with_refusals m s (function_parts (stmt n nested_item) (parameters n) w v start s) (parts_keep n w v start s s (behind_self s)) f
+      (λ e t g. stmt_fits (suc n) (m + 2 + cost w + cost v) (in_function w v start s) e t l (fine_in_function w v start m s f) (refused_in_function n w v start s (e, t) g))
 
 -- ---- a class that may have no name: as behind its word and a name
 
@@ -161,41 +165,42 @@ refused_in_words k start s p h = rw (async_name (coded (in_class s.code) s), h) 
 same_class : (k : Code) (s : State) → s.code ≡ in_class k → coded (in_class s.code) s ≡ s
 same_class k s e = ap (λ j. coded j s) (ap in_class e ∙ sym e)
 
-module _ (n : ℕ) where
-  class_parts_fit : (m : ℕ) (k : Code) (start : Span) (s : State) → 2 * (m + 2) + 2 ≤ suc n → s.code ≡ in_class k → Fine m s.at.left
-      → Answers (λ _ _. Unit {0}) Shallow (class_parts (expr n left_side) (member n) start s)
-  unfolding a_token
-  class_parts_fit m k start s l e f = by_answer (class_parts (expr n left_side) (member n) start s) refl
-    where
-      by_answer : (o : Outcome Tree) → class_parts (expr n left_side) (member n) start s ≡ o → Answers (λ _ _. Unit {0}) Shallow o
-      by_answer (Ok p) h = tt
-      by_answer (Err p) h = stmt_fits (suc n) (m + 2) (in_words start s) p.0 p.1 l (record { few = let i = f.few in omega arith; shallow = f.shallow })
-          (refused_in_words n start s p (ap (class_parts (expr n left_side) (member n) start) (same_class k s e) ∙ h))
+module _ {T : Fault → Type 0} where
+  module _ (n : ℕ) where
+    class_parts_fit : (m : ℕ) (k : Code) (start : Span) (s : State) → 2 * (m + 2) + 2 ≤ suc n → s.code ≡ in_class k → Fine T m s.at.left
+        → Answers (λ _ _. Unit {0}) (Shallow T) (class_parts (expr n left_side) (member n) start s)
+    unfolding a_token
+    class_parts_fit m k start s l e f = by_answer (class_parts (expr n left_side) (member n) start s) refl
+      where
+        by_answer : (o : Outcome Tree) → class_parts (expr n left_side) (member n) start s ≡ o → Answers (λ _ _. Unit {0}) (Shallow T) o
+        by_answer (Ok p) h = tt
+        by_answer (Err p) h = stmt_fits (suc n) (m + 2) (in_words start s) p.0 p.1 l (record { few = let i = f.few in omega arith; shallow = f.shallow })
+            (refused_in_words n start s p (ap (class_parts (expr n left_side) (member n) start) (same_class k s e) ∙ h))
 
-  -- a name, or none, in the code of the class
-  named_fits : (m : ℕ) (s : State) → Fine m s.at.left → Answers (λ _ t. Fine m t.at.left × (t.code ≡ s.code)) Shallow (named s)
-  unfolding named
-  named_fits m s f = answers_then _ _ (name faults.ExpectedIdent s) _
-      (with_code (name faults.ExpectedIdent s) (name_shallow m s f faults.ExpectedIdent (λ z. cc)) (name_sound faults.ExpectedIdent s)) (λ i t g. g)
-    where
-      with_code : (o : Outcome Ident) → Answers (Kept m) Shallow o → Meets (λ i t. SoundStep (FreeWord i) s t) o → Answers (λ _ t. Fine m t.at.left × (t.code ≡ s.code)) Shallow o
-      with_code (Ok p) g h = (g, h.code)
-      with_code (Err e) g h = g
+    -- a name, or none, in the code of the class
+    named_fits : (m : ℕ) (s : State) → Fine T m s.at.left → Answers (λ _ t. Fine T m t.at.left × (t.code ≡ s.code)) (Shallow T) (named s)
+    unfolding named
+    named_fits m s f = answers_then _ _ (name faults.ExpectedIdent s) _
+        (with_code (name faults.ExpectedIdent s) (name_shallow m s f faults.ExpectedIdent (λ z. cc)) (name_sound faults.ExpectedIdent s)) (λ i t g. g)
+      where
+        with_code : (o : Outcome Ident) → Answers (Kept T m) (Shallow T) o → Meets (λ i t. SoundStep (FreeWord i) s t) o → Answers (λ _ t. Fine T m t.at.left × (t.code ≡ s.code)) (Shallow T) o
+        with_code (Ok p) g h = (g, h.code)
+        with_code (Err e) g h = g
 
-  class_name_fits : (m : ℕ) (s : State) → Fine m s.at.left → Answers (λ _ t. Fine m t.at.left × (t.code ≡ s.code)) Shallow (class_name (expr n left_side) (member n) s)
-  unfolding class_name
-  class_name_fits m s f = answers_if _ _ (name_at s.code.flags s.at) _ _ (λ _. named_fits m s f) (λ _. (f, refl))
+    class_name_fits : (m : ℕ) (s : State) → Fine T m s.at.left → Answers (λ _ t. Fine T m t.at.left × (t.code ≡ s.code)) (Shallow T) (class_name (expr n left_side) (member n) s)
+    unfolding class_name
+    class_name_fits m s f = answers_if _ _ (name_at s.code.flags s.at) _ _ (λ _. named_fits m s f) (λ _. (f, refl))
 
-  class_fits : (m : ℕ) (s : State) → 2 * (m + 1) + 2 ≤ suc n → kind_at s.at ≡ kind.Class → Fine m s.at.left → Answers (λ _ _. Unit {0}) Shallow (class_expr (expr n left_side) (member n) s)
-  unfolding class_expr unnamed_class
-  class_fits m s l e f =
-      let c = coded (in_class s.code) s in
-      let (i, a, g) = fine_taken m s.at kind.Class e (λ z. cc) f in
-      answers_then {P = λ _ _. Unit {0}} _ _ (unnamed_class (expr n left_side) (member n) c) _
-      (answers_then _ _ (class_name (expr n left_side) (member n) (moved c)) _ (class_name_fits i (moved c) g) (λ x t (h, o).
-      answers_then {P = λ _ _. Unit {0}} _ _ (class_parts (expr n left_side) (member n) (span_at s.at) t) _ (class_parts_fit i s.code (span_at s.at) t (omega arith) o h) (λ y u _. tt))) (λ y u _. tt)
+    class_fits : (m : ℕ) (s : State) → 2 * (m + 1) + 2 ≤ suc n → kind_at s.at ≡ kind.Class → Fine T m s.at.left → Answers (λ _ _. Unit {0}) (Shallow T) (class_expr (expr n left_side) (member n) s)
+    unfolding class_expr unnamed_class
+    class_fits m s l e f =
+        let c = coded (in_class s.code) s in
+        let (i, a, g) = fine_taken m s.at kind.Class e (λ z. cc) f in
+        answers_then {P = λ _ _. Unit {0}} _ _ (unnamed_class (expr n left_side) (member n) c) _
+        (answers_then _ _ (class_name (expr n left_side) (member n) (moved c)) _ (class_name_fits i (moved c) g) (λ x t (h, o).
+        answers_then {P = λ _ _. Unit {0}} _ _ (class_parts (expr n left_side) (member n) (span_at s.at) t) _ (class_parts_fit i s.code (span_at s.at) t (omega arith) o h) (λ y u _. tt))) (λ y u _. tt)
 
-  pub whole_class_shallow : (m : ℕ) (s : State) → 2 * (m + 1) + 2 ≤ suc n → kind_at s.at ≡ kind.Class → Fine m s.at.left → Answers (Kept m) Shallow (class_expr (expr n left_side) (member n) s)
-  whole_class_shallow m s l e f = with_refusals m s (class_expr (expr n left_side) (member n) s)
-      (class_expr_keeps (expr n left_side) (member n) (expr_keeps n left_side) (member_keeps n) s s e (behind_self s)) f
-      (λ z t h. meant (λ _ _. Unit {0}) Shallow (class_expr (expr n left_side) (member n) s) (Err (z, t)) h (class_fits m s l e f))
+    pub whole_class_shallow : (m : ℕ) (s : State) → 2 * (m + 1) + 2 ≤ suc n → kind_at s.at ≡ kind.Class → Fine T m s.at.left → Answers (Kept T m) (Shallow T) (class_expr (expr n left_side) (member n) s)
+    whole_class_shallow m s l e f = with_refusals m s (class_expr (expr n left_side) (member n) s)
+        (class_expr_keeps (expr n left_side) (member n) (expr_keeps n left_side) (member_keeps n) s s e (behind_self s)) f
+        (λ z t h. meant (λ _ _. Unit {0}) (Shallow T) (class_expr (expr n left_side) (member n) s) (Err (z, t)) h (class_fits m s l e f))

@@ -119,20 +119,21 @@ pub none_at_error : (c : Place) (t : TokenAndSpan) (ts : List TokenAndSpan) (e :
 unfolding same_kind
 none_at_error c t ts e h g = none_by c kind.Error (kind_here c t ts (token.Error e) h g) refl refl
 
--- ---- nothing is too deep
+module _ {T : Fault → Type 0} where
+  -- ---- nothing is too deep
 
-item_shallow : (n m : ℕ) (recorded : List Fault) (s : State) → 2 * m + 2 ≤ n → Fine m s.at.left → Answers (Kept m) Shallow (item_whole n recorded s)
-item_shallow n m recorded s l f = alone_cases (Answers (Kept m) Shallow) recorded n s
-    (λ _. answers_then (Kept m) _ (module_item n (turned recorded s)) _ (module_item_shallow n m (turned recorded s) l f) (λ x t g. g))
-    (λ _. answers_then (Kept m) _ (whole_stmt n top_item s) _ (whole_shallow n top_item m s l f) (λ x t g. g))
-    (λ k e b v t h w. answers_then (Kept m) _ (item_behind k v (turned recorded t)) _ (behind_shallow n m k s e l f v t h w (turned recorded t) refl) (λ x u g. g))
+  item_shallow : (n m : ℕ) (recorded : List Fault) (s : State) → 2 * m + 2 ≤ n → Fine T m s.at.left → Answers (Kept T m) (Shallow T) (item_whole n recorded s)
+  item_shallow n m recorded s l f = alone_cases (Answers (Kept T m) (Shallow T)) recorded n s
+      (λ _. answers_then (Kept T m) _ (module_item n (turned recorded s)) _ (module_item_shallow n m (turned recorded s) l f) (λ x t g. g))
+      (λ _. answers_then (Kept T m) _ (whole_stmt n top_item s) _ (whole_shallow n top_item m s l f) (λ x t g. g))
+      (λ k e b v t h w. answers_then (Kept T m) _ (item_behind k v (turned recorded t)) _ (behind_shallow n m k s e l f v t h w (turned recorded t) refl) (λ x u g. g))
 
--- a limit of twice the tokens and two more is never met, unless an error token says so
-pub item_fits : (n : ℕ) (recorded : List Fault) (s : State) (e : Fault) (t : State) → 2 * length s.at.left + 2 ≤ n → item_whole n recorded s ≡ Err (e, t)
-    → has_too_deep_token s.at.left ≡ false → e.kind ≢ faults.TooDeep
-item_fits n recorded s e t h g k =
-    meant (Kept (length s.at.left)) Shallow (item_whole n recorded s) (Err (e, t)) g
-    (item_shallow n (length s.at.left) recorded s h (record { few = omega arith; shallow = k }))
+  -- a limit of twice the tokens and two more is never met, unless an error token says so
+  pub item_fits : (n : ℕ) (recorded : List Fault) (s : State) (e : Fault) (t : State) → 2 * length s.at.left + 2 ≤ n → item_whole n recorded s ≡ Err (e, t)
+      → has_too_deep_token s.at.left ≡ false → e.kind ≢ faults.TooDeep
+  item_fits n recorded s e t h g k =
+      meant (Kept T (length s.at.left)) (Shallow T) (item_whole n recorded s) (Err (e, t)) g
+      (item_shallow n (length s.at.left) recorded s h (record { few = omega arith; shallow = k }))
 
 -- ---- nothing is lost
 

@@ -22,52 +22,53 @@ use Rattle.swc_ecma_parser_module_reader.proofs.Limits.{list_shallow, word_shall
 abbrev Read : {A : Type 0} → A → State → Type 0
 Read x t = Unit {0}
 
--- ---- the statements before module code begins
+module _ {T : Fault → Type 0} where
+  -- ---- the statements before module code begins
 
-front_shallow : (n m : ℕ) (s : State) → 2 * m + 2 ≤ n → Fine m s.at.left → Answers (Kept m) Shallow (front n s)
-front_shallow n m s l f = front_answers n (Kept m) (Kept m) Shallow (λ found t g e. g) (λ found t g e. whole_shallow n top_item m t l g)
-    (λ found t g e k i b v u h w. list_shallow k m t (subst (λ z. 2 * m + 2 ≤ z) i l) g v u h) (λ t e. cc) s f
+  front_shallow : (n m : ℕ) (s : State) → 2 * m + 2 ≤ n → Fine T m s.at.left → Answers (Kept T m) (Shallow T) (front n s)
+  front_shallow n m s l f = front_answers n (Kept T m) (Kept T m) (Shallow T) (λ found t g e. g) (λ found t g e. whole_shallow n top_item m t l g)
+      (λ found t g e k i b v u h w. list_shallow k m t (subst (λ z. 2 * m + 2 ≤ z) i l) g v u h) (λ t e. cc) s f
 
--- ---- behind them
+  -- ---- behind them
 
-found_shallow : (n m : ℕ) (found : List Tree) (s : State) → 2 * m + 2 ≤ n → Fine m s.at.left → Answers (Kept m) Shallow (loop (items_turn (module_item n) at_end true) found s)
-unfolding items_turn
-found_shallow n m found s l f = loop_answers (items_turn (module_item n) at_end true) (Kept m) (Kept m) Shallow
-    (λ xs t g. answers_if _ _ (at_end t.at) _ _ (λ _. g) (λ _. answers_then _ _ (module_item n t) _ (module_item_shallow n m t l g) (λ x u k. k))) (λ t e. cc) found s f
+  found_shallow : (n m : ℕ) (found : List Tree) (s : State) → 2 * m + 2 ≤ n → Fine T m s.at.left → Answers (Kept T m) (Shallow T) (loop (items_turn (module_item n) at_end true) found s)
+  unfolding items_turn
+  found_shallow n m found s l f = loop_answers (items_turn (module_item n) at_end true) (Kept T m) (Kept T m) (Shallow T)
+      (λ xs t g. answers_if _ _ (at_end t.at) _ _ (λ _. g) (λ _. answers_then _ _ (module_item n t) _ (module_item_shallow n m t l g) (λ x u k. k))) (λ t e. cc) found s f
 
-items_shallow : (n m : ℕ) (s : State) → 2 * m + 2 ≤ n → Fine m s.at.left → Answers (Kept m) Shallow (items (module_item n) at_end true s)
-unfolding items
-items_shallow n m s l f = found_shallow n m [] s l f
+  items_shallow : (n m : ℕ) (s : State) → 2 * m + 2 ≤ n → Fine T m s.at.left → Answers (Kept T m) (Shallow T) (items (module_item n) at_end true s)
+  unfolding items
+  items_shallow n m s l f = found_shallow n m [] s l f
 
-behind_front_shallow : (n m : ℕ) (v : Leading) (s : State) → 2 * m + 2 ≤ n → Fine m s.at.left → (has_any v.found ≡ true → (k : ℕ) × (n ≡ suc k) × (begins_module s.at ≡ true))
-    → Answers (Kept m) Shallow (behind_front n v s)
-behind_front_shallow n m v s l f word = behind_front_cases (Answers (Kept m) Shallow) n v s (λ a. let (k, i, w) = word a in
-    (k, i, answers_then (Kept m) Shallow (item_behind k v s) _ (word_shallow k v m s (subst (λ z. 2 * m + 2 ≤ z) i l) f w) (λ x t g. found_shallow n m (x ∷ []) t l g)))
-    (λ _. items_shallow n m s l f)
+  behind_front_shallow : (n m : ℕ) (v : Leading) (s : State) → 2 * m + 2 ≤ n → Fine T m s.at.left → (has_any v.found ≡ true → (k : ℕ) × (n ≡ suc k) × (begins_module s.at ≡ true))
+      → Answers (Kept T m) (Shallow T) (behind_front n v s)
+  behind_front_shallow n m v s l f word = behind_front_cases (Answers (Kept T m) (Shallow T)) n v s (λ a. let (k, i, w) = word a in
+      (k, i, answers_then (Kept T m) (Shallow T) (item_behind k v s) _ (word_shallow k v m s (subst (λ z. 2 * m + 2 ≤ z) i l) f w) (λ x t g. found_shallow n m (x ∷ []) t l g)))
+      (λ _. items_shallow n m s l f)
 
-module_shallow : (n m : ℕ) (recorded : List Fault) (start : Place) (w : Front) (first : Option Text) (s : State) → 2 * m + 2 ≤ n → Fine m s.at.left
-    → (has_any w.list.found ≡ true → (k : ℕ) × (n ≡ suc k) × (begins_module s.at ≡ true)) → Answers Read Shallow (as_module n recorded start w first s)
-unfolding as_module
-module_shallow n m recorded start w first s l f word =
-    answers_then {P = Kept m} Read Shallow (behind_front n w.list (entered recorded s)) _ (behind_front_shallow n m w.list (entered recorded s) l f word) (λ xs t _. tt)
+  module_shallow : (n m : ℕ) (recorded : List Fault) (start : Place) (w : Front) (first : Option Text) (s : State) → 2 * m + 2 ≤ n → Fine T m s.at.left
+      → (has_any w.list.found ≡ true → (k : ℕ) × (n ≡ suc k) × (begins_module s.at ≡ true)) → Answers Read (Shallow T) (as_module n recorded start w first s)
+  unfolding as_module
+  module_shallow n m recorded start w first s l f word =
+      answers_then {P = Kept T m} Read (Shallow T) (behind_front n w.list (entered recorded s)) _ (behind_front_shallow n m w.list (entered recorded s) l f word) (λ xs t _. tt)
 
--- ---- a program
+  -- ---- a program
 
-body_shallow : (n m : ℕ) (recorded : List Fault) (s : State) → 2 * m + 2 ≤ n → Fine m s.at.left → Answers Read Shallow (program_body n recorded s)
-unfolding program_body as_script
-body_shallow n m recorded s l f =
-    answers_then Read _ (shebang s) _ (shebang_shallow m s f) (λ o t g.
-    answers_then Read _ (front n t) _ (known_both (Kept m) (Fronts n t) Shallow (front n t) (front_shallow n m t l g) (fronts n t)) (λ w u (k, is).
-    answers_if _ _ (at_end u.at && not u.notes.found_module_item) _ _ (λ _. tt) (λ _. module_shallow n m recorded s.at w o u l k (list_word n t w u is))))
+  body_shallow : (n m : ℕ) (recorded : List Fault) (s : State) → 2 * m + 2 ≤ n → Fine T m s.at.left → Answers Read (Shallow T) (program_body n recorded s)
+  unfolding program_body as_script
+  body_shallow n m recorded s l f =
+      answers_then Read _ (shebang s) _ (shebang_shallow m s f) (λ o t g.
+      answers_then Read _ (front n t) _ (known_both (Kept T m) (Fronts n t) (Shallow T) (front n t) (front_shallow n m t l g) (fronts n t)) (λ w u (k, is).
+      answers_if _ _ (at_end u.at && not u.notes.found_module_item) _ _ (λ _. tt) (λ _. module_shallow n m recorded s.at w o u l k (list_word n t w u is))))
 
-program_shallow : (n m : ℕ) (recorded : List Fault) (s : State) → 2 * m + 2 ≤ n → Fine m s.at.left → Answers Read Shallow (program_whole n recorded s)
-unfolding program_whole
-program_shallow n m recorded s l f =
-    let u = coded (program_code s.code) s in
-    answers_then {P = Read} _ _ (program_body n recorded u) _ (body_shallow n m recorded u l f) (λ p t _. tt)
+  program_shallow : (n m : ℕ) (recorded : List Fault) (s : State) → 2 * m + 2 ≤ n → Fine T m s.at.left → Answers Read (Shallow T) (program_whole n recorded s)
+  unfolding program_whole
+  program_shallow n m recorded s l f =
+      let u = coded (program_code s.code) s in
+      answers_then {P = Read} _ _ (program_body n recorded u) _ (body_shallow n m recorded u l f) (λ p t _. tt)
 
--- a limit of twice the tokens and two more is never met, unless an error token says so
-pub program_fits : (n : ℕ) (recorded : List Fault) (s : State) (e : Fault) (t : State) → 2 * length s.at.left + 2 ≤ n → program_whole n recorded s ≡ Err (e, t)
-    → has_too_deep_token s.at.left ≡ false → e.kind ≢ faults.TooDeep
-program_fits n recorded s e t h g k =
-    meant Read Shallow (program_whole n recorded s) (Err (e, t)) g (program_shallow n (length s.at.left) recorded s h (record { few = omega arith; shallow = k }))
+  -- a limit of twice the tokens and two more is never met, unless an error token says so
+  pub program_fits : (n : ℕ) (recorded : List Fault) (s : State) (e : Fault) (t : State) → 2 * length s.at.left + 2 ≤ n → program_whole n recorded s ≡ Err (e, t)
+      → has_too_deep_token s.at.left ≡ false → e.kind ≢ faults.TooDeep
+  program_fits n recorded s e t h g k =
+      meant Read (Shallow T) (program_whole n recorded s) (Err (e, t)) g (program_shallow n (length s.at.left) recorded s h (record { few = omega arith; shallow = k }))

@@ -14,7 +14,8 @@ use Rattle.swc_ecma_parser_grammar.proofs.Narrows.{script_narrows, script_awaits
 use Rattle.swc_ecma_parser_reader.specs.State.{State, Outcome, coded}
 use Rattle.swc_ecma_parser_reader.specs.Reader.{script_body, script}
 use Rattle.swc_ecma_parser_reader.specs.Entry.{script_left, SoundScript, ReadsSupported, CompleteScript, AnswersScript}
-use Rattle.swc_ecma_parser_reader.specs.Limits.{has_too_deep_token, has_out_of_memory_token}
+use Rattle.swc_ecma_parser_reader.specs.Limits.{IsToldBy, has_out_of_memory_token}
+use Rattle.swc_ecma_parser_reader.proofs.Told.{told_by_list}
 use Rattle.swc_ecma_parser_reader.proofs.SoundScripts.{script_is_sound, script_lacks_out_of_memory}
 use Rattle.swc_ecma_parser_reader.proofs.CompleteScripts.{script_reads}
 use Rattle.swc_ecma_parser_reader.proofs.Limits.{script_fits}
@@ -53,10 +54,10 @@ module _ (X : Type 0) (view : X → Tree) (limit : ℕ) (s : State) where
   no_memory : (k : faults.Kind) → k ≡ faults.TooDeep → k ≢ faults.OutOfMemory
   no_memory k e h = cc
 
-  -- a limit of twice the tokens and two is never met
-  pub entry_fits : (r : Result X Error) (t : State) → AnswersScript view limit s r t → 2 * length s.at.left + 2 ≤ limit → has_too_deep_token s.at.left ≡ false → IfErr r (λ e. kind_of e.kind ≢ faults.TooDeep)
-  entry_fits (Ok x) t h l n = tt
-  entry_fits (Err e) t h l n = λ d. let p = h (no_memory (kind_of e.kind) d) in script_fits limit s (fault_of e) p.0 l p.1 n d
+  -- a limit of twice the tokens and two is never met: what is refused as too deep is told by an error token of the list
+  pub entry_fits : (r : Result X Error) (t : State) → AnswersScript view limit s r t → 2 * length s.at.left + 2 ≤ limit → IfErr r (λ e. kind_of e.kind ≡ faults.TooDeep → IsToldBy s.at.left (fault_of e))
+  entry_fits (Ok x) t h l = tt
+  entry_fits (Err e) t h l = λ d. let p = h (no_memory (kind_of e.kind) d) in script_fits limit s (fault_of e) p.0 l p.1 (told_by_list s.at.left) d
 
   same_refusal : (e : Error) (f : Fault) (u v : State) → script limit s ≡ Err (fault_of e, u) → script limit s ≡ Err (f, v) → fault_of e ≡ f
   same_refusal e f u v h g = ap (refusal_of f) (sym h ∙ g)

@@ -2,6 +2,7 @@
 use Rattle.std.proofs.Common.{◌≡◌, ◌≢◌, ℕ, Bool, true, false, cond, List, length, refl, sym, ◌∙◌, ap}
 use Rattle.std.specs.Prelude.{not, ◌&&◌, ◌||◌}
 use Rattle.swc_ecma_parser_error.specs.Kind as faults
+use Rattle.swc_ecma_parser_error.specs.Kind.{Fault}
 use Rattle.swc_ecma_parser_token.specs.declared.kind.TokenKind.{TokenKind}
 use Rattle.swc_ecma_parser_token.specs.declared.kind.TokenKind.TheVariants as kind
 use Rattle.swc_ecma_parser_input.specs.Place.{after}
@@ -81,14 +82,14 @@ module _ (found : Reader (List Tree)) (v : Bool) (rest : Position → Reader Tre
     unfolding await_using_or
     first_keeps r = answers_if _ _ (is_await_using_declaration at s.code s.at && v) _ _ (λ e. await_using_keeps (and_yes (is_await_using_declaration at s.code s.at) v e).0) (λ _. r)
 
-  module _ (m : ℕ) (h : (s : State) → Fine m s.at.left → Answers (shallow.Kept m) Shallow (found s)) (s : State) (f : Fine m s.at.left) where
-    await_using_shallow : Answers (shallow.Kept m) Shallow (await_using_stmt found s)
+  module _ {T : Fault → Type 0} (m : ℕ) (h : (s : State) → Fine T m s.at.left → Answers (shallow.Kept T m) (Shallow T) (found s)) (s : State) (f : Fine T m s.at.left) where
+    await_using_shallow : Answers (shallow.Kept T m) (Shallow T) (await_using_stmt found s)
     unfolding await_using_stmt using_from misusing
     await_using_shallow = answers_then _ _ (within with_in found (moved (moved s))) _
-        (answers_then (shallow.Kept m) _ (found (coded (with_in s.code) (moved (moved s)))) _ (h (coded (with_in s.code) (moved (moved s))) (fine_after m (after s.at) (fine_after m s.at f))) (λ xs t k. k)) (λ xs t k.
-        answers_then (shallow.Kept m) _ (misusing (record { lo = (span_at s.at).lo; hi = t.at.last.hi }) xs t) _ (told_shallow m _ t k) (λ _ u j.
+        (answers_then (shallow.Kept T m) _ (found (coded (with_in s.code) (moved (moved s)))) _ (h (coded (with_in s.code) (moved (moved s))) (fine_after m (after s.at) (fine_after m s.at f))) (λ xs t k. k)) (λ xs t k.
+        answers_then (shallow.Kept T m) _ (misusing (record { lo = (span_at s.at).lo; hi = t.at.last.hi }) xs t) _ (told_shallow m _ t k) (λ _ u j.
         answers_then _ _ (end faults.Expected u) _ (end_shallow m u j faults.Expected (λ e. cc)) (λ _ v i. i)))
 
-    pub first_shallow : Answers (shallow.Kept m) Shallow (rest at s) → Answers (shallow.Kept m) Shallow (await_using_or found v rest at s)
+    pub first_shallow : Answers (shallow.Kept T m) (Shallow T) (rest at s) → Answers (shallow.Kept T m) (Shallow T) (await_using_or found v rest at s)
     unfolding await_using_or
     first_shallow r = answers_if _ _ (is_await_using_declaration at s.code s.at && v) _ _ (λ _. await_using_shallow) (λ _. r)

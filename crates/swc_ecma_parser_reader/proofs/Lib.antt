@@ -42,6 +42,7 @@ pub mod Complete
 pub mod CompleteScripts
 pub mod Unique
 pub mod Empty
+pub mod Told
 pub mod Shallow
 pub mod Limits
 pub mod KeepsParts

@@ -157,7 +157,7 @@ object_alone_keeps (suc n) b s f = answers_if _ _ (sees kind.LBrace s.at) _ _
     (object_keeps (expr n) (cover n) (expr_keeps n) (cover_keeps n) b (function n) (functions_keep n) s (saw s.at kind.LBrace e) f) (λ v t g. keeps.close_keeps b t g v))
     (λ _. refuse_keeps _ faults.Expected b s f)
 
-pub object_alone_shallow : (n : ℕ) → Levels n (object_alone n)
+pub object_alone_shallow : {T : Fault → Type 0} (n : ℕ) → Levels T n (object_alone n)
 unfolding object_alone object_level
 object_alone_shallow zero m s h f = too_deep_shallow _ s (let i = f.few in omega arith)
 object_alone_shallow (suc n) m s h f = answers_if _ _ (sees kind.LBrace s.at) _ _

@@ -4,6 +4,7 @@ use Rattle.std.proofs.Common.{◌≡◌, ℕ, ◌*◌, ◌≤◌, false, length,
 use Rattle.std.specs.Prelude.{not}
 use Rattle.swc_ecma_parser_common.specs.declared.span.Span.{Span}
 use Rattle.swc_ecma_parser_error.specs.Kind as faults
+use Rattle.swc_ecma_parser_error.specs.Kind.{Fault}
 use Rattle.swc_ecma_parser_input.specs.Place.{Place}
 use Rattle.swc_ecma_parser_model.specs.Tree.{Tree}
 use Rattle.swc_ecma_parser_grammar.specs.Looks.{kind_at, span_at}
@@ -35,13 +36,13 @@ module _ (operators : Span → Tree → Reader Tree) where
     pub stmt_end_falls : (start : Span) (x : Tree) (s : State) → Falls 0 (length s.at.left) (stmt_end operators start x s)
     stmt_end_falls start x s = kept_falls s (stmt_end operators start x s) (stmt_end_keeps start x s s (behind_self s))
 
-  pub stmt_end_shallow : (n m : ℕ) → ((start : Span) (x : Tree) → Levels n (operators start x)) → 2 * m ≤ n → (start : Span) (x : Tree) (s : State) → Fine m s.at.left
-      → Answers (shallow.Kept m) Shallow (stmt_end operators start x s)
+  pub stmt_end_shallow : {T : Fault → Type 0} (n m : ℕ) → ((start : Span) (x : Tree) → Levels T n (operators start x)) → 2 * m ≤ n → (start : Span) (x : Tree) (s : State) → Fine T m s.at.left
+      → Answers (shallow.Kept T m) (Shallow T) (stmt_end operators start x s)
   unfolding stmt_end operators_on
-  stmt_end_shallow n m levels enough start x s f = answers_if (shallow.Kept m) Shallow (lacks_end s.at) _ _
-      (λ _. answers_then (shallow.Kept m) _ (fault (fault_at (span_at s.at) faults.TS1005) s) _ (fault_shallow m s f (fault_at (span_at s.at) faults.TS1005)) (λ _ t g.
-      answers_then (shallow.Kept m) _ (operators start x (coded (with_in t.code) t)) _ (levels start x m (coded (with_in t.code) t) enough g) (λ y u k. k)))
-      (λ _. answers_then (shallow.Kept m) _ (end faults.ExpectedSemiForExprStmt s) _ (end_shallow m s f faults.ExpectedSemiForExprStmt (λ e. cc)) (λ _ t g. g))
+  stmt_end_shallow {T} n m levels enough start x s f = answers_if (shallow.Kept T m) (Shallow T) (lacks_end s.at) _ _
+      (λ _. answers_then (shallow.Kept T m) _ (fault (fault_at (span_at s.at) faults.TS1005) s) _ (fault_shallow m s f (fault_at (span_at s.at) faults.TS1005)) (λ _ t g.
+      answers_then (shallow.Kept T m) _ (operators start x (coded (with_in t.code) t)) _ (levels start x m (coded (with_in t.code) t) enough g) (λ y u k. k)))
+      (λ _. answers_then (shallow.Kept T m) _ (end faults.ExpectedSemiForExprStmt s) _ (end_shallow m s f faults.ExpectedSemiForExprStmt (λ e. cc)) (λ _ t g. g))
 
 -- where an end stands none is missing
 pub no_lack : (c d : Place) → Ends c d → lacks_end c ≡ false

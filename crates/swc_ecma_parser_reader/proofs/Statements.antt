@@ -28,7 +28,8 @@ use Rattle.swc_ecma_parser_reader.specs.Words.{begins_async_call}
 use Rattle.swc_ecma_parser_reader.specs.DecoratedStatements.{either_stmt}
 use Rattle.swc_ecma_parser_reader.specs.Reader.{expr_stmt, expr_stmt_at, begins_label, other_stmt, stmt_level, stmt, top_await, whole_stmt, expr, await_using_or}
 use Rattle.swc_ecma_parser_reader.specs.Entry.{StandsAt, statement_entry, statement_walk, statement_left, SoundStatement, ReadsSupportedStatement, CompleteStatement, AnswersStatement}
-use Rattle.swc_ecma_parser_reader.specs.Limits.{has_too_deep_token, has_out_of_memory_token}
+use Rattle.swc_ecma_parser_reader.specs.Limits.{IsToldBy, has_out_of_memory_token}
+use Rattle.swc_ecma_parser_reader.proofs.Told.{told_by_list}
 use Rattle.swc_ecma_parser_reader.proofs.Errors.{is_error, kind_here}
 use Rattle.swc_ecma_parser_reader.proofs.expressions.SoundSteps.{elsewhere}
 use Rattle.swc_ecma_parser_reader.proofs.SoundParts.{and_false}
@@ -184,11 +185,11 @@ module _ (X : Type 0) (view : X → Tree) (limit : ℕ) (include_decl top_level 
   no_memory : (k : faults.Kind) → k ≡ faults.TooDeep → k ≢ faults.OutOfMemory
   no_memory k e h = cc
 
-  -- a limit of twice the tokens and two is never met
-  pub statement_fits : (r : Result X Error) (t : State) → AnswersStatement view limit include_decl top_level s r t → 2 * length s.at.left + 2 ≤ limit → has_too_deep_token s.at.left ≡ false
-      → IfErr r (λ e. kind_of e.kind ≢ faults.TooDeep)
-  statement_fits (Ok x) t h l n = tt
-  statement_fits (Err e) t h l n = λ d. let p = h (no_memory (kind_of e.kind) d) in whole_fits limit (at_top include_decl top_level) s (fault_of e) p.0 l p.1 n d
+  -- a limit of twice the tokens and two is never met: what is refused as too deep is told by an error token of the list
+  pub statement_fits : (r : Result X Error) (t : State) → AnswersStatement view limit include_decl top_level s r t → 2 * length s.at.left + 2 ≤ limit
+      → IfErr r (λ e. kind_of e.kind ≡ faults.TooDeep → IsToldBy s.at.left (fault_of e))
+  statement_fits (Ok x) t h l = tt
+  statement_fits (Err e) t h l = λ d. let p = h (no_memory (kind_of e.kind) d) in whole_fits limit (at_top include_decl top_level) s (fault_of e) p.0 l p.1 (told_by_list s.at.left) d
 
   same_refusal : (e : Error) (f : Fault) (u v : State) → whole_stmt limit (at_top include_decl top_level) s ≡ Err (fault_of e, u) → whole_stmt limit (at_top include_decl top_level) s ≡ Err (f, v)
       → fault_of e ≡ f

@@ -1,11 +1,23 @@
--- Error tokens of two kinds in a list: one that says that something stands too deep, and one that says that memory ran out.
-use Rattle.std.specs.Prelude.{Bool, true, false, ◌||◌, List, [], ◌∷◌}
+-- Error tokens in a list: which faults they tell; and whether one says that something stands too deep, or that memory ran out.
+use Rattle.std.specs.Prelude.{◌≡◌, Bool, true, false, ◌||◌, List, [], ◌∷◌, ◌++◌}
+use Rattle.swc_ecma_parser_error.specs.Kind.{Fault, fault_of}
+use Rattle.swc_ecma_parser_error.specs.declared.error.Error.{Error}
 use Rattle.swc_ecma_parser_error.specs.declared.kind.SyntaxError.{SyntaxError}
 use Rattle.swc_ecma_parser_error.specs.declared.kind.SyntaxError.TheVariants as kind
 use Rattle.swc_ecma_parser_token.specs.declared.token.Token.{Token}
 use Rattle.swc_ecma_parser_token.specs.declared.token.Token.TheVariants as token
 use Rattle.swc_ecma_parser_token.specs.declared.token.TokenAndSpan.{TokenAndSpan}
 use Rattle.swc_ecma_parser_input.specs.TokenSource.{is_out_of_memory}
+
+-- an error token of the list tells this fault
+pub record IsToldBy (ts : List TokenAndSpan) (f : Fault) : Type 0 where
+  pub before : List TokenAndSpan
+  pub here : TokenAndSpan
+  pub behind : List TokenAndSpan
+  pub error : Error
+  pub stands : ts ≡ before ++ here ∷ behind
+  pub tells : here.token ≡ token.Error error
+  pub told : f ≡ fault_of error
 
 abbrev pub means_too_deep : SyntaxError → Bool
 means_too_deep kind.TooDeep = true

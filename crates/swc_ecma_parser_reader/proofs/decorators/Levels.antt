@@ -39,7 +39,7 @@ pub decorators_in_keep : (n : ℕ) → Passes (decorators_in n)
 decorators_in_keep n = decorators_keep (decorated_in n) (decorated_in_keeps n)
 
 -- with enough levels nothing is too deep
-pub decorators_in_shallow : (n : ℕ) → Levels (suc n) (decorators_in n)
+pub decorators_in_shallow : {T : Fault → Type 0} (n : ℕ) → Levels T (suc n) (decorators_in n)
 decorators_in_shallow n = decorators_shallow (decorated_in n) n (decorated_in_shallow n)
 
 -- what is read is the language's

@@ -43,196 +43,198 @@ other_test false b h e = h
 pub no_end_by : {A : Type 0} (f : TokenKind → Option A) (k : TokenKind) (x : A) → f kind.End ≡ None → f k ≡ Some x → k ≢ kind.End
 no_end_by f k x n h = λ e. let g : Some x ≡ None = sym h ∙ ap f e ∙ n in cc
 
--- ---- answers with fewer tokens are answers with more
+module _ {T : Fault → Type 0} where
+  -- ---- answers with fewer tokens are answers with more
 
-pub kept_more : {A : Type 0} (i m : ℕ) (o : Outcome A) → i ≤ m → Answers (Kept i) Shallow o → Answers (Kept m) Shallow o
-kept_more i m (Ok p) h g = fine_more i m p.1.at.left h g
-kept_more i m (Err e) h g = g
+  pub kept_more : {A : Type 0} (i m : ℕ) (o : Outcome A) → i ≤ m → Answers (Kept T i) (Shallow T) o → Answers (Kept T m) (Shallow T) o
+  kept_more i m (Ok p) h g = fine_more i m p.1.at.left h g
+  kept_more i m (Err e) h g = g
 
--- ---- refusals of what was read
+  -- ---- refusals of what was read
 
-module _ {A : Type 0} (P : A → State → Type 0) (k : Kind) (span : Span) (other : k ≢ faults.TooDeep) (m : ℕ) (s : State) (f : Fine m s.at.left) where
-  pub reject_at_shallow : (u : TokenAndSpan) (ts : List TokenAndSpan) (v : Token) → s.at.left ≡ u ∷ ts → u.token ≡ v → Answers P Shallow (reject_at (fault_at span k) s v)
-  reject_at_shallow u ts (token.Error e) h i = answers_if _ _ (means_out_of_memory e.kind) _ _ (λ _. error_shallow m s u ts e h i f)
-      (λ _. refused_shallow m P k span (fault (fault_of e) (moved s)) other (fault_shallow m (moved s) (fine_after m s.at f) (fault_of e)))
-  reject_at_shallow u ts _ h i = other
+  module _ {A : Type 0} (P : A → State → Type 0) (k : Kind) (span : Span) (other : k ≢ faults.TooDeep) (m : ℕ) (s : State) (f : Fine T m s.at.left) where
+    pub reject_at_shallow : (u : TokenAndSpan) (ts : List TokenAndSpan) (v : Token) → s.at.left ≡ u ∷ ts → u.token ≡ v → Answers P (Shallow T) (reject_at (fault_at span k) s v)
+    reject_at_shallow u ts (token.Error e) h i = answers_if _ _ (means_out_of_memory e.kind) _ _ (λ _. error_shallow m s u ts e h i f)
+        (λ _. refused_shallow m P k span (fault (fault_of e) (moved s)) other (fault_shallow m (moved s) (fine_after m s.at f) (fault_of e)))
+    reject_at_shallow u ts _ h i = λ z. absurd (other z)
 
-  pub reject_in_shallow : (ts : List TokenAndSpan) → s.at.left ≡ ts → Answers P Shallow (reject_in (fault_at span k) s ts)
-  reject_in_shallow [] h = other
-  reject_in_shallow (u ∷ ts) h = reject_at_shallow u ts u.token h refl
+    pub reject_in_shallow : (ts : List TokenAndSpan) → s.at.left ≡ ts → Answers P (Shallow T) (reject_in (fault_at span k) s ts)
+    reject_in_shallow [] h = λ z. absurd (other z)
+    reject_in_shallow (u ∷ ts) h = reject_at_shallow u ts u.token h refl
 
-  pub reject_shallow : Answers P Shallow (reject (fault_at span k) s)
-  unfolding reject
-  reject_shallow = reject_in_shallow s.at.left refl
+    pub reject_shallow : Answers P (Shallow T) (reject (fault_at span k) s)
+    unfolding reject
+    reject_shallow = reject_in_shallow s.at.left refl
 
 pub unassignable_shallow : (op : AssignOp) → unassignable op ≢ faults.TooDeep
 unassignable_shallow assign.Assign e = cc
 unassignable_shallow _ e = cc
 
--- ---- steps that read nothing further in
+module _ {T : Fault → Type 0} where
+  -- ---- steps that read nothing further in
 
-module _ (m : ℕ) (s : State) (f : Fine m s.at.left) where
-  pub unexpected_shallow : {A : Type 0} (P : A → State → Type 0) → Answers P Shallow (wanted faults.Unexpected s)
-  unexpected_shallow P = wanted_shallow P faults.Unexpected (λ e. cc) m s f
+  module _ (m : ℕ) (s : State) (f : Fine T m s.at.left) where
+    pub unexpected_shallow : {A : Type 0} (P : A → State → Type 0) → Answers P (Shallow T) (wanted faults.Unexpected s)
+    unexpected_shallow P = wanted_shallow P faults.Unexpected (λ e. cc) m s f
 
-  pub taken_shallow : (o : Option Tree) → Answers (Kept m) Shallow (taken o s)
-  taken_shallow None = f
-  taken_shallow (Some x) = fine_after m s.at f
+    pub taken_shallow : (o : Option Tree) → Answers (Kept T m) (Shallow T) (taken o s)
+    taken_shallow None = f
+    taken_shallow (Some x) = fine_after m s.at f
 
-  pub literal_shallow : Answers (Kept m) Shallow (literal s)
-  unfolding literal
-  literal_shallow = taken_shallow (literal_in s.at.left)
+    pub literal_shallow : Answers (Kept T m) (Shallow T) (literal s)
+    unfolding literal
+    literal_shallow = taken_shallow (literal_in s.at.left)
 
-  pub word_by_shallow : (v : Token) (span : Span) → Answers (Kept m) Shallow (word_by s v span)
-  word_by_shallow (token.Word w) span = fine_after m s.at f
-  word_by_shallow _ span = wanted_shallow _ faults.ExpectedIdent (λ e. cc) m s f
+    pub word_by_shallow : (v : Token) (span : Span) → Answers (Kept T m) (Shallow T) (word_by s v span)
+    word_by_shallow (token.Word w) span = fine_after m s.at f
+    word_by_shallow _ span = wanted_shallow _ faults.ExpectedIdent (λ e. cc) m s f
 
-  pub word_in_shallow : (ts : List TokenAndSpan) → Answers (Kept m) Shallow (word_in s ts)
-  word_in_shallow [] = wanted_shallow _ faults.ExpectedIdent (λ e. cc) m s f
-  word_in_shallow (u ∷ ts) = word_by_shallow u.token u.span
+    pub word_in_shallow : (ts : List TokenAndSpan) → Answers (Kept T m) (Shallow T) (word_in s ts)
+    word_in_shallow [] = wanted_shallow _ faults.ExpectedIdent (λ e. cc) m s f
+    word_in_shallow (u ∷ ts) = word_by_shallow u.token u.span
 
-  pub any_word_shallow : Answers (Kept m) Shallow (any_word s)
-  unfolding any_word
-  any_word_shallow = word_in_shallow s.at.left
+    pub any_word_shallow : Answers (Kept T m) (Shallow T) (any_word s)
+    unfolding any_word
+    any_word_shallow = word_in_shallow s.at.left
 
-  pub touching_shallow : Answers (Kept m) Shallow (touching_word s)
-  unfolding touching_word
-  touching_shallow = answers_if _ _ (nat_eq s.at.last.hi.0 (span_at s.at).lo.0) _ _ (λ _. any_word_shallow) (λ _. wanted_shallow _ faults.ExpectedIdent (λ e. cc) m s f)
+    pub touching_shallow : Answers (Kept T m) (Shallow T) (touching_word s)
+    unfolding touching_word
+    touching_shallow = answers_if _ _ (nat_eq s.at.last.hi.0 (span_at s.at).lo.0) _ _ (λ _. any_word_shallow) (λ _. wanted_shallow _ faults.ExpectedIdent (λ e. cc) m s f)
 
-  pub ident_shallow : Answers (Kept m) Shallow (ident_expr s)
-  unfolding ident_expr
-  ident_shallow = answers_then _ _ (reference faults.Unexpected s) _ (reference_shallow m s f faults.Unexpected (λ e. cc)) (λ i t g. g)
+    pub ident_shallow : Answers (Kept T m) (Shallow T) (ident_expr s)
+    unfolding ident_expr
+    ident_shallow = answers_then _ _ (reference faults.Unexpected s) _ (reference_shallow m s f faults.Unexpected (λ e. cc)) (λ i t g. g)
 
-  -- the name is taken
-  pub ident_taken : Answers (Taken m) Shallow (ident_expr s)
-  unfolding ident_expr
-  ident_taken = answers_then _ _ (reference faults.Unexpected s) _ (reference_takes m s f faults.Unexpected (λ e. cc)) (λ i t g. g)
+    -- the name is taken
+    pub ident_taken : Answers (Taken T m) (Shallow T) (ident_expr s)
+    unfolding ident_expr
+    ident_taken = answers_then _ _ (reference faults.Unexpected s) _ (reference_takes m s f faults.Unexpected (λ e. cc)) (λ i t g. g)
 
-  pub this_shallow : Answers (Kept m) Shallow (this s)
-  unfolding this
-  this_shallow = fine_after m s.at f
+    pub this_shallow : Answers (Kept T m) (Shallow T) (this s)
+    unfolding this
+    this_shallow = fine_after m s.at f
 
-  pub simple_shallow : (x : Tree) → Answers (Kept m) Shallow (simple x s)
-  unfolding simple
-  simple_shallow x = answers_if _ _ (is_simple_target x) _ _ (λ _. f) (λ _. reject_shallow _ faults.NotSimpleAssign (span_of x) (λ e. cc) m s f)
+    pub simple_shallow : (x : Tree) → Answers (Kept T m) (Shallow T) (simple x s)
+    unfolding simple
+    simple_shallow x = answers_if _ _ (is_simple_target x) _ _ (λ _. f) (λ _. reject_shallow _ faults.NotSimpleAssign (span_of x) (λ e. cc) m s f)
 
-  pub closed_shallow : (x : Tree) → Answers (Kept m) Shallow (closed_left x s)
-  unfolding closed_left
-  closed_shallow x = answers_if _ _ (continues_left_side s.at) _ _ (λ _. unexpected_shallow _) (λ _. f)
+    pub closed_shallow : (x : Tree) → Answers (Kept T m) (Shallow T) (closed_left x s)
+    unfolding closed_left
+    closed_shallow x = answers_if _ _ (continues_left_side s.at) _ _ (λ _. unexpected_shallow _) (λ _. f)
 
-  pub unmixed_shallow : (start : Span) (op : BinaryOp) (x y : Tree) → Answers (Kept m) Shallow (unmixed start op x y s)
-  unfolding unmixed
-  unmixed_shallow start op x y = answers_if _ _ (mixes op x || mixes op y) _ _ (λ _. reject_shallow _ faults.NullishCoalescingWithLogicalOp _ (λ e. cc) m s f) (λ _. f)
+    pub unmixed_shallow : (start : Span) (op : BinaryOp) (x y : Tree) → Answers (Kept T m) (Shallow T) (unmixed start op x y s)
+    unfolding unmixed
+    unmixed_shallow start op x y = answers_if _ _ (mixes op x || mixes op y) _ _ (λ _. reject_shallow _ faults.NullishCoalescingWithLogicalOp _ (λ e. cc) m s f) (λ _. f)
 
-  pub unassigned_shallow : (x : Tree) → Answers (Kept m) Shallow (unassigned x s)
-  unfolding unassigned
-  unassigned_shallow x = answers_if _ _ (continues_conditional s.at) _ _ (λ _. unexpected_shallow _) (λ _. f)
+    pub unassigned_shallow : (x : Tree) → Answers (Kept T m) (Shallow T) (unassigned x s)
+    unfolding unassigned
+    unassigned_shallow x = answers_if _ _ (continues_conditional s.at) _ _ (λ _. unexpected_shallow _) (λ _. f)
 
-  pub unheaded_shallow : (is_async : Bool) (x : Tree) → Answers (Kept m) Shallow (unheaded is_async x s)
-  unfolding unheaded
-  unheaded_shallow is_async x = answers_if _ _ (heads_arrow is_async x s) _ _ (λ _. unexpected_shallow _) (λ _. f)
+    pub unheaded_shallow : (is_async : Bool) (x : Tree) → Answers (Kept T m) (Shallow T) (unheaded is_async x s)
+    unfolding unheaded
+    unheaded_shallow is_async x = answers_if _ _ (heads_arrow is_async x s) _ _ (λ _. unexpected_shallow _) (λ _. f)
 
-  pub as_name_shallow : (may_await : Context → Bool) (span : Span) (text : Text) → Answers (Kept m) Shallow (as_name may_await span text s)
-  unfolding as_name
-  as_name_shallow may_await span text = answers_if _ _ (is_name s.code.flags text) _ _ (λ _. f)
-      (λ _. answers_if _ _ (may_await s.code.flags && is_identifier s.code.flags text) _ _ (λ _. fault_shallow m s f _) (λ _. reject_shallow _ faults.ExpectedIdent span (λ e. cc) m s f))
+    pub as_name_shallow : (may_await : Context → Bool) (span : Span) (text : Text) → Answers (Kept T m) (Shallow T) (as_name may_await span text s)
+    unfolding as_name
+    as_name_shallow may_await span text = answers_if _ _ (is_name s.code.flags text) _ _ (λ _. f)
+        (λ _. answers_if _ _ (may_await s.code.flags && is_identifier s.code.flags text) _ _ (λ _. fault_shallow m s f _) (λ _. reject_shallow _ faults.ExpectedIdent span (λ e. cc) m s f))
 
-  pub shorthand_name_shallow : (span : Span) (text : Text) → Answers (Kept m) Shallow (shorthand_name span text s)
-  unfolding shorthand_name
-  shorthand_name_shallow span text = answers_then _ _ (as_name may_refer_to_await span text s) _ (as_name_shallow may_refer_to_await span text) (λ _ t g. g)
+    pub shorthand_name_shallow : (span : Span) (text : Text) → Answers (Kept T m) (Shallow T) (shorthand_name span text s)
+    unfolding shorthand_name
+    shorthand_name_shallow span text = answers_then _ _ (as_name may_refer_to_await span text s) _ (as_name_shallow may_refer_to_await span text) (λ _ t g. g)
 
-  pub shorthand_shallow : (x : Tree) → Answers (Kept m) Shallow (shorthand x s)
-  shorthand_shallow (tree.ident span text) = shorthand_name_shallow span text
-  shorthand_shallow _ = unexpected_shallow _
+    pub shorthand_shallow : (x : Tree) → Answers (Kept T m) (Shallow T) (shorthand x s)
+    shorthand_shallow (tree.ident span text) = shorthand_name_shallow span text
+    shorthand_shallow _ = unexpected_shallow _
 
-  -- a refusal of the left operand, or the state as it is
-  pub left_operand_shallow : (op : BinaryOp) (x : Tree) → Answers (λ _ t. t ≡ s) Shallow (left_operand op x s)
-  unfolding left_operand
-  left_operand_shallow op x = answers_if _ _ (not (groups_left op) && is_unary x) _ _ (λ _. reject_shallow _ faults.UnaryInExp (span_of x) (λ e. cc) m s f) (λ _. refl)
+    -- a refusal of the left operand, or the state as it is
+    pub left_operand_shallow : (op : BinaryOp) (x : Tree) → Answers (λ _ t. t ≡ s) (Shallow T) (left_operand op x s)
+    unfolding left_operand
+    left_operand_shallow op x = answers_if _ _ (not (groups_left op) && is_unary x) _ _ (λ _. reject_shallow _ faults.UnaryInExp (span_of x) (λ e. cc) m s f) (λ _. refl)
 
-  -- ---- what is closed, and what is a target
+    -- ---- what is closed, and what is a target
 
-  pub unmarked_shallow : (x : Tree) (o : Option Span) → Answers (Kept m) Shallow (unmarked x o s)
-  unmarked_shallow x None = f
-  unmarked_shallow x (Some k) = reject_shallow _ faults.AssignProperty k (λ e. cc) m s f
+    pub unmarked_shallow : (x : Tree) (o : Option Span) → Answers (Kept T m) (Shallow T) (unmarked x o s)
+    unmarked_shallow x None = f
+    unmarked_shallow x (Some k) = reject_shallow _ faults.AssignProperty k (λ e. cc) m s f
 
-  pub close_shallow : (v : Cover) → Answers (Kept m) Shallow (close v s)
-  unfolding close
-  close_shallow v = unmarked_shallow v.x v.mark
+    pub close_shallow : (v : Cover) → Answers (Kept T m) (Shallow T) (close v s)
+    unfolding close
+    close_shallow v = unmarked_shallow v.x v.mark
 
-  -- a target is refused, or the state is as it is
-  pub target_or_shallow : (x : Tree) (o : Option Tree) → Answers (λ _ t. t ≡ s) Shallow (target_or x o s)
-  target_or_shallow x (Some p) = refl
-  target_or_shallow x None = reject_shallow _ faults.InvalidPat (span_of x) (λ e. cc) m s f
+    -- a target is refused, or the state is as it is
+    pub target_or_shallow : (x : Tree) (o : Option Tree) → Answers (λ _ t. t ≡ s) (Shallow T) (target_or x o s)
+    target_or_shallow x (Some p) = refl
+    target_or_shallow x None = reject_shallow _ faults.InvalidPat (span_of x) (λ e. cc) m s f
 
-  pub target_shallow : (v : Cover) → Answers (λ _ t. t ≡ s) Shallow (target v s)
-  unfolding target
-  target_shallow v = target_or_shallow v.x (cond v.comma None (as_target v.x))
+    pub target_shallow : (v : Cover) → Answers (λ _ t. t ≡ s) (Shallow T) (target v s)
+    unfolding target
+    target_shallow v = target_or_shallow v.x (cond v.comma None (as_target v.x))
 
--- ---- what is told, and what stands in parentheses as an expression and as parameters
+  -- ---- what is told, and what stands in parentheses as an expression and as parameters
 
-pub told_shallow : (m : ℕ) (fs : List Fault) (s : State) → Fine m s.at.left → Answers (Kept m) Shallow (told fs s)
-told_shallow m [] s g = g
-told_shallow m (f ∷ fs) s g = answers_then (Kept m) _ (fault f s) _ (fault_shallow m s g f) (λ _ t k. told_shallow m fs t k)
+  pub told_shallow : (m : ℕ) (fs : List Fault) (s : State) → Fine T m s.at.left → Answers (Kept T m) (Shallow T) (told fs s)
+  told_shallow m [] s g = g
+  told_shallow m (f ∷ fs) s g = answers_then (Kept T m) _ (fault f s) _ (fault_shallow m s g f) (λ _ t k. told_shallow m fs t k)
 
-pub closed_parts_shallow : (m : ℕ) (vs : List Cover) (s : State) → Fine m s.at.left → Answers (Kept m) Shallow (closed_parts vs s)
-closed_parts_shallow m [] s f = f
-closed_parts_shallow m (v ∷ vs) s f = answers_then _ _ (close v s) _ (close_shallow m s f v) (λ x t g. answers_then _ _ (closed_parts vs t) _ (closed_parts_shallow m vs t g) (λ xs u k. k))
+  pub closed_parts_shallow : (m : ℕ) (vs : List Cover) (s : State) → Fine T m s.at.left → Answers (Kept T m) (Shallow T) (closed_parts vs s)
+  closed_parts_shallow m [] s f = f
+  closed_parts_shallow m (v ∷ vs) s f = answers_then _ _ (close v s) _ (close_shallow m s f v) (λ x t g. answers_then _ _ (closed_parts vs t) _ (closed_parts_shallow m vs t g) (λ xs u k. k))
 
-pub closed_group_shallow : (m : ℕ) (start : Span) (g : Group) (s : State) → Fine m s.at.left → Answers (Kept m) Shallow (closed_group start g s)
-unfolding closed_group
-closed_group_shallow m start g s f = answers_if _ _ (may_stand_alone g) _ _ (λ _. answers_then _ _ (closed_parts g.parts s) _ (closed_parts_shallow m g.parts s f) (λ xs t k. k))
-    (λ _. unexpected_shallow m s f _)
+  pub closed_group_shallow : (m : ℕ) (start : Span) (g : Group) (s : State) → Fine T m s.at.left → Answers (Kept T m) (Shallow T) (closed_group start g s)
+  unfolding closed_group
+  closed_group_shallow m start g s f = answers_if _ _ (may_stand_alone g) _ _ (λ _. answers_then _ _ (closed_parts g.parts s) _ (closed_parts_shallow m g.parts s f) (λ xs t k. k))
+      (λ _. unexpected_shallow m s f _)
 
-pub parameter_or_shallow : (m : ℕ) (x : Tree) (o : Option Tree) (s : State) → Fine m s.at.left → Answers (Kept m) Shallow (parameter_or x o s)
-parameter_or_shallow m x (Some p) s f = f
-parameter_or_shallow m x None s f = reject_shallow _ faults.InvalidPat (span_of x) (λ e. cc) m s f
+  pub parameter_or_shallow : (m : ℕ) (x : Tree) (o : Option Tree) (s : State) → Fine T m s.at.left → Answers (Kept T m) (Shallow T) (parameter_or x o s)
+  parameter_or_shallow m x (Some p) s f = f
+  parameter_or_shallow m x None s f = reject_shallow _ faults.InvalidPat (span_of x) (λ e. cc) m s f
 
-pub parameter_shallow : (m : ℕ) (v : Cover) (s : State) → Fine m s.at.left → Answers (Kept m) Shallow (parameter v s)
-unfolding parameter
-parameter_shallow m v s f = parameter_or_shallow m v.x (cond v.comma None (as_parameter v.x)) s f
+  pub parameter_shallow : (m : ℕ) (v : Cover) (s : State) → Fine T m s.at.left → Answers (Kept T m) (Shallow T) (parameter v s)
+  unfolding parameter
+  parameter_shallow m v s f = parameter_or_shallow m v.x (cond v.comma None (as_parameter v.x)) s f
 
-pub parameters_of_shallow : (m : ℕ) (vs : List Cover) (rest : Option Tree) (s : State) → Fine m s.at.left → Answers (Kept m) Shallow (parameters_of vs rest s)
-parameters_of_shallow m [] rest s f = f
-parameters_of_shallow m (v ∷ vs) rest s f = answers_then _ _ (parameter v s) _ (parameter_shallow m v s f) (λ p t g.
-    answers_then _ _ (parameters_of vs rest t) _ (parameters_of_shallow m vs rest t g) (λ ps u k. k))
+  pub parameters_of_shallow : (m : ℕ) (vs : List Cover) (rest : Option Tree) (s : State) → Fine T m s.at.left → Answers (Kept T m) (Shallow T) (parameters_of vs rest s)
+  parameters_of_shallow m [] rest s f = f
+  parameters_of_shallow m (v ∷ vs) rest s f = answers_then _ _ (parameter v s) _ (parameter_shallow m v s f) (λ p t g.
+      answers_then _ _ (parameters_of vs rest t) _ (parameters_of_shallow m vs rest t g) (λ ps u k. k))
 
-pub closed_arguments_shallow : (m : ℕ) (found : List Argument) (s : State) → Fine m s.at.left → Answers (Kept m) Shallow (closed_arguments found s)
-closed_arguments_shallow m [] s f = f
-closed_arguments_shallow m (a ∷ rest) s f = answers_then _ _ (closed_argument a s) _ (answers_then _ _ (close a.cover s) _ (close_shallow m s f a.cover) (λ x t g. g)) (λ x t g.
-    answers_then _ _ (closed_arguments rest t) _ (closed_arguments_shallow m rest t g) (λ xs u k. k))
+  pub closed_arguments_shallow : (m : ℕ) (found : List Argument) (s : State) → Fine T m s.at.left → Answers (Kept T m) (Shallow T) (closed_arguments found s)
+  closed_arguments_shallow m [] s f = f
+  closed_arguments_shallow m (a ∷ rest) s f = answers_then _ _ (closed_argument a s) _ (answers_then _ _ (close a.cover s) _ (close_shallow m s f a.cover) (λ x t g. g)) (λ x t g.
+      answers_then _ _ (closed_arguments rest t) _ (closed_arguments_shallow m rest t g) (λ xs u k. k))
 
-pub argument_parameter_shallow : (m : ℕ) (a : Argument) (s : State) → Fine m s.at.left → Answers (Kept m) Shallow (argument_parameter a s)
-unfolding argument_parameter
-argument_parameter_shallow m a s f = parameter_or_shallow m a.cover.x (cond a.cover.comma None (argument_pattern a.dots a.cover.x)) s f
+  pub argument_parameter_shallow : (m : ℕ) (a : Argument) (s : State) → Fine T m s.at.left → Answers (Kept T m) (Shallow T) (argument_parameter a s)
+  unfolding argument_parameter
+  argument_parameter_shallow m a s f = parameter_or_shallow m a.cover.x (cond a.cover.comma None (argument_pattern a.dots a.cover.x)) s f
 
-pub argument_parameters_shallow : (m : ℕ) (found : List Argument) (s : State) → Fine m s.at.left → Answers (Kept m) Shallow (argument_parameters found s)
-argument_parameters_shallow m [] s f = f
-argument_parameters_shallow m (a ∷ rest) s f = answers_then _ _ (argument_parameter a s) _ (argument_parameter_shallow m a s f) (λ p t g.
-    answers_then _ _ (argument_parameters rest t) _ (argument_parameters_shallow m rest t g) (λ ps u k. k))
+  pub argument_parameters_shallow : (m : ℕ) (found : List Argument) (s : State) → Fine T m s.at.left → Answers (Kept T m) (Shallow T) (argument_parameters found s)
+  argument_parameters_shallow m [] s f = f
+  argument_parameters_shallow m (a ∷ rest) s f = answers_then _ _ (argument_parameter a s) _ (argument_parameter_shallow m a s f) (λ p t g.
+      answers_then _ _ (argument_parameters rest t) _ (argument_parameters_shallow m rest t g) (λ ps u k. k))
 
-pub literal_key_shallow : (m : ℕ) (s : State) → Fine m s.at.left → Answers (Kept m) Shallow (literal_key s)
-unfolding literal_key
-literal_key_shallow m s f = answers_then _ _ (literal s) _ (literal_shallow m s f) by_key
-  where
-    by_key : (o : Option Tree) (t : State) → Fine m t.at.left → Answers (Kept m) Shallow (key_or o t)
-    by_key (Some (tree.str span value raw)) t g = g
-    by_key (Some (tree.num span raw)) t g = g
-    by_key (Some (tree.big_int span raw)) t g = g
-    by_key _ t g = wanted_shallow _ faults.ExpectedIdent (λ e. cc) m t g
+  pub literal_key_shallow : (m : ℕ) (s : State) → Fine T m s.at.left → Answers (Kept T m) (Shallow T) (literal_key s)
+  unfolding literal_key
+  literal_key_shallow m s f = answers_then _ _ (literal s) _ (literal_shallow m s f) by_key
+    where
+      by_key : (o : Option Tree) (t : State) → Fine T m t.at.left → Answers (Kept T m) (Shallow T) (key_or o t)
+      by_key (Some (tree.str span value raw)) t g = g
+      by_key (Some (tree.num span raw)) t g = g
+      by_key (Some (tree.big_int span raw)) t g = g
+      by_key _ t g = wanted_shallow _ faults.ExpectedIdent (λ e. cc) m t g
 
-pub private_shallow : (m : ℕ) (s : State) → Fine m s.at.left → Answers (Kept m) Shallow (private_name s)
-unfolding private_name
-private_shallow m s f = answers_then _ _ (touching_word (moved s)) _ (touching_shallow m (moved s) (fine_after m s.at f)) (λ i t g. g)
+  pub private_shallow : (m : ℕ) (s : State) → Fine T m s.at.left → Answers (Kept T m) (Shallow T) (private_name s)
+  unfolding private_name
+  private_shallow m s f = answers_then _ _ (touching_word (moved s)) _ (touching_shallow m (moved s) (fine_after m s.at f)) (λ i t g. g)
 
-pub dotted_shallow : (m : ℕ) (s : State) → Fine m s.at.left → Answers (Kept m) Shallow (dotted s)
-unfolding dotted word_property
-dotted_shallow m s f = answers_if _ _ (sees kind.Hash s.at) _ _ (λ _. private_shallow m s f) (λ _. answers_then _ _ (any_word s) _ (any_word_shallow m s f) (λ i t g. g))
+  pub dotted_shallow : (m : ℕ) (s : State) → Fine T m s.at.left → Answers (Kept T m) (Shallow T) (dotted s)
+  unfolding dotted word_property
+  dotted_shallow m s f = answers_if _ _ (sees kind.Hash s.at) _ _ (λ _. private_shallow m s f) (λ _. answers_then _ _ (any_word s) _ (any_word_shallow m s f) (λ i t g. g))
 
-pub update_behind_shallow : (m : ℕ) (start : Span) (x : Tree) (op : UpdateOp) (s : State) → Fine m s.at.left → Answers (Kept m) Shallow (update_behind start x op s)
-unfolding update_behind
-update_behind_shallow m start x op s f = answers_then _ _ (simple x s) _ (simple_shallow m s f x) (λ _ t g. fine_after m t.at g)
+  pub update_behind_shallow : (m : ℕ) (start : Span) (x : Tree) (op : UpdateOp) (s : State) → Fine T m s.at.left → Answers (Kept T m) (Shallow T) (update_behind start x op s)
+  unfolding update_behind
+  update_behind_shallow m start x op s f = answers_then _ _ (simple x s) _ (simple_shallow m s f x) (λ _ t g. fine_after m t.at g)
 
-pub behind_operand_shallow : (m : ℕ) (start : Span) (x : Tree) (o : Option UpdateOp) (s : State) → Fine m s.at.left → Answers (Kept m) Shallow (behind_operand start x o s)
-behind_operand_shallow m start x None s f = f
-behind_operand_shallow m start x (Some op) s f = update_behind_shallow m start x op s f
+  pub behind_operand_shallow : (m : ℕ) (start : Span) (x : Tree) (o : Option UpdateOp) (s : State) → Fine T m s.at.left → Answers (Kept T m) (Shallow T) (behind_operand start x o s)
+  behind_operand_shallow m start x None s f = f
+  behind_operand_shallow m start x (Some op) s f = update_behind_shallow m start x op s f
