@@ -16,7 +16,7 @@ ghost use Rattle.swc_ecma_parser_reader.specs.Notes.{held_of};
 ghost use Rattle.swc_ecma_parser_reader.specs.State as reader;
 ghost use Rattle.swc_ecma_parser_reader.specs.Entry.{unmarked, SoundScript, SoundStatement, IsRestored, Stays, script_walk, statement_walk};
 ghost use Rattle.swc_ecma_parser_reader.specs.Calls.{Leaves, MemoryLasts, TellsMark, lacks_ahead};
-ghost use Rattle.swc_ecma_parser_reader.specs.Limits.{has_too_deep_token};
+ghost use Rattle.swc_ecma_parser_reader.specs.Limits.{IsToldBy};
 ghost use Rattle.swc_ecma_parser_exactness.specs.Completes.{CompletesScript, CompletesModule, CompletesProgram, CompletesItem, CompletesStatement};
 ghost use Rattle.swc_ecma_parser_exactness.specs.Decides.{DecidesScript, DecidesStatement};
 ghost use Rattle.swc_ecma_parser_exactness.specs.ModuleDecides.{DecidesModule, DecidesItem, DecidesProgram};
@@ -128,9 +128,9 @@ impl<I: Tokens> Parser<I> {
         // Memory ran out for no token that an answer read, and for neither of the two that are read ahead of it.
         ensures memory { IfOk result (λ x. MemoryLasts self.old.state.at self.new.state.at) }
 
-        // A limit of twice the tokens and two is never met.
-        ensures fits { 2 * length self.old.state.at.left + 2 ≤ self.old.limit → has_too_deep_token self.old.state.at.left ≡ false
-            → IfErr result (λ e. kind_of e.kind ≢ kinds.TooDeep) }
+        // A limit of twice the tokens and two is never met: what is refused as too deep is what an error token of the list says.
+        ensures fits { 2 * length self.old.state.at.left + 2 ≤ self.old.limit
+            → IfErr result (λ e. kind_of e.kind ≡ kinds.TooDeep → IsToldBy self.old.state.at.left (fault_of e)) }
 
         // An error token in first place is answered, unless memory ran out.
         ensures error_token { (t : TokenAndSpan) (ts : _) (d : Error) → self.old.state.at.left ≡ t ∷ ts → t.token ≡ token.Error d
@@ -198,9 +198,9 @@ impl<I: Tokens> Parser<I> {
         // Memory ran out for no token that an answer read, and for neither of the two that are read ahead of it.
         ensures memory { IfOk result (λ x. MemoryLasts self.old.state.at self.new.state.at) }
 
-        // A limit of twice the tokens and two is never met.
-        ensures fits { 2 * length self.old.state.at.left + 2 ≤ self.old.limit → has_too_deep_token self.old.state.at.left ≡ false
-            → IfErr result (λ e. kind_of e.kind ≢ kinds.TooDeep) }
+        // A limit of twice the tokens and two is never met: what is refused as too deep is what an error token of the list says.
+        ensures fits { 2 * length self.old.state.at.left + 2 ≤ self.old.limit
+            → IfErr result (λ e. kind_of e.kind ≡ kinds.TooDeep → IsToldBy self.old.state.at.left (fault_of e)) }
 
         // An error token in first place is answered, unless memory ran out.
         ensures error_token { (t : TokenAndSpan) (ts : _) (d : Error) → self.old.state.at.left ≡ t ∷ ts → t.token ≡ token.Error d
@@ -269,9 +269,9 @@ impl<I: Tokens> Parser<I> {
         // Memory ran out for no token that an answer read, and for neither of the two that are read ahead of it.
         ensures memory { IfOk result (λ x. MemoryLasts self.old.state.at self.new.state.at) }
 
-        // A limit of twice the tokens and two is never met.
-        ensures fits { 2 * length self.old.state.at.left + 2 ≤ self.old.limit → has_too_deep_token self.old.state.at.left ≡ false
-            → IfErr result (λ e. kind_of e.kind ≢ kinds.TooDeep) }
+        // A limit of twice the tokens and two is never met: what is refused as too deep is what an error token of the list says.
+        ensures fits { 2 * length self.old.state.at.left + 2 ≤ self.old.limit
+            → IfErr result (λ e. kind_of e.kind ≡ kinds.TooDeep → IsToldBy self.old.state.at.left (fault_of e)) }
 
         // An error token in first place is answered, unless memory ran out.
         ensures error_token { (t : TokenAndSpan) (ts : _) (d : Error) → self.old.state.at.left ≡ t ∷ ts → t.token ≡ token.Error d
@@ -340,9 +340,9 @@ impl<I: Tokens> Parser<I> {
         // Memory ran out for no token that an answer read, and for neither of the two that are read ahead of it.
         ensures memory { IfOk result (λ x. MemoryLasts self.old.state.at self.new.state.at) }
 
-        // A limit of twice the tokens and two is never met.
-        ensures fits { 2 * length self.old.state.at.left + 2 ≤ self.old.limit → has_too_deep_token self.old.state.at.left ≡ false
-            → IfErr result (λ e. kind_of e.kind ≢ kinds.TooDeep) }
+        // A limit of twice the tokens and two is never met: what is refused as too deep is what an error token of the list says.
+        ensures fits { 2 * length self.old.state.at.left + 2 ≤ self.old.limit
+            → IfErr result (λ e. kind_of e.kind ≡ kinds.TooDeep → IsToldBy self.old.state.at.left (fault_of e)) }
 
         // An error token in first place is answered, unless memory ran out.
         ensures error_token { (t : TokenAndSpan) (ts : _) (d : Error) → self.old.state.at.left ≡ t ∷ ts → t.token ≡ token.Error d
@@ -407,9 +407,9 @@ impl<I: Tokens> Parser<I> {
         // Memory ran out for no token that an answer read, and for neither of the two that are read ahead of it.
         ensures memory { IfOk result (λ x. MemoryLasts self.old.state.at self.new.state.at) }
 
-        // A limit of twice the tokens and two is never met.
-        ensures fits { 2 * length self.old.state.at.left + 2 ≤ self.old.limit → has_too_deep_token self.old.state.at.left ≡ false
-            → IfErr result (λ e. kind_of e.kind ≢ kinds.TooDeep) }
+        // A limit of twice the tokens and two is never met: what is refused as too deep is what an error token of the list says.
+        ensures fits { 2 * length self.old.state.at.left + 2 ≤ self.old.limit
+            → IfErr result (λ e. kind_of e.kind ≡ kinds.TooDeep → IsToldBy self.old.state.at.left (fault_of e)) }
 
         // An error token in first place is answered, unless memory ran out.
         ensures error_token { (t : TokenAndSpan) (ts : _) (d : Error) → self.old.state.at.left ≡ t ∷ ts → t.token ≡ token.Error d
@@ -477,9 +477,9 @@ impl<I: Tokens> Parser<I> {
         // Memory ran out for no token that an answer read, and for neither of the two that are read ahead of it.
         ensures memory { IfOk result (λ x. MemoryLasts self.old.state.at self.new.state.at) }
 
-        // A limit of twice the tokens and two is never met.
-        ensures fits { 2 * length self.old.state.at.left + 2 ≤ self.old.limit → has_too_deep_token self.old.state.at.left ≡ false
-            → IfErr result (λ e. kind_of e.kind ≢ kinds.TooDeep) }
+        // A limit of twice the tokens and two is never met: what is refused as too deep is what an error token of the list says.
+        ensures fits { 2 * length self.old.state.at.left + 2 ≤ self.old.limit
+            → IfErr result (λ e. kind_of e.kind ≡ kinds.TooDeep → IsToldBy self.old.state.at.left (fault_of e)) }
 
         // An error token in first place is answered, unless memory ran out.
         ensures error_token { (t : TokenAndSpan) (ts : _) (d : Error) → self.old.state.at.left ≡ t ∷ ts → t.token ≡ token.Error d

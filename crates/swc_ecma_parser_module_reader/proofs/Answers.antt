@@ -9,7 +9,7 @@ use Rattle.swc_ecma_parser_token.specs.declared.token.TokenAndSpan.{TokenAndSpan
 use Rattle.swc_ecma_parser_model.specs.Tree.{Tree}
 use Rattle.swc_ecma_parser_reader.specs.State.{State}
 use Rattle.swc_ecma_parser_reader.specs.Entry.{Stays, unmarked}
-use Rattle.swc_ecma_parser_reader.specs.Limits.{has_too_deep_token, has_out_of_memory_token}
+use Rattle.swc_ecma_parser_reader.specs.Limits.{IsToldBy, has_out_of_memory_token}
 use Rattle.swc_ecma_parser_module_reader.specs.Entry.{IsEntered, SoundModule, CompleteModule, AnswersModule}
 use Rattle.swc_ecma_parser_module_reader.proofs.Sound.{module_is_sound, module_lacks_out_of_memory}
 use Rattle.swc_ecma_parser_module_reader.proofs.CompleteDecorated.{export_reads}
@@ -27,8 +27,8 @@ module _ (X : Type 0) (view : X → Tree) (limit : ℕ) (s u : State) (i : IsEnt
   pub memory : IfOk r (λ x. has_out_of_memory_token s.at.left ≡ false)
   memory = subst (λ c. IfOk r (λ x. has_out_of_memory_token c.left ≡ false)) i.at (entries.module_memory module_is_sound module_lacks_out_of_memory (module_reads export_reads) X view limit u r t h)
 
-  pub fits : 2 * length s.at.left + 2 ≤ limit → has_too_deep_token s.at.left ≡ false → IfErr r (λ e. kind_of e.kind ≢ faults.TooDeep)
-  fits = subst (λ c. 2 * length c.left + 2 ≤ limit → has_too_deep_token c.left ≡ false → IfErr r (λ e. kind_of e.kind ≢ faults.TooDeep)) i.at (entries.module_fits X view limit u r t h)
+  pub fits : 2 * length s.at.left + 2 ≤ limit → IfErr r (λ e. kind_of e.kind ≡ faults.TooDeep → IsToldBy s.at.left (fault_of e))
+  fits = subst (λ c. 2 * length c.left + 2 ≤ limit → IfErr r (λ e. kind_of e.kind ≡ faults.TooDeep → IsToldBy c.left (fault_of e))) i.at (entries.module_fits X view limit u r t h)
 
   pub of_error_token : (v : TokenAndSpan) (vs : List TokenAndSpan) (d : Error) → s.at.left ≡ v ∷ vs → v.token ≡ token.Error d
       → IsErrAnd r (λ e. kind_of e.kind ≢ faults.OutOfMemory → fault_of e ≡ fault_of d)

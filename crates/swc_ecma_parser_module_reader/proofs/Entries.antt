@@ -10,7 +10,8 @@ use Rattle.swc_ecma_parser_input.specs.Place.{Place}
 use Rattle.swc_ecma_parser_model.specs.Tree.{Tree}
 use Rattle.swc_ecma_parser_reader.specs.State.{State, Outcome, coded}
 use Rattle.swc_ecma_parser_reader.specs.Entry.{unmarked, Stays}
-use Rattle.swc_ecma_parser_reader.specs.Limits.{has_too_deep_token, has_out_of_memory_token}
+use Rattle.swc_ecma_parser_reader.specs.Limits.{IsToldBy, has_out_of_memory_token}
+use Rattle.swc_ecma_parser_reader.proofs.Told.{told_by_list}
 use Rattle.swc_ecma_parser_module_reader.specs.Modules.{module_code, module_body, module_whole}
 use Rattle.swc_ecma_parser_module_reader.specs.Entry.{module_left, SoundModule, ReadsSupportedModule, CompleteModule, AnswersModule}
 use Rattle.swc_ecma_parser_module_reader.proofs.Keeps as keeps
@@ -55,10 +56,10 @@ pub no_memory : (k : faults.Kind) → k ≡ faults.TooDeep → k ≢ faults.OutO
 no_memory k e h = cc
 
 module _ (X : Type 0) (view : X → Tree) (limit : ℕ) (s : State) where
-  -- a limit of twice the tokens and two is never met
-  pub module_fits : (r : Result X Error) (t : State) → AnswersModule view limit s r t → 2 * length s.at.left + 2 ≤ limit → has_too_deep_token s.at.left ≡ false → IfErr r (λ e. kind_of e.kind ≢ faults.TooDeep)
-  module_fits (Ok x) t h l n = tt
-  module_fits (Err e) t h l n = λ d. let p = h (no_memory (kind_of e.kind) d) in limits.module_fits limit s (fault_of e) p.0 l p.1 n d
+  -- a limit of twice the tokens and two is never met: what is refused as too deep is told by an error token of the list
+  pub module_fits : (r : Result X Error) (t : State) → AnswersModule view limit s r t → 2 * length s.at.left + 2 ≤ limit → IfErr r (λ e. kind_of e.kind ≡ faults.TooDeep → IsToldBy s.at.left (fault_of e))
+  module_fits (Ok x) t h l = tt
+  module_fits (Err e) t h l = λ d. let p = h (no_memory (kind_of e.kind) d) in limits.module_fits limit s (fault_of e) p.0 l p.1 (told_by_list s.at.left) d
 
   same_refusal : (e : Error) (f : Fault) (u v : State) → module_whole limit s ≡ Err (fault_of e, u) → module_whole limit s ≡ Err (f, v) → fault_of e ≡ f
   same_refusal e f u v h g = ap (refusal_of f) (sym h ∙ g)

@@ -29,14 +29,14 @@ use Rattle.swc_ecma_parser_reader.specs.Methods.{star}
 use Rattle.swc_ecma_parser_reader.specs.Reader.{head, while_stmt, function_stmt, function_decl, function_parts, function_word, async_or_other, named, expr, member, stmt, stmt_level, parameters, top_await, whole_stmt, await_using_or}
 use Rattle.swc_ecma_parser_reader.specs.State.{State, Outcome, moved, coded, within, expect, name}
 use Rattle.swc_ecma_parser_reader.specs.Entry.{IsBehind}
-use Rattle.swc_ecma_parser_reader.specs.Limits.{is_too_deep, has_too_deep_token}
+use Rattle.swc_ecma_parser_reader.proofs.Told.{TellOnly}
 use Rattle.swc_ecma_parser_reader.proofs.Behind as behind
 use Rattle.swc_ecma_parser_reader.proofs.Behind.{Lost, behind_self}
 use Rattle.swc_ecma_parser_reader.proofs.Keeps.{whole_stmt_keeps, expr_keeps, member_keeps}
 use Rattle.swc_ecma_parser_reader.proofs.classes.Keeps.{class_expr_keeps}
 use Rattle.swc_ecma_parser_reader.proofs.Limits.{whole_fits}
 use Rattle.swc_ecma_parser_reader.proofs.Meets.{Answers, Meets, answers_then, answers_if, meant}
-use Rattle.swc_ecma_parser_reader.proofs.Shallow.{Fine, fine_taken, Shallow, Kept, either_false, name_shallow}
+use Rattle.swc_ecma_parser_reader.proofs.Shallow.{Fine, fine_taken, Shallow, Kept, name_shallow}
 use Rattle.swc_ecma_parser_reader.proofs.Words.{unreserved}
 use Rattle.swc_ecma_parser_reader.proofs.expressions.SoundSteps.{FreeWord, name_sound}
 use Rattle.swc_ecma_parser_reader.proofs.Between.{SoundStep}
@@ -49,13 +49,13 @@ module _ {T : Fault → Type 0} where
   fine_last : (m : ℕ) (read ts : List TokenAndSpan) → Fine T m (read ++ ts) → Fine T m ts
   fine_last m [] ts f = f
   fine_last m (t ∷ read) ts f = fine_last m read ts
-      (record { few = let l = f.few in omega arith; shallow = (either_false (is_too_deep t.token) (has_too_deep_token (read ++ ts)) f.shallow).1 })
+      (record { few = let l = f.few in omega arith; told = f.told.1 })
 
   fine_behind : (m : ℕ) (s t : State) → IsBehind s t → Fine T m s.at.left → Fine T m t.at.left
   fine_behind m s t h f = fine_last m h.read t.at.left (subst (Fine T m) h.tokens f)
 
   -- a reader that keeps its tokens answers fine ones
-  with_refusals : {A : Type 0} (m : ℕ) (s : State) (o : Outcome A) → Answers (behind.Kept s) (Lost s) o → Fine T m s.at.left → ((e : Fault) (t : State) → o ≡ Err (e, t) → e.kind ≢ faults.TooDeep)
+  with_refusals : {A : Type 0} (m : ℕ) (s : State) (o : Outcome A) → Answers (behind.Kept s) (Lost s) o → Fine T m s.at.left → ((e : Fault) (t : State) → o ≡ Err (e, t) → e.kind ≡ faults.TooDeep → T e)
       → Answers (Kept T m) (Shallow T) o
   with_refusals m s (Ok p) h f g = fine_behind m s p.1 h.0 f
   with_refusals m s (Err e) h f g = g e.0 e.1 refl
@@ -64,7 +64,7 @@ module _ {T : Fault → Type 0} where
 
   pub whole_shallow : (n : ℕ) (at : Position) (m : ℕ) (s : State) → 2 * m + 2 ≤ n → Fine T m s.at.left → Answers (Kept T m) (Shallow T) (whole_stmt n at s)
   whole_shallow n at m s l f = with_refusals m s (whole_stmt n at s) (whole_stmt_keeps n at s s (behind_self s)) f
-      (λ e t g. whole_fits n at s e t (let k = f.few in omega arith) g f.shallow)
+      (λ e t g. whole_fits n at s e t (let k = f.few in omega arith) g f.told)
 
 -- one inside another begins with no `await` of the top level
 as_whole : (n : ℕ) (s : State) → whole_stmt n nested_item s ≡ stmt n nested_item s
@@ -76,7 +76,7 @@ module _ {T : Fault → Type 0} where
   stmt_shallow n m s l f = subst (Answers (Kept T m) (Shallow T)) (as_whole n s) (whole_shallow n nested_item m s l f)
 
   -- a refusal of such a statement
-  stmt_fits : (n m : ℕ) (s : State) (e : Fault) (t : State) → 2 * m + 2 ≤ n → Fine T m s.at.left → stmt n nested_item s ≡ Err (e, t) → e.kind ≢ faults.TooDeep
+  stmt_fits : (n m : ℕ) (s : State) (e : Fault) (t : State) → 2 * m + 2 ≤ n → Fine T m s.at.left → stmt n nested_item s ≡ Err (e, t) → e.kind ≡ faults.TooDeep → T e
   stmt_fits n m s e t l f g = subst (Answers (Kept T m) (Shallow T)) g (stmt_shallow n m s l f)
 
 -- ---- expressions: as behind `while (`
@@ -95,11 +95,11 @@ unfolding stmt either_stmt await_using_or is_await_using_declaration stmt_level 
 refused_in_while k s p h = rw h refl
 
 module _ {T : Fault → Type 0} where
-  expr_fits : (n m : ℕ) (s : State) (e : Fault) (t : State) → 2 * m + 5 ≤ n → Fine T m s.at.left → expr n assignment (coded (with_in s.code) s) ≡ Err (e, t) → e.kind ≢ faults.TooDeep
+  expr_fits : (n m : ℕ) (s : State) (e : Fault) (t : State) → 2 * m + 5 ≤ n → Fine T m s.at.left → expr n assignment (coded (with_in s.code) s) ≡ Err (e, t) → e.kind ≡ faults.TooDeep → T e
   unfolding a_token
   expr_fits zero m s e t l f g = absurd (omega arith)
   expr_fits (suc k) m s e t l f g =
-      stmt_fits (suc (suc k)) (suc (suc m)) (in_while s) e t (omega arith) (record { few = let i = f.few in omega arith; shallow = f.shallow }) (refused_in_while k s (e, t) g)
+      stmt_fits (suc (suc k)) (suc (suc m)) (in_while s) e t (omega arith) (record { few = let i = f.few in omega arith; told = (tt, (tt, f.told)) }) (refused_in_while k s (e, t) g)
 
   -- an assignment expression in which `in` is an operator
   pub whole_expr_shallow : (n m : ℕ) (s : State) → 2 * m + 5 ≤ n → Fine T m s.at.left → Answers (Kept T m) (Shallow T) (within with_in (expr n assignment) s)
@@ -141,10 +141,10 @@ refused_in_function k false false start s p h = rw (async_name s, h) refl
 module _ {T : Fault → Type 0} where
   fine_in_function : (w v : Bool) (start : Span) (m : ℕ) (s : State) → Fine T m s.at.left → Fine T (m + 2 + cost w + cost v) (in_function w v start s).at.left
   unfolding a_token
-  fine_in_function true true start m s f = record { few = let i = f.few in omega arith; shallow = f.shallow }
-  fine_in_function true false start m s f = record { few = let i = f.few in omega arith; shallow = f.shallow }
-  fine_in_function false true start m s f = record { few = let i = f.few in omega arith; shallow = f.shallow }
-  fine_in_function false false start m s f = record { few = let i = f.few in omega arith; shallow = f.shallow }
+  fine_in_function true true start m s f = record { few = let i = f.few in omega arith; told = (tt, (tt, (tt, (tt, f.told)))) }
+  fine_in_function true false start m s f = record { few = let i = f.few in omega arith; told = (tt, (tt, (tt, f.told))) }
+  fine_in_function false true start m s f = record { few = let i = f.few in omega arith; told = (tt, (tt, (tt, f.told))) }
+  fine_in_function false false start m s f = record { few = let i = f.few in omega arith; told = (tt, (tt, f.told)) }
 
   pub parts_shallow : (n m : ℕ) (w v : Bool) (start : Span) (s : State) → 2 * (m + 2 + cost w + cost v) + 2 ≤ suc n → Fine T m s.at.left
       → Answers (Kept T m) (Shallow T) (function_parts (stmt n nested_item) (parameters n) w v start s)
@@ -174,7 +174,7 @@ module _ {T : Fault → Type 0} where
       where
         by_answer : (o : Outcome Tree) → class_parts (expr n left_side) (member n) start s ≡ o → Answers (λ _ _. Unit {0}) (Shallow T) o
         by_answer (Ok p) h = tt
-        by_answer (Err p) h = stmt_fits (suc n) (m + 2) (in_words start s) p.0 p.1 l (record { few = let i = f.few in omega arith; shallow = f.shallow })
+        by_answer (Err p) h = stmt_fits (suc n) (m + 2) (in_words start s) p.0 p.1 l (record { few = let i = f.few in omega arith; told = (tt, (tt, f.told)) })
             (refused_in_words n start s p (ap (class_parts (expr n left_side) (member n) start) (same_class k s e) ∙ h))
 
     -- a name, or none, in the code of the class

@@ -17,7 +17,7 @@ use Rattle.swc_ecma_parser_grammar.proofs.Tests.{or_no}
 use Rattle.swc_ecma_parser_reader.specs.Reader.{whole_stmt, plain_stmt}
 use Rattle.swc_ecma_parser_reader.specs.State.{State, Outcome, Reader, and_then}
 use Rattle.swc_ecma_parser_reader.specs.Entry.{unmarked, IsBehind, Stays}
-use Rattle.swc_ecma_parser_reader.specs.Limits.{has_too_deep_token}
+use Rattle.swc_ecma_parser_reader.proofs.Told.{TellOnly}
 use Rattle.swc_ecma_parser_reader.proofs.Behind.{Follows, Remembers, behind_self}
 use Rattle.swc_ecma_parser_reader.proofs.Empty.{ended}
 use Rattle.swc_ecma_parser_reader.proofs.Errors.{kind_here}
@@ -130,10 +130,10 @@ module _ {T : Fault → Type 0} where
 
   -- a limit of twice the tokens and two more is never met, unless an error token says so
   pub item_fits : (n : ℕ) (recorded : List Fault) (s : State) (e : Fault) (t : State) → 2 * length s.at.left + 2 ≤ n → item_whole n recorded s ≡ Err (e, t)
-      → has_too_deep_token s.at.left ≡ false → e.kind ≢ faults.TooDeep
+      → TellOnly T s.at.left → e.kind ≡ faults.TooDeep → T e
   item_fits n recorded s e t h g k =
       meant (Kept T (length s.at.left)) (Shallow T) (item_whole n recorded s) (Err (e, t)) g
-      (item_shallow n (length s.at.left) recorded s h (record { few = omega arith; shallow = k }))
+      (item_shallow n (length s.at.left) recorded s h (record { few = omega arith; told = k }))
 
 -- ---- nothing is lost
 

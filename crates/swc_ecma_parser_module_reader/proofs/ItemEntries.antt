@@ -12,7 +12,8 @@ use Rattle.swc_ecma_parser_model.specs.Tree.{Tree}
 use Rattle.swc_ecma_parser_grammar.specs.Notes.{as_note}
 use Rattle.swc_ecma_parser_reader.specs.State.{State, Outcome}
 use Rattle.swc_ecma_parser_reader.specs.Entry.{unmarked, Stays, AnswersStatement}
-use Rattle.swc_ecma_parser_reader.specs.Limits.{has_too_deep_token, has_out_of_memory_token}
+use Rattle.swc_ecma_parser_reader.specs.Limits.{IsToldBy, has_out_of_memory_token}
+use Rattle.swc_ecma_parser_reader.proofs.Told.{told_by_list}
 use Rattle.swc_ecma_parser_reader.proofs.Statements as statements
 use Rattle.swc_ecma_parser_reader.proofs.expressions.Covers.{same_answer}
 use Rattle.swc_ecma_parser_module_reader.specs.Programs.{begins_module}
@@ -78,10 +79,10 @@ module _ (X : Type 0) (view : X → Tree) (limit : ℕ) (s : State) where
   item_memory (Ok x) t h = item_remembers limit h.0 s (view x) t (map as_note h.0) h.1
   item_memory (Err e) t h = tt
 
-  never_too_deep : (r : Result X Error) (t : State) → AnswersItem view limit s r t → 2 * length s.at.left + 2 ≤ limit → has_too_deep_token s.at.left ≡ false
-      → IfErr r (λ e. kind_of e.kind ≢ faults.TooDeep)
-  never_too_deep (Ok x) t h l n = tt
-  never_too_deep (Err e) t h l n = λ d. let p = h (no_memory (kind_of e.kind) d) in item_fits limit p.0 s (fault_of e) p.1 l p.2 n d
+  told_if_too_deep : (r : Result X Error) (t : State) → AnswersItem view limit s r t → 2 * length s.at.left + 2 ≤ limit
+      → IfErr r (λ e. kind_of e.kind ≡ faults.TooDeep → IsToldBy s.at.left (fault_of e))
+  told_if_too_deep (Ok x) t h l = tt
+  told_if_too_deep (Err e) t h l = λ d. let p = h (no_memory (kind_of e.kind) d) in item_fits limit p.0 s (fault_of e) p.1 l p.2 (told_by_list s.at.left) d
 
   -- where no import and no export begins, nor decorators, what answers as the item's reader does answers as that of statements
   module _ (b : begins_module s.at ≡ false) (d : begins_decorators s.code s.at ≡ false) where
@@ -110,9 +111,9 @@ module _ (X : Type 0) (view : X → Tree) (limit : ℕ) (s : State) (r : Result 
   pub memory : AnswersItem view limit s r t → IfOk r (λ x. has_out_of_memory_token t.at.left ≡ false → has_out_of_memory_token s.at.left ≡ false)
   memory h = item_memory X view limit s r t h
 
-  -- a limit of twice the tokens and two is never met
-  pub fits : AnswersItem view limit s r t → 2 * length s.at.left + 2 ≤ limit → has_too_deep_token s.at.left ≡ false → IfErr r (λ e. kind_of e.kind ≢ faults.TooDeep)
-  fits h l n = never_too_deep X view limit s r t h l n
+  -- a limit of twice the tokens and two is never met: what is refused as too deep is told by an error token of the list
+  pub fits : AnswersItem view limit s r t → 2 * length s.at.left + 2 ≤ limit → IfErr r (λ e. kind_of e.kind ≡ faults.TooDeep → IsToldBy s.at.left (fault_of e))
+  fits h l = told_if_too_deep X view limit s r t h l
 
   -- an error token in first place is answered
   pub of_error_token : AnswersItem view limit s r t → (v : TokenAndSpan) (vs : List TokenAndSpan) (d : Error) → s.at.left ≡ v ∷ vs → v.token ≡ token.Error d

@@ -31,7 +31,7 @@ use Rattle.swc_ecma_parser_reader.specs.Operands.{literal, word_property}
 use Rattle.swc_ecma_parser_reader.specs.Reader.{at_end, items_turn, items, variables, function_decl, function_parts, function_word, named, expr, pattern, member, stmt, parameters, object_alone, shebang}
 use Rattle.swc_ecma_parser_reader.specs.State.{State, Reader, moved, coded, within, name, expect, expect_word, end, loop}
 use Rattle.swc_ecma_parser_reader.specs.Words.{any_word}
-use Rattle.swc_ecma_parser_reader.specs.Limits.{has_too_deep_token}
+use Rattle.swc_ecma_parser_reader.proofs.Told.{TellOnly}
 use Rattle.swc_ecma_parser_reader.proofs.Meets.{Answers, answers_then, answers_if, loop_answers, meant, saw}
 use Rattle.swc_ecma_parser_reader.proofs.Objects.{object_alone_shallow}
 use Rattle.swc_ecma_parser_reader.proofs.Shallow.{Levels, Fine, fine_after, fine_taken, Shallow, Kept, name_shallow, refuse_shallow, end_shallow, expect_shallow, shebang_shallow}
@@ -49,7 +49,7 @@ use Rattle.swc_ecma_parser_module_reader.proofs.DecoratedItems.{word_cases, item
 use Rattle.swc_ecma_parser_module_reader.proofs.Fits.{whole_shallow, stmt_shallow, whole_expr_shallow, cost, parts_shallow, whole_class_shallow}
 
 -- a reader that needs no level
-abbrev Flat : {A : Type 0} → Reader A → Type 0
+abbrev Flat : (Fault → Type 0) → {A : Type 0} → Reader A → Type 0
 Flat T p = (m : ℕ) (s : State) → Fine T m s.at.left → Answers (Kept T m) (Shallow T) (p s)
 
 module _ {T : Fault → Type 0} where
@@ -235,7 +235,7 @@ module _ {T : Fault → Type 0} where
 
 -- ---- the words of a function, each a token
 
-abbrev Fewer : (m k : ℕ) → State → Type 0
+abbrev Fewer : (Fault → Type 0) → (m k : ℕ) → State → Type 0
 Fewer T m k t = (i : ℕ) × (m ≡ i + k) × Fine T i t.at.left
 
 default_kind : (c : Place) → begins_default_function c ≡ true → is_async_function c ≡ false → kind_at c ≡ kind.Function
@@ -438,5 +438,5 @@ module _ {T : Fault → Type 0} where
       answers_then _ _ (items (module_item n) at_end true t) _ (items_shallow m (module_item n) (λ u h. module_item_shallow n m u l h) at_end true t g) (λ xs u k. k))) (λ x t k. k)
 
   -- a limit of twice the tokens and two more is never met, unless an error token says so
-  pub module_fits : (n : ℕ) (s : State) (e : Fault) (t : State) → 2 * length s.at.left + 2 ≤ n → module_whole n s ≡ Err (e, t) → has_too_deep_token s.at.left ≡ false → e.kind ≢ faults.TooDeep
-  module_fits n s e t h g k = meant (Kept T (length s.at.left)) (Shallow T) (module_whole n s) (Err (e, t)) g (module_shallow n (length s.at.left) s h (record { few = omega arith; shallow = k }))
+  pub module_fits : (n : ℕ) (s : State) (e : Fault) (t : State) → 2 * length s.at.left + 2 ≤ n → module_whole n s ≡ Err (e, t) → TellOnly T s.at.left → e.kind ≡ faults.TooDeep → T e
+  module_fits n s e t h g k = meant (Kept T (length s.at.left)) (Shallow T) (module_whole n s) (Err (e, t)) g (module_shallow n (length s.at.left) s h (record { few = omega arith; told = k }))

@@ -12,7 +12,8 @@ use Rattle.swc_ecma_parser_grammar.specs.Notes.{as_note}
 use Rattle.swc_ecma_parser_grammar.specs.language.Programs.{is_module_program}
 use Rattle.swc_ecma_parser_reader.specs.State.{State, Outcome}
 use Rattle.swc_ecma_parser_reader.specs.Entry.{unmarked, Stays}
-use Rattle.swc_ecma_parser_reader.specs.Limits.{has_too_deep_token, has_out_of_memory_token}
+use Rattle.swc_ecma_parser_reader.specs.Limits.{IsToldBy, has_out_of_memory_token}
+use Rattle.swc_ecma_parser_reader.proofs.Told.{told_by_list}
 use Rattle.swc_ecma_parser_reader.proofs.expressions.Covers.{same_answer}
 use Rattle.swc_ecma_parser_module_reader.specs.Programs.{program_whole}
 use Rattle.swc_ecma_parser_module_reader.specs.ProgramEntry.{program_walk, program_left, SoundProgram, ReadsSupportedProgram, CompleteProgram, GivesProgram, AnswersProgram}
@@ -92,10 +93,10 @@ module _ (is_sound : (n : ℕ) (recorded : List Fault) (s : State) (x : Tree) (t
 -- ---- what is refused, and what stays
 
 module _ (X : Type 0) (view : X → Tree) (limit : ℕ) (s : State) where
-  program_fits : (r : Result X Error) (t : State) → AnswersProgram view limit s r t → 2 * length s.at.left + 2 ≤ limit → has_too_deep_token s.at.left ≡ false
-      → IfErr r (λ e. kind_of e.kind ≢ faults.TooDeep)
-  program_fits (Ok x) t h l n = tt
-  program_fits (Err e) t h l n = λ d. let p = h (no_memory (kind_of e.kind) d) in limits.program_fits limit p.0 s (fault_of e) p.1 l p.2 n d
+  program_fits : (r : Result X Error) (t : State) → AnswersProgram view limit s r t → 2 * length s.at.left + 2 ≤ limit
+      → IfErr r (λ e. kind_of e.kind ≡ faults.TooDeep → IsToldBy s.at.left (fault_of e))
+  program_fits (Ok x) t h l = tt
+  program_fits (Err e) t h l = λ d. let p = h (no_memory (kind_of e.kind) d) in limits.program_fits limit p.0 s (fault_of e) p.1 l p.2 (told_by_list s.at.left) d
 
   program_of_error_token : (r : Result X Error) (t : State) → AnswersProgram view limit s r t → (u : TokenAndSpan) (us : List TokenAndSpan) (d : Error)
       → s.at.left ≡ u ∷ us → u.token ≡ token.Error d → IsErrAnd r (λ e. kind_of e.kind ≢ faults.OutOfMemory → fault_of e ≡ fault_of d)
@@ -105,8 +106,8 @@ module _ (X : Type 0) (view : X → Tree) (limit : ℕ) (s : State) where
       same_refusal limit q.0 s (fault_of x) (fault_of d) q.1 p.0 q.2 p.1
 
   module _ (r : Result X Error) (t : State) where
-    -- a limit of twice the tokens and two is never met
-    pub fits : AnswersProgram view limit s r t → 2 * length s.at.left + 2 ≤ limit → has_too_deep_token s.at.left ≡ false → IfErr r (λ e. kind_of e.kind ≢ faults.TooDeep)
+    -- a limit of twice the tokens and two is never met: what is refused as too deep is told by an error token of the list
+    pub fits : AnswersProgram view limit s r t → 2 * length s.at.left + 2 ≤ limit → IfErr r (λ e. kind_of e.kind ≡ faults.TooDeep → IsToldBy s.at.left (fault_of e))
     fits = program_fits r t
 
     -- an error token in first place is answered

@@ -8,7 +8,7 @@ use Rattle.swc_ecma_parser_model.specs.Tree.{Tree, Text}
 use Rattle.swc_ecma_parser_grammar.specs.language.Items.{top_item}
 use Rattle.swc_ecma_parser_reader.specs.Reader.{at_end, items_turn, items, shebang}
 use Rattle.swc_ecma_parser_reader.specs.State.{State, coded, loop}
-use Rattle.swc_ecma_parser_reader.specs.Limits.{has_too_deep_token}
+use Rattle.swc_ecma_parser_reader.proofs.Told.{TellOnly}
 use Rattle.swc_ecma_parser_reader.proofs.Meets.{Answers, answers_then, answers_if, loop_answers, meant}
 use Rattle.swc_ecma_parser_reader.proofs.Shallow.{Fine, Shallow, Kept, shebang_shallow}
 use Rattle.swc_ecma_parser_module_reader.specs.Modules.{module_item, item_behind}
@@ -69,6 +69,6 @@ module _ {T : Fault → Type 0} where
 
   -- a limit of twice the tokens and two more is never met, unless an error token says so
   pub program_fits : (n : ℕ) (recorded : List Fault) (s : State) (e : Fault) (t : State) → 2 * length s.at.left + 2 ≤ n → program_whole n recorded s ≡ Err (e, t)
-      → has_too_deep_token s.at.left ≡ false → e.kind ≢ faults.TooDeep
+      → TellOnly T s.at.left → e.kind ≡ faults.TooDeep → T e
   program_fits n recorded s e t h g k =
-      meant Read (Shallow T) (program_whole n recorded s) (Err (e, t)) g (program_shallow n (length s.at.left) recorded s h (record { few = omega arith; shallow = k }))
+      meant Read (Shallow T) (program_whole n recorded s) (Err (e, t)) g (program_shallow n (length s.at.left) recorded s h (record { few = omega arith; told = k }))

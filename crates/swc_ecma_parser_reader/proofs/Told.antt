@@ -1,5 +1,5 @@
 -- Which faults of the kind `TooDeep` the error tokens of a list may tell: those of a family `T`. Each list tells none but its own.
-use Rattle.std.proofs.Common.{◌≡◌, ◌≢◌, Bool, true, false, List, [], ◌∷◌, ◌++◌, refl, sym, ◌∙◌, ap, append_assoc}
+use Rattle.std.proofs.Common.{◌≡◌, ◌≢◌, Bool, true, false, List, [], ◌∷◌, ◌++◌, refl, sym, ◌∙◌, ap, subst, append_assoc}
 use Rattle.std.specs.Prelude.{◌||◌}
 use Rattle.swc_ecma_parser_error.specs.declared.error.Error.{Error}
 use Rattle.swc_ecma_parser_error.specs.declared.kind.SyntaxError.{SyntaxError}
@@ -58,3 +58,9 @@ none_tells _ h = tt
 pub none_tell : (ts : List TokenAndSpan) → has_too_deep_token ts ≡ false → TellOnly (λ _. ⊥) ts
 none_tell [] h = tt
 none_tell (t ∷ ts) h = let (a, b) = either_false (is_too_deep t.token) (has_too_deep_token ts) h in (none_tells t.token a, none_tell ts b)
+
+-- so what such a list tells is of another kind
+pub none_told : (ts : List TokenAndSpan) (f : Fault) → has_too_deep_token ts ≡ false → IsToldBy ts f → f.kind ≢ faults.TooDeep
+none_told ts f h r e =
+    let k : TellOnly (λ _. ⊥) (r.here ∷ r.behind) = tell_last r.before (r.here ∷ r.behind) (subst (TellOnly (λ _. ⊥)) r.stands (none_tell ts h)) in
+    subst (TellsOnly (λ _. ⊥)) r.tells k.0 (sym (ap (λ (z : Fault). z.kind) r.told) ∙ e)
