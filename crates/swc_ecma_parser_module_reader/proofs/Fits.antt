@@ -64,7 +64,7 @@ module _ {T : Fault → Type 0} where
 
   pub whole_shallow : (n : ℕ) (at : Position) (m : ℕ) (s : State) → 2 * m + 2 ≤ n → Fine T m s.at.left → Answers (Kept T m) (Shallow T) (whole_stmt n at s)
   whole_shallow n at m s l f = with_refusals m s (whole_stmt n at s) (whole_stmt_keeps n at s s (behind_self s)) f
-      (λ e t g. whole_fits n at s e t (let k = f.few in omega arith) g f.told)
+      (λ e t g. whole_fits T n at s e t (let k = f.few in omega arith) g f.told)
 
 -- one inside another begins with no `await` of the top level
 as_whole : (n : ℕ) (s : State) → whole_stmt n nested_item s ≡ stmt n nested_item s

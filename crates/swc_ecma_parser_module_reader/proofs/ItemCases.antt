@@ -128,12 +128,12 @@ module _ {T : Fault → Type 0} where
       (λ _. answers_then (Kept T m) _ (whole_stmt n top_item s) _ (whole_shallow n top_item m s l f) (λ x t g. g))
       (λ k e b v t h w. answers_then (Kept T m) _ (item_behind k v (turned recorded t)) _ (behind_shallow n m k s e l f v t h w (turned recorded t) refl) (λ x u g. g))
 
-  -- a limit of twice the tokens and two more is never met, unless an error token says so
-  pub item_fits : (n : ℕ) (recorded : List Fault) (s : State) (e : Fault) (t : State) → 2 * length s.at.left + 2 ≤ n → item_whole n recorded s ≡ Err (e, t)
-      → TellOnly T s.at.left → e.kind ≡ faults.TooDeep → T e
-  item_fits n recorded s e t h g k =
-      meant (Kept T (length s.at.left)) (Shallow T) (item_whole n recorded s) (Err (e, t)) g
-      (item_shallow n (length s.at.left) recorded s h (record { few = omega arith; told = k }))
+-- a limit of twice the tokens and two more is never met, unless an error token says so
+pub item_fits : (T : Fault → Type 0) (n : ℕ) (recorded : List Fault) (s : State) (e : Fault) (t : State) → 2 * length s.at.left + 2 ≤ n → item_whole n recorded s ≡ Err (e, t)
+    → TellOnly T s.at.left → e.kind ≡ faults.TooDeep → T e
+item_fits T n recorded s e t h g k =
+    meant (Kept T (length s.at.left)) (Shallow T) (item_whole n recorded s) (Err (e, t)) g
+    (item_shallow n (length s.at.left) recorded s h (record { few = omega arith; told = k }))
 
 -- ---- nothing is lost
 

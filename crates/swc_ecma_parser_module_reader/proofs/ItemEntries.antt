@@ -82,7 +82,7 @@ module _ (X : Type 0) (view : X → Tree) (limit : ℕ) (s : State) where
   told_if_too_deep : (r : Result X Error) (t : State) → AnswersItem view limit s r t → 2 * length s.at.left + 2 ≤ limit
       → IfErr r (λ e. kind_of e.kind ≡ faults.TooDeep → IsToldBy s.at.left (fault_of e))
   told_if_too_deep (Ok x) t h l = tt
-  told_if_too_deep (Err e) t h l = λ d. let p = h (no_memory (kind_of e.kind) d) in item_fits limit p.0 s (fault_of e) p.1 l p.2 (told_by_list s.at.left) d
+  told_if_too_deep (Err e) t h l = λ d. let p = h (no_memory (kind_of e.kind) d) in item_fits (IsToldBy s.at.left) limit p.0 s (fault_of e) p.1 l p.2 (told_by_list s.at.left) d
 
   -- where no import and no export begins, nor decorators, what answers as the item's reader does answers as that of statements
   module _ (b : begins_module s.at ≡ false) (d : begins_decorators s.code s.at ≡ false) where

@@ -269,7 +269,7 @@ module _ {T : Fault → Type 0} where
     default_function_shallow m s l e f = answers_then _ _ (function_word s) _ (function_word_costs m s e f) (λ w r (i, a, g).
         answers_then _ _ (star r) _ (star_costs i r g) (λ v u (j, b, h).
         answers_then (Kept T m) _ (default_name u) _ (default_name_flat j u h) (λ x t k.
-        answers_then (Kept T m) _ (function_parts (stmt n nested_item) (parameters n) w v (span_at s.at) t) _ (kept_more j m _ (omega arith)
+        answers_then (Kept T m) _ (function_parts (stmt n nested_item) (parameters n) w v (span_at s.at) t) _ (kept_more T j m _ (omega arith)
         (parts_shallow n j w v (span_at s.at) t (omega arith) k)) (λ y z q. q))))
 
     default_expr_shallow : (start : Span) (m : ℕ) (s : State) → 2 * (m + 2) + 2 ≤ suc n → Fine T m s.at.left → Answers (Kept T m) (Shallow T) (default_expr (expr n) start s)
@@ -364,7 +364,7 @@ module _ {T : Fault → Type 0} where
         let (i, a, k) = fine_taken m t.at kind.Default (saw t.at kind.Default h) (λ z. cc) g in
         let u = moved t in
         let le : 2 * (i + 2) + 2 ≤ suc n = omega arith in
-        kept_more i m _ (omega arith) (answers_if _ _ (has_any v.found || begins_decorators u.code u.at) _ _
+        kept_more T i m _ (omega arith) (answers_if _ _ (has_any v.found || begins_decorators u.code u.at) _ _
         (λ _. answers_then (Kept T i) _ (later (decorated_in n) b v u) _ (later_shallow b v i u (omega arith) k) (λ w j z. default_with_shallow b (span_at t.at) w i j le z))
         (λ _. export_default_shallow b (span_at t.at) i u le k))
 
@@ -374,7 +374,7 @@ module _ {T : Fault → Type 0} where
     export_from_shallow v m s l e f =
         let (i, a, g) = fine_taken m s.at kind.Export (saw s.at kind.Export e) (λ z. cc) f in
         let t = moved s in let b = span_at s.at in let le : 2 * (i + 1) + 2 ≤ suc n = omega arith in
-        kept_more i m _ (omega arith) (answers_if _ _ (sees kind.Default t.at) _ _ (λ h. behind_words_shallow b v i t le h g) (λ _.
+        kept_more T i m _ (omega arith) (answers_if _ _ (sees kind.Default t.at) _ _ (λ h. behind_words_shallow b v i t le h g) (λ _.
         answers_if _ _ (has_any v.found || begins_decorators t.code t.at) _ _
         (λ _. answers_then (Kept T i) _ (later (decorated_in n) b v t) _ (later_shallow b v i t le g) (λ w j k. named_with_shallow b w i j le k))
         (λ _. export_named_shallow b i t le g)))
@@ -437,6 +437,6 @@ module _ {T : Fault → Type 0} where
       answers_then _ _ (module_body n s1) _ (answers_then (Kept T m) _ (shebang s1) _ (shebang_shallow m s1 f) (λ o t g.
       answers_then _ _ (items (module_item n) at_end true t) _ (items_shallow m (module_item n) (λ u h. module_item_shallow n m u l h) at_end true t g) (λ xs u k. k))) (λ x t k. k)
 
-  -- a limit of twice the tokens and two more is never met, unless an error token says so
-  pub module_fits : (n : ℕ) (s : State) (e : Fault) (t : State) → 2 * length s.at.left + 2 ≤ n → module_whole n s ≡ Err (e, t) → TellOnly T s.at.left → e.kind ≡ faults.TooDeep → T e
-  module_fits n s e t h g k = meant (Kept T (length s.at.left)) (Shallow T) (module_whole n s) (Err (e, t)) g (module_shallow n (length s.at.left) s h (record { few = omega arith; told = k }))
+-- a limit of twice the tokens and two more is never met, unless an error token says so
+pub module_fits : (T : Fault → Type 0) (n : ℕ) (s : State) (e : Fault) (t : State) → 2 * length s.at.left + 2 ≤ n → module_whole n s ≡ Err (e, t) → TellOnly T s.at.left → e.kind ≡ faults.TooDeep → T e
+module_fits T n s e t h g k = meant (Kept T (length s.at.left)) (Shallow T) (module_whole n s) (Err (e, t)) g (module_shallow n (length s.at.left) s h (record { few = omega arith; told = k }))

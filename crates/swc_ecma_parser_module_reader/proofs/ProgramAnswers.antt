@@ -96,7 +96,7 @@ module _ (X : Type 0) (view : X → Tree) (limit : ℕ) (s : State) where
   program_fits : (r : Result X Error) (t : State) → AnswersProgram view limit s r t → 2 * length s.at.left + 2 ≤ limit
       → IfErr r (λ e. kind_of e.kind ≡ faults.TooDeep → IsToldBy s.at.left (fault_of e))
   program_fits (Ok x) t h l = tt
-  program_fits (Err e) t h l = λ d. let p = h (no_memory (kind_of e.kind) d) in limits.program_fits limit p.0 s (fault_of e) p.1 l p.2 (told_by_list s.at.left) d
+  program_fits (Err e) t h l = λ d. let p = h (no_memory (kind_of e.kind) d) in limits.program_fits (IsToldBy s.at.left) limit p.0 s (fault_of e) p.1 l p.2 (told_by_list s.at.left) d
 
   program_of_error_token : (r : Result X Error) (t : State) → AnswersProgram view limit s r t → (u : TokenAndSpan) (us : List TokenAndSpan) (d : Error)
       → s.at.left ≡ u ∷ us → u.token ≡ token.Error d → IsErrAnd r (λ e. kind_of e.kind ≢ faults.OutOfMemory → fault_of e ≡ fault_of d)

@@ -67,8 +67,8 @@ module _ {T : Fault → Type 0} where
       let u = coded (program_code s.code) s in
       answers_then {P = Read} _ _ (program_body n recorded u) _ (body_shallow n m recorded u l f) (λ p t _. tt)
 
-  -- a limit of twice the tokens and two more is never met, unless an error token says so
-  pub program_fits : (n : ℕ) (recorded : List Fault) (s : State) (e : Fault) (t : State) → 2 * length s.at.left + 2 ≤ n → program_whole n recorded s ≡ Err (e, t)
-      → TellOnly T s.at.left → e.kind ≡ faults.TooDeep → T e
-  program_fits n recorded s e t h g k =
-      meant Read (Shallow T) (program_whole n recorded s) (Err (e, t)) g (program_shallow n (length s.at.left) recorded s h (record { few = omega arith; told = k }))
+-- a limit of twice the tokens and two more is never met, unless an error token says so
+pub program_fits : (T : Fault → Type 0) (n : ℕ) (recorded : List Fault) (s : State) (e : Fault) (t : State) → 2 * length s.at.left + 2 ≤ n → program_whole n recorded s ≡ Err (e, t)
+    → TellOnly T s.at.left → e.kind ≡ faults.TooDeep → T e
+program_fits T n recorded s e t h g k =
+    meant Read (Shallow T) (program_whole n recorded s) (Err (e, t)) g (program_shallow n (length s.at.left) recorded s h (record { few = omega arith; told = k }))

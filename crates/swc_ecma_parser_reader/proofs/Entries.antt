@@ -57,7 +57,7 @@ module _ (X : Type 0) (view : X → Tree) (limit : ℕ) (s : State) where
   -- a limit of twice the tokens and two is never met: what is refused as too deep is told by an error token of the list
   pub entry_fits : (r : Result X Error) (t : State) → AnswersScript view limit s r t → 2 * length s.at.left + 2 ≤ limit → IfErr r (λ e. kind_of e.kind ≡ faults.TooDeep → IsToldBy s.at.left (fault_of e))
   entry_fits (Ok x) t h l = tt
-  entry_fits (Err e) t h l = λ d. let p = h (no_memory (kind_of e.kind) d) in script_fits limit s (fault_of e) p.0 l p.1 (told_by_list s.at.left) d
+  entry_fits (Err e) t h l = λ d. let p = h (no_memory (kind_of e.kind) d) in script_fits (IsToldBy s.at.left) limit s (fault_of e) p.0 l p.1 (told_by_list s.at.left) d
 
   same_refusal : (e : Error) (f : Fault) (u v : State) → script limit s ≡ Err (fault_of e, u) → script limit s ≡ Err (f, v) → fault_of e ≡ f
   same_refusal e f u v h g = ap (refusal_of f) (sym h ∙ g)

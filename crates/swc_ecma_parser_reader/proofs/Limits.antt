@@ -80,11 +80,12 @@ module _ {T : Fault → Type 0} where
         (λ xs t g. answers_if _ _ (ends_declarators t.at) _ _ (λ _. answers_then _ _ (fault _ t) _ (fault_shallow m t g (fault_at (missing_at xs t.at) faults.TS1009)) (λ _ u h. h)) (λ _. answers_then _ _ (declarator inner_expr inner_pat in_head word t) _ (declarator_shallow t g) (λ x u h. answers_if _ _ (sees kind.Comma u.at) _ _ (λ _. fine_after m u.at h) (λ _. h))))
         (λ t e. cc) [] s f
 
-  -- as many tokens at most are left as a greater number says
-  kept_more : {A : Type 0} (i m : ℕ) → i ≤ m → (o : Outcome A) → Answers (Kept T i) (Shallow T) o → Answers (Kept T m) (Shallow T) o
-  kept_more i m h (Ok p) g = fine_more i m p.1.at.left h g
-  kept_more i m h (Err e) g = g
+-- as many tokens at most are left as a greater number says
+kept_more : (T : Fault → Type 0) {A : Type 0} (i m : ℕ) → i ≤ m → (o : Outcome A) → Answers (Kept T i) (Shallow T) o → Answers (Kept T m) (Shallow T) o
+kept_more T i m h (Ok p) g = fine_more i m p.1.at.left h g
+kept_more T i m h (Err e) g = g
 
+module _ {T : Fault → Type 0} where
   -- nor are statements one behind another
   items_shallow : (inner : Reader Tree) (n : ℕ) → StmtLevels T n inner → (stops : Place → Bool) (directives : Bool) (m : ℕ) → 2 * m + 1 ≤ n → (s : State) → Fine T m s.at.left
       → Answers (Kept T m) (Shallow T) (items inner stops directives s)
@@ -93,12 +94,13 @@ module _ {T : Fault → Type 0} where
       (λ xs t g. answers_if _ _ (stops t.at) _ _ (λ _. g) (λ _. answers_then _ _ (inner t) _ (below m t h g) (λ x u k. k)))
       (λ t e. cc) [] s f
 
-  -- the fault of a `return` that was refused
-  after_return_shallow : (m : ℕ) (start : Span) (o : Outcome Tree) → Answers (Kept T m) (Shallow T) o → Answers (Kept T m) (Shallow T) (after_return start o)
-  unfolding misplaced
-  after_return_shallow m start (Ok p) h = answers_then (Kept T m) _ (misplaced start p.1) _ (told_shallow m _ p.1 h) (λ _ t k. k)
-  after_return_shallow m start (Err e) h = answers_if (Kept T m) (Shallow T) (is_some e.1.scope.mark) _ _ (λ _. h) (λ _. refused_kept (Kept T m) e.0 (misplaced start e.1) h (told_memory _ e.1))
+-- the fault of a `return` that was refused
+after_return_shallow : (T : Fault → Type 0) (m : ℕ) (start : Span) (o : Outcome Tree) → Answers (Kept T m) (Shallow T) o → Answers (Kept T m) (Shallow T) (after_return start o)
+unfolding misplaced
+after_return_shallow T m start (Ok p) h = answers_then (Kept T m) _ (misplaced start p.1) _ (told_shallow m _ p.1 h) (λ _ t k. k)
+after_return_shallow T m start (Err e) h = answers_if (Kept T m) (Shallow T) (is_some e.1.scope.mark) _ _ (λ _. h) (λ _. refused_kept T (Kept T m) e.0 (misplaced start e.1) h (told_memory T _ e.1))
 
+module _ {T : Fault → Type 0} where
   target_shallow : (m : ℕ) (s : State) → Fine T m s.at.left → Answers (Kept T m) (Shallow T) (target s)
   unfolding target
   target_shallow m s g = answers_if _ _ (ends_at s.at) _ _ (λ _. g)
@@ -138,19 +140,21 @@ module _ {T : Fault → Type 0} where
   unfolding await_here
   await_here_shallow m s f = answers_if _ _ (sees kind.Await s.at) _ _ (λ _. fine_after m s.at f) (λ _. f)
 
-  unless_awaited_shallow : (m : ℕ) (word : Option Span) (p : Reader Tree) (s : State) → Answers (Kept T m) (Shallow T) (p s) → Answers (Kept T m) (Shallow T) (unless_awaited word p s)
-  unless_awaited_shallow m None p s h = h
-  unless_awaited_shallow m (Some w) p s h = answers_then _ _ (p s) _ h (λ _ t k. reject_shallow _ faults.AwaitForStmt w (λ e. cc) m t k)
+unless_awaited_shallow : (T : Fault → Type 0) (m : ℕ) (word : Option Span) (p : Reader Tree) (s : State) → Answers (Kept T m) (Shallow T) (p s) → Answers (Kept T m) (Shallow T) (unless_awaited word p s)
+unless_awaited_shallow T m None p s h = h
+unless_awaited_shallow T m (Some w) p s h = answers_then _ _ (p s) _ h (λ _ t k. reject_shallow _ faults.AwaitForStmt w (λ e. cc) m t k)
 
+module _ {T : Fault → Type 0} where
   misdeclared_shallow : (m : ℕ) (refused : Bool) (left : Tree) (s : State) → Fine T m s.at.left → Answers (Kept T m) (Shallow T) (misdeclared refused left s)
   unfolding misdeclared
   misdeclared_shallow m refused left s f = told_shallow m (head_faults refused left) s f
 
-  -- a refusal that says where it is, is not of what is too deep
-  labelled_shallow : {A : Type 0} (P : A → State → Type 0) (o : Outcome A) → Answers P (Shallow T) o → Answers P (Shallow T) (labelled_as o)
-  labelled_shallow P (Ok p) h = h
-  labelled_shallow P (Err e) h = answers_if P (Shallow T) (is_some e.1.scope.mark || says_out_of_memory e.0.kind) _ _ (λ _. h) (λ _. λ z. cc)
+-- a refusal that says where it is, is not of what is too deep
+labelled_shallow : (T : Fault → Type 0) {A : Type 0} (P : A → State → Type 0) (o : Outcome A) → Answers P (Shallow T) o → Answers P (Shallow T) (labelled_as o)
+labelled_shallow T P (Ok p) h = h
+labelled_shallow T P (Err e) h = answers_if P (Shallow T) (is_some e.1.scope.mark || says_out_of_memory e.0.kind) _ _ (λ _. h) (λ _. λ z. cc)
 
+module _ {T : Fault → Type 0} where
   -- the links of a chain, each of which takes a token before the level below
   module _ (inner : Position → Reader Tree) (inner_expr : Class → Reader Tree) (n : ℕ)
       (below_stmt : (at : Position) → StmtLevels T n (inner at)) (below_expr : (class : Class) → Levels T n (inner_expr class)) where
@@ -159,7 +163,7 @@ module _ {T : Fault → Type 0} where
     link_shallow i h s g = answers_then (Kept T i) _ (condition (inner_expr expression) (moved s)) _
         (answers_then _ _ (expect kind.LParen (moved s)) _ (expect_shallow i (moved s) g kind.LParen) (λ _ u j.
         answers_then _ _ (labelled_as (within with_in (inner_expr expression) u)) _
-        (labelled_shallow (Kept T i) (within with_in (inner_expr expression) u)
+        (labelled_shallow T (Kept T i) (within with_in (inner_expr expression) u)
         (answers_then (Kept T i) _ (inner_expr expression (coded (with_in u.code) u)) _ (below_expr expression i (coded (with_in u.code) u) (omega arith) j) (λ x v k. k))) (λ x v k.
         answers_then _ _ (expect kind.RParen v) _ (expect_shallow i v k kind.RParen) (λ _ w z. z)))) (λ x t k.
         answers_then _ _ (inner sub_statement t) _ (below_stmt sub_statement i t h k) (λ y u z. z))
@@ -287,7 +291,7 @@ module _ {T : Fault → Type 0} where
     unfolding block
     block_shallow e =
         let (i, h, g) = fine_taken m s.at kind.LBrace e (λ z. cc) f in
-        kept_more i m (omega arith) (block_from (inner nested_item) false s.at (moved s)) (block_from_shallow i (omega arith) false s.at (moved s) g)
+        kept_more T i m (omega arith) (block_from (inner nested_item) false s.at (moved s)) (block_from_shallow i (omega arith) false s.at (moved s) g)
 
     braced_shallow : (i : ℕ) → 2 * i + 1 ≤ n → (directives : Bool) (t : State) → Fine T i t.at.left → Answers (Kept T i) (Shallow T) (braced (inner nested_item) directives t)
     braced_shallow i h directives t g = braces_shallow (inner nested_item) n (below_stmt nested_item) directives i t h g
@@ -387,7 +391,7 @@ module _ {T : Fault → Type 0} where
     unfolding return_stmt returned operand
     return_shallow e =
         let (i, h, g) = fine_taken m s.at kind.Return e (λ z. cc) f in
-        after_return_shallow m (span_at s.at) (returned (inner_expr expression) (span_at s.at) (moved s)) (answers_then (Kept T m) _ (operand (inner_expr expression) (moved s)) _
+        after_return_shallow T m (span_at s.at) (returned (inner_expr expression) (span_at s.at) (moved s)) (answers_then (Kept T m) _ (operand (inner_expr expression) (moved s)) _
         (answers_if (Kept T i) _ (ends_at (after s.at)) _ _ (λ _. g)
         (λ _. answers_then (Kept T i) _ (inner_expr expression (coded (with_in s.code) (moved s))) _ (below_expr expression i (coded (with_in s.code) (moved s)) (omega arith) g) (λ x t k. k))) (λ x t k.
         answers_then _ _ (end faults.Expected t) _ (end_shallow i t k faults.Expected (λ z. cc)) (λ _ u j. fine_more i m u.at.left (omega arith) j)))
@@ -515,9 +519,9 @@ module _ {T : Fault → Type 0} where
         → Answers (Kept T i) (Shallow T) (for_behind (inner sub_statement) inner_expr start word o t)
     unfolding for_behind
     for_behind_shallow i h start word o t g =
-        answers_if _ _ (sees kind.In t.at) _ _ (λ _. unless_awaited_shallow i word (for_in (inner sub_statement) inner_expr start o) t (for_in_shallow i h start o t g))
+        answers_if _ _ (sees kind.In t.at) _ _ (λ _. unless_awaited_shallow T i word (for_in (inner sub_statement) inner_expr start o) t (for_in_shallow i h start o t g))
         (λ _. answers_if _ _ (word_at (codes "of") t.at) _ _ (λ _. for_of_shallow i h (is_some word) start o t g)
-        (λ _. unless_awaited_shallow i word (for_parts (inner sub_statement) inner_expr start o) t (for_parts_shallow i h start o t g)))
+        (λ _. unless_awaited_shallow T i word (for_parts (inner sub_statement) inner_expr start o) t (for_parts_shallow i h start o t g)))
 
     for_shallow : kind_at s.at ≡ kind.For → Answers (Kept T m) (Shallow T) (for_stmt (inner sub_statement) inner_expr inner_pat inner_head s)
     unfolding for_stmt
@@ -526,7 +530,7 @@ module _ {T : Fault → Type 0} where
         answers_then _ _ (await_here (moved s)) _ (await_here_shallow i (moved s) g) (λ word v c.
         answers_then _ _ (expect kind.LParen v) _ (expect_shallow i v c kind.LParen) (λ _ t a.
         answers_then _ _ (opening inner_expr inner_pat inner_head (is_some word) t) _ (opening_shallow i (omega arith) (is_some word) t a) (λ o u b.
-        kept_more i m (omega arith) (for_behind (inner sub_statement) inner_expr (span_at s.at) word o u) (for_behind_shallow i (omega arith) (span_at s.at) word o u b))))
+        kept_more T i m (omega arith) (for_behind (inner sub_statement) inner_expr (span_at s.at) word o u) (for_behind_shallow i (omega arith) (span_at s.at) word o u b))))
 
     clause_from_shallow : (i : ℕ) → 2 * i + 1 ≤ n → (start : Span) (test : Tree) (t : State) → Fine T i t.at.left → Answers (Kept T i) (Shallow T) (clause_from (inner nested_item) start test t)
     unfolding clause_from
@@ -588,7 +592,7 @@ module _ {T : Fault → Type 0} where
     finally_shallow : (t : State) → Fine T m t.at.left → Answers (Kept T m) (Shallow T) (finalizer (inner nested_item) t)
     unfolding finalizer
     finally_shallow t g = answers_if _ _ (sees kind.Finally t.at) _ _ (λ e. let (i, h, k) = fine_taken m t.at kind.Finally (saw t.at kind.Finally e) (λ z. cc) g in
-        kept_more i m (omega arith) (braced (inner nested_item) false (moved t)) (braced_shallow i (omega arith) false (moved t) k)) (λ _. g)
+        kept_more T i m (omega arith) (braced (inner nested_item) false (moved t)) (braced_shallow i (omega arith) false (moved t) k)) (λ _. g)
 
     stray_shallow : Answers (Kept T m) (Shallow T) (stray (inner nested_item) inner_pat s)
     unfolding stray
@@ -682,7 +686,7 @@ module _ {T : Fault → Type 0} where
   -- a name is read in whatever levels
   names_enough : (n m : ℕ) (s : State) → 2 * m ≤ suc n → name_at s.code.flags s.at ≡ true → Fine T m s.at.left → Answers (Taken T m) (Shallow T) (pattern n s)
   unfolding pattern
-  names_enough zero m s h e f = too_deep_shallow _ s (omega arith)
+  names_enough zero m s h e f = too_deep_shallow T _ s (omega arith)
   names_enough (suc n) m s h e f = patterns.name_level_takes (expr n) (cover n) (pattern n) (element n) m s e f
 
   module _ (n : ℕ) (b : Enough T n) where
@@ -710,14 +714,14 @@ module _ {T : Fault → Type 0} where
   all_enough : (n : ℕ) → Enough T n
   unfolding function expr cover head_cover pattern element decorated_in member right_operand stmt
   all_enough zero = record {
-    exprs = λ class m s h f. too_deep_shallow _ s (omega arith);
-    covers = λ m s h f. too_deep_shallow _ s (omega arith);
-    heads = λ m s h f. too_deep_shallow _ s (omega arith);
-    patterns = λ m s h f. too_deep_shallow _ s (omega arith);
-    elements = λ m s h f. too_deep_shallow _ s (omega arith);
-    decorateds = λ m s h f. too_deep_shallow _ s (omega arith);
-    members = λ m s h f. too_deep_shallow _ s (omega arith);
-    operands = λ class m s h f. too_deep_shallow _ s (omega arith);
+    exprs = λ class m s h f. too_deep_shallow T _ s (omega arith);
+    covers = λ m s h f. too_deep_shallow T _ s (omega arith);
+    heads = λ m s h f. too_deep_shallow T _ s (omega arith);
+    patterns = λ m s h f. too_deep_shallow T _ s (omega arith);
+    elements = λ m s h f. too_deep_shallow T _ s (omega arith);
+    decorateds = λ m s h f. too_deep_shallow T _ s (omega arith);
+    members = λ m s h f. too_deep_shallow T _ s (omega arith);
+    operands = λ class m s h f. too_deep_shallow T _ s (omega arith);
     stmts = λ at m s h f. absurd (omega arith);
   }
   all_enough (suc n) = let b = all_enough n in record {
@@ -774,11 +778,11 @@ module _ {T : Fault → Type 0} where
       answers_then _ _ (script_body n s1) _ (answers_then (Kept T m) _ (shebang s1) _ (shebang_shallow m s1 f) (λ o t g.
       answers_then _ _ (items (whole_stmt n top_item) at_end true t) _ (items_shallow (whole_stmt n top_item) n (whole_stmt_shallow n top_item) at_end true m (omega arith) t g) (λ xs u k. k))) (λ x t k. k)
 
-  -- a limit of twice the tokens and two more is never met, unless an error token says so
-  pub script_fits : (n : ℕ) (s : State) (e : Fault) (t : State) → 2 * length s.at.left + 2 ≤ n → script n s ≡ Err (e, t) → TellOnly T s.at.left → e.kind ≡ faults.TooDeep → T e
-  script_fits n s e t h g k = meant (Kept T (length s.at.left)) (Shallow T) (script n s) (Err (e, t)) g (script_shallow n (length s.at.left) s h (record { few = omega arith; told = k }))
+-- a limit of twice the tokens and two more is never met, unless an error token says so
+pub script_fits : (T : Fault → Type 0) (n : ℕ) (s : State) (e : Fault) (t : State) → 2 * length s.at.left + 2 ≤ n → script n s ≡ Err (e, t) → TellOnly T s.at.left → e.kind ≡ faults.TooDeep → T e
+script_fits T n s e t h g k = meant (Kept T (length s.at.left)) (Shallow T) (script n s) (Err (e, t)) g (script_shallow n (length s.at.left) s h (record { few = omega arith; told = k }))
 
-  -- nor is it by a statement
-  pub whole_fits : (n : ℕ) (at : Position) (s : State) (e : Fault) (t : State) → 2 * length s.at.left + 2 ≤ n → whole_stmt n at s ≡ Err (e, t) → TellOnly T s.at.left → e.kind ≡ faults.TooDeep → T e
-  whole_fits n at s e t h g k = meant (Kept T (length s.at.left)) (Shallow T) (whole_stmt n at s) (Err (e, t)) g
-      (whole_stmt_shallow n at (length s.at.left) s (omega arith) (record { few = omega arith; told = k }))
+-- nor is it by a statement
+pub whole_fits : (T : Fault → Type 0) (n : ℕ) (at : Position) (s : State) (e : Fault) (t : State) → 2 * length s.at.left + 2 ≤ n → whole_stmt n at s ≡ Err (e, t) → TellOnly T s.at.left → e.kind ≡ faults.TooDeep → T e
+whole_fits T n at s e t h g k = meant (Kept T (length s.at.left)) (Shallow T) (whole_stmt n at s) (Err (e, t)) g
+    (whole_stmt_shallow n at (length s.at.left) s (omega arith) (record { few = omega arith; told = k }))

@@ -159,7 +159,7 @@ object_alone_keeps (suc n) b s f = answers_if _ _ (sees kind.LBrace s.at) _ _
 
 pub object_alone_shallow : {T : Fault → Type 0} (n : ℕ) → Levels T n (object_alone n)
 unfolding object_alone object_level
-object_alone_shallow zero m s h f = too_deep_shallow _ s (let i = f.few in omega arith)
+object_alone_shallow zero m s h f = too_deep_shallow _ _ s (let i = f.few in omega arith)
 object_alone_shallow (suc n) m s h f = answers_if _ _ (sees kind.LBrace s.at) _ _
     (λ e. answers_then _ _ (object (expr n) (cover n) (function n) s) _
     (object_shallow (expr n) (cover n) n (expr_shallow n) (cover_shallow n) m h (function n) (functions_shallow n) s (saw s.at kind.LBrace e) f) (λ v t g. close_shallow m t g v))

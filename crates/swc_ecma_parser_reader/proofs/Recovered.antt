@@ -54,7 +54,7 @@ behind_errors s t h =
 pub behind_fine : {T : Fault → Type 0} (m : ℕ) (s t : State) → Fine T m s.at.left → IsBehind s t → Fine T m t.at.left
 behind_fine {T} m s t f h = let g = behind_length s t h in record {
   few = few_enough (length t.at.left) (length s.at.left) m g f.few;
-  told = tell_last h.read t.at.left (subst (TellOnly T) h.tokens f.told);
+  told = tell_last T h.read t.at.left (subst (TellOnly T) h.tokens f.told);
 }
   where
     few_enough : (a b c : ℕ) → a ≤ b → b ≤ c → a ≤ c

@@ -97,15 +97,16 @@ module _ {T : Fault → Type 0} where
       → kind_of e.kind ≡ faults.TooDeep → T (fault_of e)
   error_shallow m s u ts e h g f = let k : TellOnly T (u ∷ ts) = subst (TellOnly T) h f.told in subst (TellsOnly T) g k.0
 
-  -- with no level left no token is left either, and the fault is another
-  pub too_deep_shallow : {A : Type 0} (P : A → State → Type 0) (s : State) → length s.at.left ≤ 0 → Answers P (Shallow T) (too_deep s)
-  unfolding too_deep
-  too_deep_shallow P s h = in_list s.at.left h
-    where
-      in_list : (ts : List TokenAndSpan) → length ts ≤ 0 → Answers P (Shallow T) (too_deep_in s ts)
-      in_list [] h = λ e. cc
-      in_list (t ∷ ts) h = absurd (omega arith)
+-- with no level left no token is left either, and the fault is another
+pub too_deep_shallow : (T : Fault → Type 0) {A : Type 0} (P : A → State → Type 0) (s : State) → length s.at.left ≤ 0 → Answers P (Shallow T) (too_deep s)
+unfolding too_deep
+too_deep_shallow T P s h = in_list s.at.left h
+  where
+    in_list : (ts : List TokenAndSpan) → length ts ≤ 0 → Answers P (Shallow T) (too_deep_in s ts)
+    in_list [] h = λ e. cc
+    in_list (t ∷ ts) h = absurd (omega arith)
 
+module _ {T : Fault → Type 0} where
   module _ (m : ℕ) (s : State) (f : Fine T m s.at.left) where
     -- an error token that is recorded may be answered
     recorded_at_shallow : (g : Fault) (u : TokenAndSpan) (ts : List TokenAndSpan) (v : Token) → s.at.left ≡ u ∷ ts → u.token ≡ v → Answers (Kept T m) (Shallow T) (recorded_at g s v)
@@ -120,11 +121,12 @@ module _ {T : Fault → Type 0} where
     unfolding fault
     fault_shallow g = recorded_in_shallow g s.at.left refl
 
-  -- refusals of another kind
-  pub refused_shallow : {A : Type 0} (m : ℕ) (P : A → State → Type 0) (k : Kind) (span : Span) (o : Outcome (Unit {0})) → k ≢ faults.TooDeep → Answers (Kept T m) (Shallow T) o → Answers P (Shallow T) (refused (fault_at span k) o)
-  refused_shallow m P k span (Ok p) h g = λ z. absurd (h z)
-  refused_shallow m P k span (Err e) h g = g
+-- refusals of another kind
+pub refused_shallow : (T : Fault → Type 0) {A : Type 0} (m : ℕ) (P : A → State → Type 0) (k : Kind) (span : Span) (o : Outcome (Unit {0})) → k ≢ faults.TooDeep → Answers (Kept T m) (Shallow T) o → Answers P (Shallow T) (refused (fault_at span k) o)
+refused_shallow T m P k span (Ok p) h g = λ z. absurd (h z)
+refused_shallow T m P k span (Err e) h g = g
 
+module _ {T : Fault → Type 0} where
   module _ {A : Type 0} (P : A → State → Type 0) (k : Kind) (other : k ≢ faults.TooDeep) (m : ℕ) (s : State) (f : Fine T m s.at.left) where
     wanted_at_shallow : (u : TokenAndSpan) (ts : List TokenAndSpan) (v : Token) → s.at.left ≡ u ∷ ts → u.token ≡ v → Answers P (Shallow T) (wanted_at k s v u.span)
     wanted_at_shallow u ts (token.Error e) h i = error_shallow m s u ts e h i f
@@ -140,7 +142,7 @@ module _ {T : Fault → Type 0} where
 
     refuse_at_shallow : (u : TokenAndSpan) (ts : List TokenAndSpan) (v : Token) → s.at.left ≡ u ∷ ts → u.token ≡ v → Answers P (Shallow T) (refuse_at k s v u.span)
     refuse_at_shallow u ts (token.Error e) h i = answers_if _ _ (means_out_of_memory e.kind) _ _ (λ _. error_shallow m s u ts e h i f)
-        (λ _. refused_shallow m P k u.span (fault (fault_of e) (moved s)) other (fault_shallow m (moved s) (fine_after m s.at f) (fault_of e)))
+        (λ _. refused_shallow T m P k u.span (fault (fault_of e) (moved s)) other (fault_shallow m (moved s) (fine_after m s.at f) (fault_of e)))
     refuse_at_shallow u ts _ h i = λ z. absurd (other z)
 
     refuse_in_shallow : (ts : List TokenAndSpan) → s.at.left ≡ ts → Answers P (Shallow T) (refuse_in k s ts)
@@ -240,21 +242,21 @@ module _ {T : Fault → Type 0} where
   unfolding optional_end
   optional_end_shallow m s f = answers_if _ _ (sees kind.Semi s.at) _ _ (λ _. fine_after m s.at f) (λ _. f)
 
-  -- ---- faults that are told
+-- ---- faults that are told
 
-  recorded_at_memory : (g : Fault) (s : State) (t : Token) → Answers (λ _ _. Unit {0}) (Shallow T) (recorded_at g s t)
-  recorded_at_memory g s (token.Error e) = answers_if _ _ (means_out_of_memory e.kind) _ _ (λ h z. absurd (memory_kind e.kind h z)) (λ _. tt)
-  recorded_at_memory g s _ = tt
+recorded_at_memory : (T : Fault → Type 0) (g : Fault) (s : State) (t : Token) → Answers (λ _ _. Unit {0}) (Shallow T) (recorded_at g s t)
+recorded_at_memory T g s (token.Error e) = answers_if _ _ (means_out_of_memory e.kind) _ _ (λ h z. absurd (memory_kind e.kind h z)) (λ _. tt)
+recorded_at_memory T g s _ = tt
 
-  recorded_in_memory : (g : Fault) (s : State) (ts : List TokenAndSpan) → Answers (λ _ _. Unit {0}) (Shallow T) (recorded_in g s ts)
-  recorded_in_memory g s [] = tt
-  recorded_in_memory g s (t ∷ ts) = recorded_at_memory g s t.token
+recorded_in_memory : (T : Fault → Type 0) (g : Fault) (s : State) (ts : List TokenAndSpan) → Answers (λ _ _. Unit {0}) (Shallow T) (recorded_in g s ts)
+recorded_in_memory T g s [] = tt
+recorded_in_memory T g s (t ∷ ts) = recorded_at_memory T g s t.token
 
-  pub told_memory : (fs : List Fault) (s : State) → Answers (λ _ _. Unit {0}) (Shallow T) (told fs s)
-  unfolding fault
-  told_memory [] s = tt
-  told_memory (f ∷ fs) s = answers_then (λ _ _. Unit {0}) _ (fault f s) _ (recorded_in_memory f s s.at.left) (λ _ t _. told_memory fs t)
+pub told_memory : (T : Fault → Type 0) (fs : List Fault) (s : State) → Answers (λ _ _. Unit {0}) (Shallow T) (told fs s)
+unfolding fault
+told_memory T [] s = tt
+told_memory T (f ∷ fs) s = answers_then (λ _ _. Unit {0}) _ (fault f s) _ (recorded_in_memory T f s s.at.left) (λ _ t _. told_memory T fs t)
 
-  pub refused_kept : {A : Type 0} (P : A → State → Type 0) (f : Fault) (o : Outcome (Unit {0})) → (f.kind ≡ faults.TooDeep → T f) → Answers (λ _ _. Unit {0}) (Shallow T) o → Answers P (Shallow T) (refused f o)
-  refused_kept P f (Ok p) h g = h
-  refused_kept P f (Err e) h g = g
+pub refused_kept : (T : Fault → Type 0) {A : Type 0} (P : A → State → Type 0) (f : Fault) (o : Outcome (Unit {0})) → (f.kind ≡ faults.TooDeep → T f) → Answers (λ _ _. Unit {0}) (Shallow T) o → Answers P (Shallow T) (refused f o)
+refused_kept T P f (Ok p) h g = h
+refused_kept T P f (Err e) h g = g

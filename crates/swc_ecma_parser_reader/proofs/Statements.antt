@@ -189,7 +189,7 @@ module _ (X : Type 0) (view : X → Tree) (limit : ℕ) (include_decl top_level 
   pub statement_fits : (r : Result X Error) (t : State) → AnswersStatement view limit include_decl top_level s r t → 2 * length s.at.left + 2 ≤ limit
       → IfErr r (λ e. kind_of e.kind ≡ faults.TooDeep → IsToldBy s.at.left (fault_of e))
   statement_fits (Ok x) t h l = tt
-  statement_fits (Err e) t h l = λ d. let p = h (no_memory (kind_of e.kind) d) in whole_fits limit (at_top include_decl top_level) s (fault_of e) p.0 l p.1 (told_by_list s.at.left) d
+  statement_fits (Err e) t h l = λ d. let p = h (no_memory (kind_of e.kind) d) in whole_fits (IsToldBy s.at.left) limit (at_top include_decl top_level) s (fault_of e) p.0 l p.1 (told_by_list s.at.left) d
 
   same_refusal : (e : Error) (f : Fault) (u v : State) → whole_stmt limit (at_top include_decl top_level) s ≡ Err (fault_of e, u) → whole_stmt limit (at_top include_decl top_level) s ≡ Err (f, v)
       → fault_of e ≡ f

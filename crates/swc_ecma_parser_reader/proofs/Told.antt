@@ -22,9 +22,9 @@ TellOnly T [] = Unit {0}
 TellOnly T (t ∷ ts) = TellsOnly T t.token × TellOnly T ts
 
 -- so is what the last tokens tell
-pub tell_last : {T : Fault → Type 0} (read rest : List TokenAndSpan) → TellOnly T (read ++ rest) → TellOnly T rest
-tell_last [] rest h = h
-tell_last (t ∷ ts) rest h = tell_last ts rest h.1
+pub tell_last : (T : Fault → Type 0) (read rest : List TokenAndSpan) → TellOnly T (read ++ rest) → TellOnly T rest
+tell_last T [] rest h = h
+tell_last T (t ∷ ts) rest h = tell_last T ts rest h.1
 
 -- ---- the tokens of a list tell what is told by it
 
@@ -62,5 +62,5 @@ none_tell (t ∷ ts) h = let (a, b) = either_false (is_too_deep t.token) (has_to
 -- so what such a list tells is of another kind
 pub none_told : (ts : List TokenAndSpan) (f : Fault) → has_too_deep_token ts ≡ false → IsToldBy ts f → f.kind ≢ faults.TooDeep
 none_told ts f h r e =
-    let k : TellOnly (λ _. ⊥) (r.here ∷ r.behind) = tell_last r.before (r.here ∷ r.behind) (subst (TellOnly (λ _. ⊥)) r.stands (none_tell ts h)) in
+    let k : TellOnly (λ _. ⊥) (r.here ∷ r.behind) = tell_last (λ _. ⊥) r.before (r.here ∷ r.behind) (subst (TellOnly (λ _. ⊥)) r.stands (none_tell ts h)) in
     subst (TellsOnly (λ _. ⊥)) r.tells k.0 (sym (ap (λ (z : Fault). z.kind) r.told) ∙ e)

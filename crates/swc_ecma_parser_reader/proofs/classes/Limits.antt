@@ -177,7 +177,7 @@ module _ {T : Fault → Type 0} where
     unfolding keyed_member
     keyed_member_shallow v b start first m s h f = answers_then _ _ (member_words s) _ (member_words_shallow m s f) (λ form t g.
         answers_then _ _ (member_key inner cover t) _ (member_key_takes m t h g) (λ x u (i, l, k).
-        kept_more i m (behind_key inner cover stmt params v b form start first (span_at s.at) x u) (omega arith) (behind_key_shallow v b form start first (span_at s.at) x i u (omega arith) k)))
+        kept_more T i m (behind_key inner cover stmt params v b form start first (span_at s.at) x u) (omega arith) (behind_key_shallow v b form start first (span_at s.at) x i u (omega arith) k)))
 
     -- behind `accessor`, which was taken
     block_behind_shallow : (b : Bool) (start first : Span) (i : ℕ) (s : State) → 2 * i + 1 ≤ n → Fine T i s.at.left → Answers (Kept T i) (Shallow T) (block_behind inner cover stmt params b start first s)
@@ -197,7 +197,7 @@ module _ {T : Fault → Type 0} where
         → Answers (Kept T i) (Shallow T) (accessed_key inner cover stmt params v b start first accessor s)
     unfolding accessed_key
     accessed_key_shallow v b start first accessor i s h f = answers_then _ _ (member_key inner cover s) _ (member_key_takes i s (omega arith) f) (λ x t (j, l, g).
-        kept_more j i (behind_accessed_key inner cover stmt params v b start first accessor (span_at s.at) x t) (omega arith)
+        kept_more T j i (behind_accessed_key inner cover stmt params v b start first accessor (span_at s.at) x t) (omega arith)
         (behind_accessed_key_shallow v b start first accessor (span_at s.at) x j t (omega arith) g))
 
     accessed_shallow : (v : Leading) (b : Bool) (start first accessor : Span) (i : ℕ) (s : State) → 2 * i + 1 ≤ n → Fine T i s.at.left
@@ -215,7 +215,7 @@ module _ {T : Fault → Type 0} where
     unfolding accessor_member
     accessor_member_shallow v b start first m s h e f =
         let (i, l, g) = fine_taken m s.at kind.Ident (auto_accessor_kind s.code s.at e) (λ z. cc) f in
-        kept_more i m (accessed inner cover stmt params v b start first (span_at s.at) (moved s)) (omega arith) (accessed_shallow v b start first (span_at s.at) i (moved s) (omega arith) g)
+        kept_more T i m (accessed inner cover stmt params v b start first (span_at s.at) (moved s)) (omega arith) (accessed_shallow v b start first (span_at s.at) i (moved s) (omega arith) g)
 
     -- a static block stands behind a token, also where decorators before it are told
     behind_misplaced : (v : Leading) (p : Reader Tree) (i : ℕ) (s : State) → ((t : State) → Fine T i t.at.left → Answers (Kept T i) (Shallow T) (p t)) → Fine T i s.at.left
@@ -228,10 +228,10 @@ module _ {T : Fault → Type 0} where
     behind_static_shallow v b start first m s h f taken = answers_if _ _ (is_accessor_word s.code s.at) _ _ (λ e. accessor_member_shallow v b start first m s h e f) (λ _.
         answers_if _ _ (b && sees kind.LBrace s.at) _ _
         (λ e. let (i, l, g) = taken (and_yes b _ e).0 in
-        kept_more i m (and_then (misplaced v s) (λ _. static_block stmt params start)) (omega arith) (behind_misplaced v (static_block stmt params start) i s (λ t k. static_block_shallow start i t (omega arith) k) g)) (λ _.
+        kept_more T i m (and_then (misplaced v s) (λ _. static_block stmt params start)) (omega arith) (behind_misplaced v (static_block stmt params start) i s (λ t k. static_block_shallow start i t (omega arith) k) g)) (λ _.
         answers_if _ _ (b && (word_at (codes "static") s.at && sees kind.LBrace (after s.at))) _ _
         (λ e. let (i, l, g) = taken (and_yes b _ e).0 in
-        kept_more i m (and_then (misplaced v s) (λ _. second_static stmt params start first)) (omega arith) (behind_misplaced v (second_static stmt params start first) i s (λ t k. second_static_shallow start first i t (omega arith) k) g)) (λ _.
+        kept_more T i m (and_then (misplaced v s) (λ _. second_static stmt params start first)) (omega arith) (behind_misplaced v (second_static stmt params start first) i s (λ t k. second_static_shallow start first i t (omega arith) k) g)) (λ _.
         keyed_member_shallow v b start first m s h f)))
 
     module _ (further : Reader Tree) (below_further : Levels T n further) where

@@ -44,7 +44,7 @@ module _ {T : Fault → Type 0} where
           let u = coded (with_in t.code) t in
           answers_then _ _ (within with_in whole t) _ (answers_then (Kept T i) _ (whole u) _ (below_whole i u (omega arith) g) (λ x v k. k)) (λ x v k.
           answers_then _ _ (expect kind.RParen v) _ (expect_shallow i v k kind.RParen) (λ _ w j.
-          kept_more i m (behind_group inner cover (span_at (after s.at)) x w) (omega arith) (behind_group_shallow i (omega arith) (span_at (after s.at)) x w j)))
+          kept_more T i m (behind_group inner cover (span_at (after s.at)) x w) (omega arith) (behind_group_shallow i (omega arith) (span_at (after s.at)) x w j)))
 
       pub decorated_shallow : Levels T (suc n) (decorated inner cover whole)
       unfolding decorated

@@ -43,19 +43,19 @@ other_test false b h e = h
 pub no_end_by : {A : Type 0} (f : TokenKind → Option A) (k : TokenKind) (x : A) → f kind.End ≡ None → f k ≡ Some x → k ≢ kind.End
 no_end_by f k x n h = λ e. let g : Some x ≡ None = sym h ∙ ap f e ∙ n in cc
 
+-- ---- answers with fewer tokens are answers with more
+
+pub kept_more : (T : Fault → Type 0) {A : Type 0} (i m : ℕ) (o : Outcome A) → i ≤ m → Answers (Kept T i) (Shallow T) o → Answers (Kept T m) (Shallow T) o
+kept_more T i m (Ok p) h g = fine_more i m p.1.at.left h g
+kept_more T i m (Err e) h g = g
+
 module _ {T : Fault → Type 0} where
-  -- ---- answers with fewer tokens are answers with more
-
-  pub kept_more : {A : Type 0} (i m : ℕ) (o : Outcome A) → i ≤ m → Answers (Kept T i) (Shallow T) o → Answers (Kept T m) (Shallow T) o
-  kept_more i m (Ok p) h g = fine_more i m p.1.at.left h g
-  kept_more i m (Err e) h g = g
-
   -- ---- refusals of what was read
 
   module _ {A : Type 0} (P : A → State → Type 0) (k : Kind) (span : Span) (other : k ≢ faults.TooDeep) (m : ℕ) (s : State) (f : Fine T m s.at.left) where
     pub reject_at_shallow : (u : TokenAndSpan) (ts : List TokenAndSpan) (v : Token) → s.at.left ≡ u ∷ ts → u.token ≡ v → Answers P (Shallow T) (reject_at (fault_at span k) s v)
     reject_at_shallow u ts (token.Error e) h i = answers_if _ _ (means_out_of_memory e.kind) _ _ (λ _. error_shallow m s u ts e h i f)
-        (λ _. refused_shallow m P k span (fault (fault_of e) (moved s)) other (fault_shallow m (moved s) (fine_after m s.at f) (fault_of e)))
+        (λ _. refused_shallow T m P k span (fault (fault_of e) (moved s)) other (fault_shallow m (moved s) (fine_after m s.at f) (fault_of e)))
     reject_at_shallow u ts _ h i = λ z. absurd (other z)
 
     pub reject_in_shallow : (ts : List TokenAndSpan) → s.at.left ≡ ts → Answers P (Shallow T) (reject_in (fault_at span k) s ts)

@@ -230,13 +230,13 @@ module _ {T : Fault → Type 0} where
       unfolding arguments
       arguments_shallow commas s e f =
           let (i, h, g) = fine_taken m s.at kind.LParen e (λ z. cc) f in
-          kept_more i m (loop (arguments_turn inner cover commas) [] (moved s)) (omega arith) (many_arguments_shallow commas i (moved s) (omega arith) g)
+          kept_more T i m (loop (arguments_turn inner cover commas) [] (moved s)) (omega arith) (many_arguments_shallow commas i (moved s) (omega arith) g)
 
       elements_shallow : (s : State) → kind_at s.at ≡ kind.LBracket → Fine T m s.at.left → Answers (Kept T m) (Shallow T) (elements inner cover s)
       unfolding elements
       elements_shallow s e f =
           let (i, h, g) = fine_taken m s.at kind.LBracket e (λ z. cc) f in
-          kept_more i m (loop (array_turn inner cover) no_covers (moved s)) (omega arith) (many_elements_shallow i (moved s) (omega arith) g)
+          kept_more T i m (loop (array_turn inner cover) no_covers (moved s)) (omega arith) (many_elements_shallow i (moved s) (omega arith) g)
 
       array_shallow : (s : State) → kind_at s.at ≡ kind.LBracket → Fine T m s.at.left → Answers (Kept T m) (Shallow T) (array inner cover s)
       unfolding array
@@ -247,7 +247,7 @@ module _ {T : Fault → Type 0} where
         unfolding properties
         properties_shallow s e f =
             let (i, h, g) = fine_taken m s.at kind.LBrace e (λ z. cc) f in
-            kept_more i m (loop (object_turn inner cover function) no_covers (moved s)) (omega arith) (many_properties_shallow function below_function i (moved s) (omega arith) g)
+            kept_more T i m (loop (object_turn inner cover function) no_covers (moved s)) (omega arith) (many_properties_shallow function below_function i (moved s) (omega arith) g)
 
         pub object_shallow : (s : State) → kind_at s.at ≡ kind.LBrace → Fine T m s.at.left → Answers (Kept T m) (Shallow T) (object inner cover function s)
         unfolding object
@@ -356,7 +356,7 @@ module _ {T : Fault → Type 0} where
       right_shallow start x op s e f =
           let (i, h, g) = fine_taken m s.at (kind_at s.at) refl e f in
           answers_then _ _ (inner (right_class op) (moved s)) _ (below (right_class op) i (moved s) (omega arith) g) (λ y t k.
-          kept_more i m (unmixed start op x y t) (omega arith) (unmixed_shallow i t k start op x y))
+          kept_more T i m (unmixed start op x y t) (omega arith) (unmixed_shallow i t k start op x y))
 
       operated_shallow : (start : Span) (x : Tree) (op : BinaryOp) (s : State) → kind_at s.at ≢ kind.End → Fine T m s.at.left → Answers (Kept T m) (Shallow T) (operated inner cover start x op s)
       unfolding operated
@@ -382,7 +382,7 @@ module _ {T : Fault → Type 0} where
           let (i, h, g) = fine_taken m s.at kind.QuestionMark e (λ z. cc) f in
           answers_then _ _ (inside inner cover assignment (moved s)) _ (inside_shallow assignment i (moved s) (omega arith) g) (λ y t k.
           answers_then _ _ (expect kind.Colon t) _ (expect_shallow i t k kind.Colon) (λ _ u j.
-          answers_then _ _ (inner assignment u) _ (below assignment i u (omega arith) j) (λ z v l. kept_more i m (unassigned _ v) (omega arith) (unassigned_shallow i v l _))))
+          answers_then _ _ (inner assignment u) _ (below assignment i u (omega arith) j) (λ z v l. kept_more T i m (unassigned _ v) (omega arith) (unassigned_shallow i v l _))))
 
       assigned_to_shallow : (start : Span) (x : Tree) (op : AssignOp) (s : State) → kind_at s.at ≢ kind.End → Fine T m s.at.left → Answers (Kept T m) (Shallow T) (assigned_to inner cover start x op s)
       unfolding assigned_to
@@ -441,9 +441,9 @@ module _ {T : Fault → Type 0} where
           let k = fine_more i m (after s.at).left (omega arith) g in
           answers_if _ _ (breaks_at (after s.at)) _ _ (λ _. k)
           (λ _. answers_if _ _ (sees kind.Mul (after s.at)) _ _
-          (λ _. kept_more i m (yielded inner true (span_at s.at) (moved (moved s))) (omega arith) (yielded_shallow i (omega arith) true (span_at s.at) (moved (moved s)) (fine_after i (after s.at) g)))
+          (λ _. kept_more T i m (yielded inner true (span_at s.at) (moved (moved s))) (omega arith) (yielded_shallow i (omega arith) true (span_at s.at) (moved (moved s)) (fine_after i (after s.at) g)))
           (λ _. answers_if _ _ (begins_expression s.code.flags (after s.at)) _ _
-          (λ _. kept_more i m (yielded inner false (span_at s.at) (moved s)) (omega arith) (yielded_shallow i (omega arith) false (span_at s.at) (moved s) g)) (λ _. k)))
+          (λ _. kept_more T i m (yielded inner false (span_at s.at) (moved s)) (omega arith) (yielded_shallow i (omega arith) false (span_at s.at) (moved s) g)) (λ _. k)))
 
       -- what a function may begin
       module _ (function : FunctionForm → Reader Tree) (below_function : FunctionsShallow T n function) where
@@ -519,7 +519,7 @@ module _ {T : Fault → Type 0} where
         unfolding named_arrow begins_named_arrow
         named_arrow_shallow s e f = answers_then _ _ (function parameter_form s) _
             (below_function.names m s enough (and_parts (name_at s.code.flags s.at) (sees kind.Arrow (after s.at)) e).0 f) (λ p t (i, h, g).
-            kept_more i m (arrow_from inner function false (span_at s.at) (p ∷ []) t) (omega arith)
+            kept_more T i m (arrow_from inner function false (span_at s.at) (p ∷ []) t) (omega arith)
             (arrow_from_shallow function below_function false (span_at s.at) (p ∷ []) i t (omega arith) g))
 
         group_shallow : (s : State) → kind_at s.at ≡ kind.LParen → Fine T m s.at.left → Answers (Taken T m) (Shallow T) (group inner function cover s)
@@ -532,7 +532,7 @@ module _ {T : Fault → Type 0} where
         behind_group_shallow : (start : Span) (p : Group) (s : State) → Taken T m p s → Answers (Kept T m) (Shallow T) (behind_group inner function cover start p s)
         behind_group_shallow start p s (i, h, f) = answers_if _ _ (sees kind.Arrow s.at) _ _
             (λ _. answers_then _ _ (parameters_of p.parts p.rest s) _ (parameters_of_shallow i p.parts p.rest s f) (λ ps t k.
-            kept_more i m (arrow_from inner function false start ps t) (omega arith) (arrow_from_shallow function below_function false start ps i t (omega arith) k)))
+            kept_more T i m (arrow_from inner function false start ps t) (omega arith) (arrow_from_shallow function below_function false start ps i t (omega arith) k)))
             (λ _. answers_then _ _ (closed_group start p s) _ (closed_group_shallow m start p s (fine_more i m s.at.left (omega arith) f)) (λ e t k. continued_shallow start e t k))
 
         grouped_shallow : (s : State) → kind_at s.at ≡ kind.LParen → Fine T m s.at.left → Answers (Kept T m) (Shallow T) (grouped inner function cover s)
@@ -545,14 +545,14 @@ module _ {T : Fault → Type 0} where
         async_named_shallow s e f =
             let named = (and_parts (not (breaks_at (after s.at))) (name_at s.code.flags (after s.at)) (and_parts (word_at (codes "async") s.at) _ e).1).1 in
             answers_then _ _ (function parameter_form (moved s)) _ (below_function.names m (moved s) enough named (fine_after m s.at f)) (λ p t (i, h, g).
-            answers_if _ _ (sees kind.Arrow t.at) _ _ (λ _. kept_more i m (arrow_from inner function true (span_at s.at) (p ∷ []) t) (omega arith)
+            answers_if _ _ (sees kind.Arrow t.at) _ _ (λ _. kept_more T i m (arrow_from inner function true (span_at s.at) (p ∷ []) t) (omega arith)
             (arrow_from_shallow function below_function true (span_at s.at) (p ∷ []) i t (omega arith) g)) (λ _. unexpected_shallow i t g _))
 
         behind_async_shallow : (start : Span) (x : Tree) (found : List Argument) (s : State) → Taken T m found s → Answers (Kept T m) (Shallow T) (behind_async inner function cover start x found s)
         unfolding async_called
         behind_async_shallow start x found s (i, h, f) = answers_if _ _ (sees kind.Arrow s.at) _ _
             (λ _. answers_then _ _ (argument_parameters found s) _ (argument_parameters_shallow i found s f) (λ ps t k.
-            kept_more i m (arrow_from inner function true start ps t) (omega arith) (arrow_from_shallow function below_function true start ps i t (omega arith) k)))
+            kept_more T i m (arrow_from inner function true start ps t) (omega arith) (arrow_from_shallow function below_function true start ps i t (omega arith) k)))
             (λ _. answers_then _ _ (async_called start x found s) _ (answers_then _ _ (closed_arguments found s) _ (closed_arguments_shallow m found s (fine_more i m s.at.left (omega arith) f)) (λ xs t k. k))
             (λ e t k. continued_shallow start e t k))
 

@@ -132,7 +132,7 @@ module _ {T : Fault → Type 0} where
       unfolding elements
       elements_shallow s e f =
           let (i, h, g) = fine_taken m s.at kind.LBracket e (λ z. cc) f in
-          kept_more i m (loop (array_turn inner cover pattern element) [] (moved s)) (omega arith) (many_elements_shallow i (omega arith) (moved s) g)
+          kept_more T i m (loop (array_turn inner cover pattern element) [] (moved s)) (omega arith) (many_elements_shallow i (omega arith) (moved s) g)
 
       array_shallow : (s : State) → kind_at s.at ≡ kind.LBracket → Fine T m s.at.left → Answers (Kept T m) (Shallow T) (array inner cover pattern element s)
       unfolding array
@@ -142,13 +142,13 @@ module _ {T : Fault → Type 0} where
       pub parameter_list_shallow : (s : State) → Fine T m s.at.left → Answers (Kept T m) (Shallow T) (parameter_list inner cover pattern element s)
       unfolding parameter_list
       parameter_list_shallow s f = answers_then _ _ (expect kind.LParen s) _ (opened_shallow m s f) (λ _ t (i, h, g).
-          kept_more i m (loop (parameters_turn inner cover pattern element) [] t) (omega arith) (many_parameters_shallow i (omega arith) t g))
+          kept_more T i m (loop (parameters_turn inner cover pattern element) [] t) (omega arith) (many_parameters_shallow i (omega arith) t g))
 
       properties_shallow : (s : State) → kind_at s.at ≡ kind.LBrace → Fine T m s.at.left → Answers (Kept T m) (Shallow T) (properties inner cover pattern element s)
       unfolding properties
       properties_shallow s e f =
           let (i, h, g) = fine_taken m s.at kind.LBrace e (λ z. cc) f in
-          kept_more i m (loop (object_turn inner cover pattern element) [] (moved s)) (omega arith) (many_properties_shallow i (omega arith) (moved s) g)
+          kept_more T i m (loop (object_turn inner cover pattern element) [] (moved s)) (omega arith) (many_properties_shallow i (omega arith) (moved s) g)
 
       object_shallow : (s : State) → kind_at s.at ≡ kind.LBrace → Fine T m s.at.left → Answers (Kept T m) (Shallow T) (object inner cover pattern element s)
       unfolding object
