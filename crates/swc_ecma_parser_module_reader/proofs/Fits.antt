@@ -1,6 +1,6 @@
 -- What a module takes from the reader of statements is not too deep: an expression and the parts of a function are read as they
 -- are behind words of a statement that stand in as many tokens.
-use Rattle.std.proofs.Common.{◌≡◌, ◌≢◌, ℕ, zero, suc, ◌+◌, ◌*◌, ◌≤◌, Bool, true, false, List, [], ◌∷◌, ◌++◌, Ok, Err, refl, sym, ◌∙◌, ap, arith, subst}
+use Rattle.std.proofs.Common.{◌≡◌, ℕ, zero, suc, ◌+◌, ◌*◌, ◌≤◌, Bool, true, false, List, [], ◌∷◌, ◌++◌, Ok, Err, refl, sym, ◌∙◌, ap, arith, subst}
 use Rattle.std.specs.Prelude.{codes}
 use Rattle.swc_ecma_parser_common.specs.declared.span.Span.{Span}
 use Rattle.swc_ecma_parser_error.specs.Kind as faults
@@ -29,7 +29,6 @@ use Rattle.swc_ecma_parser_reader.specs.Methods.{star}
 use Rattle.swc_ecma_parser_reader.specs.Reader.{head, while_stmt, function_stmt, function_decl, function_parts, function_word, async_or_other, named, expr, member, stmt, stmt_level, parameters, top_await, whole_stmt, await_using_or}
 use Rattle.swc_ecma_parser_reader.specs.State.{State, Outcome, moved, coded, within, expect, name}
 use Rattle.swc_ecma_parser_reader.specs.Entry.{IsBehind}
-use Rattle.swc_ecma_parser_reader.proofs.Told.{TellOnly}
 use Rattle.swc_ecma_parser_reader.proofs.Behind as behind
 use Rattle.swc_ecma_parser_reader.proofs.Behind.{Lost, behind_self}
 use Rattle.swc_ecma_parser_reader.proofs.Keeps.{whole_stmt_keeps, expr_keeps, member_keeps}

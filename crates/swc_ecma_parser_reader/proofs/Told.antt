@@ -1,7 +1,6 @@
 -- Which faults of the kind `TooDeep` the error tokens of a list may tell: those of a family `T`. Each list tells none but its own.
 use Rattle.std.proofs.Common.{◌≡◌, ◌≢◌, Bool, true, false, List, [], ◌∷◌, ◌++◌, refl, sym, ◌∙◌, ap, subst, append_assoc}
 use Rattle.std.specs.Prelude.{◌||◌}
-use Rattle.swc_ecma_parser_error.specs.declared.error.Error.{Error}
 use Rattle.swc_ecma_parser_error.specs.declared.kind.SyntaxError.{SyntaxError}
 use Rattle.swc_ecma_parser_error.specs.declared.kind.SyntaxError.TheVariants as says
 use Rattle.swc_ecma_parser_error.specs.Kind as faults
