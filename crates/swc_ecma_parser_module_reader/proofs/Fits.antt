@@ -98,7 +98,7 @@ module _ {T : Fault → Type 0} where
   unfolding a_token
   expr_fits zero m s e t l f g = absurd (omega arith)
   expr_fits (suc k) m s e t l f g =
-      stmt_fits (suc (suc k)) (suc (suc m)) (in_while s) e t (omega arith) (record { few = let i = f.few in omega arith; told = (tt, (tt, f.told)) }) (refused_in_while k s (e, t) g)
+      stmt_fits {T = T} (suc (suc k)) (suc (suc m)) (in_while s) e t (omega arith) (record { few = let i = f.few in omega arith; told = (tt, (tt, f.told)) }) (refused_in_while k s (e, t) g)
 
   -- an assignment expression in which `in` is an operator
   pub whole_expr_shallow : (n m : ℕ) (s : State) → 2 * m + 5 ≤ n → Fine T m s.at.left → Answers (Kept T m) (Shallow T) (within with_in (expr n assignment) s)
@@ -148,7 +148,7 @@ module _ {T : Fault → Type 0} where
   pub parts_shallow : (n m : ℕ) (w v : Bool) (start : Span) (s : State) → 2 * (m + 2 + cost w + cost v) + 2 ≤ suc n → Fine T m s.at.left
       → Answers (Kept T m) (Shallow T) (function_parts (stmt n nested_item) (parameters n) w v start s)
   parts_shallow n m w v start s l f = with_refusals m s (function_parts (stmt n nested_item) (parameters n) w v start s) (parts_keep n w v start s s (behind_self s)) f
-      (λ e t g. stmt_fits (suc n) (m + 2 + cost w + cost v) (in_function w v start s) e t l (fine_in_function w v start m s f) (refused_in_function n w v start s (e, t) g))
+      (λ e t g. stmt_fits {T = T} (suc n) (m + 2 + cost w + cost v) (in_function w v start s) e t l (fine_in_function w v start m s f) (refused_in_function n w v start s (e, t) g))
 
 -- ---- a class that may have no name: as behind its word and a name
 
@@ -173,7 +173,7 @@ module _ {T : Fault → Type 0} where
       where
         by_answer : (o : Outcome Tree) → class_parts (expr n left_side) (member n) start s ≡ o → Answers (λ _ _. Unit {0}) (Shallow T) o
         by_answer (Ok p) h = tt
-        by_answer (Err p) h = stmt_fits (suc n) (m + 2) (in_words start s) p.0 p.1 l (record { few = let i = f.few in omega arith; told = (tt, (tt, f.told)) })
+        by_answer (Err p) h = stmt_fits {T = T} (suc n) (m + 2) (in_words start s) p.0 p.1 l (record { few = let i = f.few in omega arith; told = (tt, (tt, f.told)) })
             (refused_in_words n start s p (ap (class_parts (expr n left_side) (member n) start) (same_class k s e) ∙ h))
 
     -- a name, or none, in the code of the class
