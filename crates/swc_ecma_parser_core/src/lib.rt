@@ -1,8 +1,7 @@
-//! One function for each kind of node, of statements, expressions and patterns, ties the rules together, level by level; and
-//! scripts, over any source of tokens and any tree: ECMA-262, section 16.1.
+//! One function for each kind of node, of statements, expressions and patterns, ties the rules together, level by level, over any
+//! source of tokens and any tree.
 #![tactic(auto)]
 
 pub mod covering;
 pub mod grammar;
 mod levels;
-pub mod script;

@@ -10,13 +10,13 @@ ghost use Rattle.swc_ecma_parser_reader.specs.State.{GivesAs};
 
 use crate::decorated::{begins_decorators, export_item, export_with};
 use swc_ecma_parser_core::grammar::{leading, stmt_behind};
-use swc_ecma_parser_core::script::whole_stmt;
 use swc_ecma_parser_error::PResult;
 use swc_ecma_parser_grammar::Position;
 use swc_ecma_parser_inner::steps::{grown, pushed, since, whole_start};
 use swc_ecma_parser_input::Context;
 use swc_ecma_parser_members::decorators::{Leading, misplaced};
 use swc_ecma_parser_modules::imports::import_decl;
+use swc_ecma_parser_scripts::script::whole_stmt;
 use swc_ecma_parser_source::Source;
 use swc_ecma_parser_token::TokenKind;
 use swc_ecma_parser_trees::{BuildsExport, BuildsItem, BuildsStatements, BuildsVarDecl, MakerOf};

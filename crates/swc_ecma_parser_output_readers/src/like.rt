@@ -6,10 +6,10 @@ ghost use Rattle.swc_ecma_parser_module_reader.specs.Modules as modules;
 ghost use Rattle.swc_ecma_parser_output_readers.specs.Items as items;
 ghost use Rattle.swc_ecma_parser_reader.specs.State.{GivesAs};
 
-use swc_ecma_parser_core::script::whole_stmt;
 use swc_ecma_parser_error::PResult;
 use swc_ecma_parser_grammar::Position;
 use swc_ecma_parser_outputs::FromStmt;
+use swc_ecma_parser_scripts::script::whole_stmt;
 use swc_ecma_parser_source::Source;
 use swc_ecma_parser_token::TokenKind;
 use swc_ecma_parser_trees::{BuildsStatements, MakerOf, Trees};

@@ -6,7 +6,7 @@ use Rattle.swc_ecma_parser_reader.specs.Reader.{whole_stmt, at_end}
 use Rattle.swc_ecma_parser_reader.proofs.Loops.{items_err, whole_shorter}
 use Rattle.swc_ecma_parser_reader.proofs.Empty.{never_more}
 use Rattle.swc_ecma_parser_bodies.proofs.Items.{body_more, body_next}
-use Rattle.swc_ecma_parser_core.proofs.script.items.Goals as goal
+use Rattle.swc_ecma_parser_scripts.proofs.script.items.Goals as goal
 
 pub returns-in_err-stmt-clause-gives : goal.returns-in_err-stmt-clause-gives
 returns-in_err-stmt-clause-gives g c =

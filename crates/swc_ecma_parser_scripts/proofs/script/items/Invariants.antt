@@ -2,7 +2,7 @@ use Rattle.std.proofs.Common.{◌≡◌, true, [], length, map}
 use Rattle.swc_ecma_parser_grammar.specs.language.Items.{top_item}
 use Rattle.swc_ecma_parser_reader.specs.State.{loop}
 use Rattle.swc_ecma_parser_reader.specs.Reader as rules
-use Rattle.swc_ecma_parser_core.proofs.script.items.Given as goal
+use Rattle.swc_ecma_parser_scripts.proofs.script.items.Given as goal
 
 -- what the whole loop gives is what the rest of it gives, an empty list stays empty, and whether the next can be a directive is told
 -- by those before it

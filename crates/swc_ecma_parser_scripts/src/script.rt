@@ -5,8 +5,8 @@ ghost use Rattle.swc_ecma_parser_grammar.specs.language.Items.{top_item};
 ghost use Rattle.swc_ecma_parser_reader.specs.Reader as rules;
 ghost use Rattle.swc_ecma_parser_reader.specs.State.{Gives, GivesAs};
 
-use crate::grammar::stmt;
 use swc_ecma_parser_bodies::body::direct;
+use swc_ecma_parser_core::grammar::stmt;
 use swc_ecma_parser_error::{PResult, SyntaxError};
 use swc_ecma_parser_grammar::Position;
 use swc_ecma_parser_inner::steps::{pushed, since, whole_start};

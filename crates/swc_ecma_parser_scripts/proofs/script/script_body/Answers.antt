@@ -1,6 +1,6 @@
 use Rattle.std.proofs.Common.{◌≡◌, true, false}
 use Rattle.swc_ecma_parser_reader.proofs.Empty.{nothing_taken}
-use Rattle.swc_ecma_parser_core.proofs.script.script_body.Goals as goal
+use Rattle.swc_ecma_parser_scripts.proofs.script.script_body.Goals as goal
 
 pub returns-in_err-body-clause-outright : goal.returns-in_err-body-clause-outright
 returns-in_err-body-clause-outright g c = λ h.
