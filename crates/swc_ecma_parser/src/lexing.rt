@@ -2,7 +2,7 @@
 
 ghost use Rattle.std.specs.Prelude.{◌≡◌, false, true, length};
 ghost use Rattle.std.specs.Str.{chars};
-ghost use Rattle.swc_ecma_parser_forward.specs.Forward.{in_order};
+ghost use Rattle.swc_ecma_parser_span_order.specs.Forward.{in_order};
 ghost use Rattle.swc_ecma_parser_input.specs.Place as place;
 ghost use Rattle.swc_ecma_parser_lexer.specs.Source as source;
 ghost use Rattle.swc_ecma_parser_state.specs.Opened.{opened};

@@ -5,8 +5,8 @@ ghost use Rattle.swc_ecma_parser_ast.specs.View.{view_module, view_module_item, 
 ghost use Rattle.swc_ecma_parser_error.specs.Kind as kinds;
 ghost use Rattle.swc_ecma_parser_error.specs.Kind.{fault_of, faults_of, kind_of, IsOutOfMemory};
 ghost use Rattle.swc_ecma_parser_error.specs.declared.error.Error.{Error};
-ghost use Rattle.swc_ecma_parser_forward.specs.Follows.{ItemInOrder, ItemsInOrder};
-ghost use Rattle.swc_ecma_parser_forward.specs.Forward.{in_order, AnswersForward};
+ghost use Rattle.swc_ecma_parser_span_order.specs.Follows.{ItemInOrder, ItemsInOrder};
+ghost use Rattle.swc_ecma_parser_span_order.specs.Forward.{in_order, AnswersForward};
 ghost use Rattle.swc_ecma_parser_input.specs.Place as place;
 ghost use Rattle.swc_ecma_parser_input.specs.Setting.{setting_of};
 ghost use Rattle.swc_ecma_parser_module_reader.specs.Entry.{IsEntered, SoundModule};

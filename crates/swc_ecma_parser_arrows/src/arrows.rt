@@ -6,7 +6,7 @@ ghost use Rattle.swc_ecma_parser_functions.specs.Late.{late};
 ghost use Rattle.swc_ecma_parser_grammar.specs.Own as own;
 ghost use Rattle.swc_ecma_parser_grammar.specs.language.Contexts as contexts;
 ghost use Rattle.swc_ecma_parser_grammar.specs.language.Goals.{assignment};
-ghost use Rattle.swc_ecma_parser_inner.specs.Nests.{Nests};
+ghost use Rattle.swc_ecma_parser_shared.specs.Nests.{Nests};
 ghost use Rattle.swc_ecma_parser_model.specs.Forms as forms;
 ghost use Rattle.swc_ecma_parser_model.specs.Tree as tree;
 ghost use Rattle.swc_ecma_parser_reader.specs.Arrows as arrows;
@@ -17,14 +17,14 @@ ghost use Rattle.swc_ecma_parser_reader.specs.State.{GivesAs, enclosed, within};
 
 use std::alloc::{AllocError, Global};
 use swc_ecma_parser_common::Span;
+use swc_ecma_parser_cursor::{Cursor, Wanted};
 use swc_ecma_parser_error::{PResult, SyntaxError};
 use swc_ecma_parser_functions::function::{FunctionBody, Manner, inner_body, misdirected};
 use swc_ecma_parser_grammar::{Class, Position};
-use swc_ecma_parser_inner::cover::{Cover, Reading, nested};
-use swc_ecma_parser_inner::grammar::{Grammar, Part};
-use swc_ecma_parser_inner::steps::{grown, pushed, since};
 use swc_ecma_parser_input::Context;
-use swc_ecma_parser_source::{Source, Wanted};
+use swc_ecma_parser_shared::cover::{Cover, Reading, nested};
+use swc_ecma_parser_shared::grammar::{Grammar, Part};
+use swc_ecma_parser_shared::steps::{grown, pushed, since};
 use swc_ecma_parser_token::TokenKind;
 use swc_ecma_parser_trees::{BuildsFunction, BuildsPattern, MakerOf, Trees};
 
@@ -55,7 +55,7 @@ fn in_arrow(flags: Context, is_async: bool) -> Context
 /// A block that is a body.
 #[tactic(auto, unfolding(swc_ecma_parser_reader::specs::Reader::function, swc_ecma_parser_reader::specs::Reader::function_by, swc_ecma_parser_reader::specs::Reader::arrow_block))]
 fn arrow_block<
-    P: Source,
+    P: Cursor,
     T: BuildsFunction,
     S: Fn(&MakerOf<T>, &mut P, usize, Position) -> PResult<T::Stmt>,
     E: Fn(&MakerOf<T>, &mut P, usize, Reading) -> PResult<Cover<T::Expr>>,
@@ -79,7 +79,7 @@ fn arrow_block<
 
 /// An expression that is a body: no label stands around it, and nothing in it makes a program a module.
 fn arrow_expr<
-    P: Source,
+    P: Cursor,
     T: BuildsFunction,
     S: Fn(&MakerOf<T>, &mut P, usize, Position) -> PResult<T::Stmt>,
     E: Fn(&MakerOf<T>, &mut P, usize, Reading) -> PResult<Cover<T::Expr>>,
@@ -101,7 +101,7 @@ fn arrow_expr<
 /// A block, or an expression that does not begin as one.
 #[tactic(auto, unfolding(swc_ecma_parser_reader::specs::Arrows::arrow_body))]
 fn arrow_body<
-    P: Source,
+    P: Cursor,
     T: BuildsFunction,
     S: Fn(&MakerOf<T>, &mut P, usize, Position) -> PResult<T::Stmt>,
     E: Fn(&MakerOf<T>, &mut P, usize, Reading) -> PResult<Cover<T::Expr>>,
@@ -160,7 +160,7 @@ fn made_arrow<T: BuildsFunction>(
 /// An arrow function, from its `=>` on, which stands on the line of the parameters.
 #[tactic(auto, unfolding(swc_ecma_parser_reader::specs::Arrows::arrow_from))]
 pub fn arrow_from<
-    P: Source,
+    P: Cursor,
     T: BuildsFunction + BuildsPattern,
     S: Fn(&MakerOf<T>, &mut P, usize, Position) -> PResult<T::Stmt>,
     E: Fn(&MakerOf<T>, &mut P, usize, Reading) -> PResult<Cover<T::Expr>>,
@@ -190,7 +190,7 @@ pub fn arrow_from<
 /// The only parameter of an arrow function, a name with no parentheses.
 #[tactic(auto, unfolding(swc_ecma_parser_reader::specs::Reader::function, swc_ecma_parser_reader::specs::Reader::function_by))]
 pub fn only_parameter<
-    P: Source,
+    P: Cursor,
     T: Trees,
     S: Fn(&MakerOf<T>, &mut P, usize, Position) -> PResult<T::Stmt>,
     E: Fn(&MakerOf<T>, &mut P, usize, Reading) -> PResult<Cover<T::Expr>>,
@@ -205,7 +205,7 @@ pub fn only_parameter<
 /// An arrow function with one parameter, from its `=>` on.
 #[inline(never)]
 pub fn arrow_of_one<
-    P: Source,
+    P: Cursor,
     T: BuildsFunction + BuildsPattern,
     S: Fn(&MakerOf<T>, &mut P, usize, Position) -> PResult<T::Stmt>,
     E: Fn(&MakerOf<T>, &mut P, usize, Reading) -> PResult<Cover<T::Expr>>,
@@ -230,7 +230,7 @@ pub fn arrow_of_one<
 #[tactic(auto, unfolding(swc_ecma_parser_reader::specs::Arrows::named_arrow))]
 #[inline(never)]
 pub fn named_arrow<
-    P: Source,
+    P: Cursor,
     T: BuildsFunction + BuildsPattern,
     S: Fn(&MakerOf<T>, &mut P, usize, Position) -> PResult<T::Stmt>,
     E: Fn(&MakerOf<T>, &mut P, usize, Reading) -> PResult<Cover<T::Expr>>,
@@ -248,7 +248,7 @@ pub fn named_arrow<
 #[tactic(auto, unfolding(swc_ecma_parser_reader::specs::AsyncArrows::async_named_arrow))]
 #[inline(never)]
 pub fn async_named_arrow<
-    P: Source,
+    P: Cursor,
     T: BuildsFunction + BuildsPattern,
     S: Fn(&MakerOf<T>, &mut P, usize, Position) -> PResult<T::Stmt>,
     E: Fn(&MakerOf<T>, &mut P, usize, Reading) -> PResult<Cover<T::Expr>>,

@@ -1,23 +1,23 @@
 //! `await` in async functions: ECMA-262, section 15.8.
 
-ghost use Rattle.swc_ecma_parser_inner.specs.Nests.{Nests};
+ghost use Rattle.swc_ecma_parser_shared.specs.Nests.{Nests};
 ghost use Rattle.swc_ecma_parser_reader.specs.AwaitWords as words;
 ghost use Rattle.swc_ecma_parser_reader.specs.Expressions as exprs;
 ghost use Rattle.swc_ecma_parser_reader.specs.Reader as rules;
 ghost use Rattle.swc_ecma_parser_reader.specs.State.{Gives, GivesAs};
 
 use swc_ecma_parser_common::Span;
+use swc_ecma_parser_cursor::Cursor;
 use swc_ecma_parser_error::{PResult, SyntaxError};
 use swc_ecma_parser_grammar::{Class, Position};
-use swc_ecma_parser_inner::cover::{Cover, Reading, nested};
-use swc_ecma_parser_inner::grammar::{Grammar, Part};
-use swc_ecma_parser_inner::steps::{grown, since};
-use swc_ecma_parser_source::Source;
+use swc_ecma_parser_shared::cover::{Cover, Reading, nested};
+use swc_ecma_parser_shared::grammar::{Grammar, Part};
+use swc_ecma_parser_shared::steps::{grown, since};
 use swc_ecma_parser_trees::{BuildsOperator, MakerOf};
 
 /// Records an `await` where none may stand: in the body of a function that is not async, and in parameters.
 #[tactic(auto, unfolding(swc_ecma_parser_reader::specs::Expressions::await_allowed, swc_ecma_parser_grammar::specs::language::Contexts::may_await))]
-fn await_allowed<P: Source>(p: &mut P, word: Span) -> PResult<()>
+fn await_allowed<P: Cursor>(p: &mut P, word: Span) -> PResult<()>
     ensures { Gives (exprs.await_allowed word (P.seen p.old)) result (P.seen p.new) }
 {
     let flags = p.flags();
@@ -37,7 +37,7 @@ fn await_allowed<P: Source>(p: &mut P, word: Span) -> PResult<()>
 #[tactic(auto, unfolding(swc_ecma_parser_reader::specs::Expressions::await_expr))]
 #[inline(never)]
 pub fn await_expr<
-    P: Source,
+    P: Cursor,
     T: BuildsOperator,
     S: Fn(&MakerOf<T>, &mut P, usize, Position) -> PResult<T::Stmt>,
     E: Fn(&MakerOf<T>, &mut P, usize, Reading) -> PResult<Cover<T::Expr>>,
@@ -57,7 +57,7 @@ pub fn await_expr<
 /// The same from behind `await` on.
 #[tactic(auto, unfolding(swc_ecma_parser_reader::specs::AwaitWords::awaited))]
 pub fn awaited<
-    P: Source,
+    P: Cursor,
     T: BuildsOperator,
     S: Fn(&MakerOf<T>, &mut P, usize, Position) -> PResult<T::Stmt>,
     E: Fn(&MakerOf<T>, &mut P, usize, Reading) -> PResult<Cover<T::Expr>>,

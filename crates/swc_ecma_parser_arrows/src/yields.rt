@@ -2,24 +2,24 @@
 
 ghost use Rattle.std.specs.Prelude.{◌≡◌};
 ghost use Rattle.swc_ecma_parser_grammar.specs.language.Begins as begins;
-ghost use Rattle.swc_ecma_parser_inner.specs.Nests.{Nests};
+ghost use Rattle.swc_ecma_parser_shared.specs.Nests.{Nests};
 ghost use Rattle.swc_ecma_parser_reader.specs.Reader as rules;
 ghost use Rattle.swc_ecma_parser_reader.specs.State.{GivesAs};
 ghost use Rattle.swc_ecma_parser_reader.specs.Yields as yields;
 
 use swc_ecma_parser_common::Span;
+use swc_ecma_parser_cursor::{Cursor, begins_operand};
 use swc_ecma_parser_error::PResult;
 use swc_ecma_parser_grammar::{Class, Position};
-use swc_ecma_parser_inner::cover::{Cover, Reading, nested};
-use swc_ecma_parser_inner::grammar::{Grammar, Part};
-use swc_ecma_parser_inner::steps::{grown, since};
-use swc_ecma_parser_source::{Source, begins_operand};
+use swc_ecma_parser_shared::cover::{Cover, Reading, nested};
+use swc_ecma_parser_shared::grammar::{Grammar, Part};
+use swc_ecma_parser_shared::steps::{grown, since};
 use swc_ecma_parser_token::TokenKind;
 use swc_ecma_parser_trees::{BuildsOperator, MakerOf};
 
 /// Whether `yield` stands here and is no name.
 #[tactic(auto, unfolding(swc_ecma_parser_reader::specs::Yields::begins_yield))]
-pub fn begins_yield<P: Source>(p: &P) -> bool
+pub fn begins_yield<P: Cursor>(p: &P) -> bool
     ensures { result ≡ yields.begins_yield (P.seen p.now).code.flags (P.seen p.now).at }
 {
     p.sees(TokenKind::Yield) && p.flags().in_generator
@@ -27,7 +27,7 @@ pub fn begins_yield<P: Source>(p: &P) -> bool
 
 /// Whether an expression can begin here.
 #[tactic(auto, unfolding(swc_ecma_parser_grammar::specs::language::Begins::begins_expression, swc_ecma_parser_grammar::specs::language::Begins::begins_unary))]
-fn begins_expression<P: Source>(p: &P) -> bool
+fn begins_expression<P: Cursor>(p: &P) -> bool
     ensures { result ≡ begins.begins_expression (P.seen p.now).code.flags (P.seen p.now).at }
 {
     begins_operand(p.kind())
@@ -38,7 +38,7 @@ fn begins_expression<P: Source>(p: &P) -> bool
 /// What is yielded, from behind the word or its `*`.
 #[tactic(auto, unfolding(swc_ecma_parser_reader::specs::Yields::yielded))]
 fn yielded<
-    P: Source,
+    P: Cursor,
     T: BuildsOperator,
     S: Fn(&MakerOf<T>, &mut P, usize, Position) -> PResult<T::Stmt>,
     E: Fn(&MakerOf<T>, &mut P, usize, Reading) -> PResult<Cover<T::Expr>>,
@@ -56,7 +56,7 @@ fn yielded<
 #[tactic(auto, unfolding(swc_ecma_parser_reader::specs::Yields::yield_expr, swc_ecma_parser_reader::specs::Yields::behind_yield, swc_ecma_parser_reader::specs::Yields::bare_yield))]
 #[inline(never)]
 pub fn yield_expr<
-    P: Source,
+    P: Cursor,
     T: BuildsOperator,
     S: Fn(&MakerOf<T>, &mut P, usize, Position) -> PResult<T::Stmt>,
     E: Fn(&MakerOf<T>, &mut P, usize, Reading) -> PResult<Cover<T::Expr>>,

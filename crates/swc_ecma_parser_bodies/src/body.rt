@@ -5,19 +5,19 @@ ghost use Rattle.swc_ecma_parser_error.specs.Kind as kinds;
 ghost use Rattle.swc_ecma_parser_error.specs.Kind.{kind_of, IsOutOfMemory};
 ghost use Rattle.swc_ecma_parser_bodies.specs.Bodies.{ends_of, directs_of};
 ghost use Rattle.swc_ecma_parser_grammar.specs.language.Items.{directed, directs_on, nested_item};
-ghost use Rattle.swc_ecma_parser_inner.specs.Nests.{Nests};
+ghost use Rattle.swc_ecma_parser_shared.specs.Nests.{Nests};
 ghost use Rattle.swc_ecma_parser_reader.specs.Reader as rules;
 ghost use Rattle.swc_ecma_parser_reader.specs.State as reader;
 ghost use Rattle.swc_ecma_parser_reader.specs.State.{Gives, GivesAs};
 
 use std::alloc::Global;
+use swc_ecma_parser_cursor::Cursor;
 use swc_ecma_parser_error::{PResult, SyntaxError};
 use swc_ecma_parser_grammar::Position;
-use swc_ecma_parser_inner::cover::{Cover, Reading};
-use swc_ecma_parser_inner::grammar::{Grammar, Part};
-use swc_ecma_parser_inner::steps::{grown, pushed, since};
 use swc_ecma_parser_input::Context;
-use swc_ecma_parser_source::Source;
+use swc_ecma_parser_shared::cover::{Cover, Reading};
+use swc_ecma_parser_shared::grammar::{Grammar, Part};
+use swc_ecma_parser_shared::steps::{grown, pushed, since};
 use swc_ecma_parser_token::TokenKind;
 use swc_ecma_parser_trees::{BuildsBlock, BuildsStmt, MakerOf, Trees};
 
@@ -40,14 +40,14 @@ const NESTED_ITEM: Position = Position {
 
 /// Whether a block's statements end here.
 #[tactic(auto, unfolding(swc_ecma_parser_reader::specs::Reader::closes))]
-fn closes<P: Source>(p: &P) -> bool
+fn closes<P: Cursor>(p: &P) -> bool
     ensures { result ≡ rules.closes (P.seen p.now).at }
 {
     p.sees(TokenKind::RBrace) || p.sees(TokenKind::End)
 }
 
 /// The fault of a `}` that is missing at the end of the list.
-fn missing_brace<P: Source>(alloc: Global, p: &mut P) -> PResult<SyntaxError>
+fn missing_brace<P: Cursor>(alloc: Global, p: &mut P) -> PResult<SyntaxError>
     ensures kind { IfOk result (λ kind. kind_of kind ≡ kinds.Expected) }
     ensures state { IfOk result (λ kind. P.seen p.new ≡ P.seen p.old) }
     ensures err { IfErr result IsOutOfMemory }
@@ -58,7 +58,7 @@ fn missing_brace<P: Source>(alloc: Global, p: &mut P) -> PResult<SyntaxError>
 /// The `}` of a block, or a fault where the list has ended.
 #[tactic(auto, unfolding(swc_ecma_parser_reader::specs::Reader::close))]
 #[inline(never)]
-pub fn close<P: Source>(alloc: Global, p: &mut P) -> PResult<()>
+pub fn close<P: Cursor>(alloc: Global, p: &mut P) -> PResult<()>
     ensures { Gives (rules.close (P.seen p.old)) result (P.seen p.new) }
 {
     if p.sees(TokenKind::RBrace) {
@@ -71,7 +71,7 @@ pub fn close<P: Source>(alloc: Global, p: &mut P) -> PResult<()>
 
 /// Whether a clause of a `switch` begins here.
 #[tactic(auto, unfolding(swc_ecma_parser_reader::specs::Reader::begins_clause))]
-pub fn begins_clause<P: Source>(p: &P) -> bool
+pub fn begins_clause<P: Cursor>(p: &P) -> bool
     ensures { result ≡ rules.begins_clause (P.seen p.now).at }
 {
     p.sees(TokenKind::Case) || p.sees(TokenKind::Default)
@@ -79,14 +79,14 @@ pub fn begins_clause<P: Source>(p: &P) -> bool
 
 /// Whether the statements of a clause end here.
 #[tactic(auto, unfolding(swc_ecma_parser_reader::specs::Reader::closes_clause))]
-fn closes_clause<P: Source>(p: &P) -> bool
+fn closes_clause<P: Cursor>(p: &P) -> bool
     ensures { result ≡ rules.closes_clause (P.seen p.now).at }
 {
     begins_clause(p) || closes(p)
 }
 
 /// Whether the statements of a body end here.
-fn ends<P: Source>(p: &P, body: Body) -> bool
+fn ends<P: Cursor>(p: &P, body: Body) -> bool
     ensures { result ≡ ends_of body (P.seen p.now).at }
 {
     match body {
@@ -106,7 +106,7 @@ fn in_strict(flags: Context) -> Context
 }
 
 /// Turns strict what follows a directive that says so, and says whether the next statement can be a directive too.
-pub fn direct<P: Source, T: Trees>(p: &mut P, directives: bool, x: &T::Stmt) -> bool
+pub fn direct<P: Cursor, T: Trees>(p: &mut P, directives: bool, x: &T::Stmt) -> bool
     ensures state { P.seen p.new ≡ reader.coded (directed (P.seen p.old).code directives (T.stmt_of x.now)) (P.seen p.old) }
     ensures next { result ≡ directs_on directives (T.stmt_of x.now) }
 {
@@ -130,7 +130,7 @@ fn has_directives(body: Body) -> bool
 /// The statements of a block, a body or a clause.
 #[tactic(auto, unfolding(swc_ecma_parser_reader::specs::Reader::items), using(swc_ecma_parser_reader::proofs::Loops::items_stop, swc_ecma_parser_reader::proofs::Loops::items_err, crate::proofs::Items::body_more, crate::proofs::Items::body_next, swc_ecma_parser_reader::proofs::Loops::stmt_shorter, std::proofs::lemmas::List::map_push))]
 pub fn body_items<
-    P: Source,
+    P: Cursor,
     T: Trees,
     S: Fn(&MakerOf<T>, &mut P, usize, Position) -> PResult<T::Stmt>,
     E: Fn(&MakerOf<T>, &mut P, usize, Reading) -> PResult<Cover<T::Expr>>,
@@ -153,7 +153,7 @@ pub fn body_items<
 #[tactic(auto, unfolding(swc_ecma_parser_reader::specs::Reader::block, swc_ecma_parser_reader::specs::Reader::block_from, swc_ecma_parser_grammar::specs::Looks::spanned))]
 #[inline(never)]
 pub fn block<
-    P: Source,
+    P: Cursor,
     T: BuildsStmt,
     S: Fn(&MakerOf<T>, &mut P, usize, Position) -> PResult<T::Stmt>,
     E: Fn(&MakerOf<T>, &mut P, usize, Reading) -> PResult<Cover<T::Expr>>,
@@ -173,7 +173,7 @@ pub fn block<
 /// A block that must stand here, as a part of another form.
 #[tactic(auto, unfolding(swc_ecma_parser_reader::specs::Reader::braced, swc_ecma_parser_reader::specs::Reader::block_from, swc_ecma_parser_grammar::specs::Looks::spanned))]
 pub fn braced<
-    P: Source,
+    P: Cursor,
     T: BuildsBlock,
     S: Fn(&MakerOf<T>, &mut P, usize, Position) -> PResult<T::Stmt>,
     E: Fn(&MakerOf<T>, &mut P, usize, Reading) -> PResult<Cover<T::Expr>>,

@@ -7,7 +7,7 @@ ghost use Rattle.swc_ecma_parser_error.specs.Kind as kinds;
 ghost use Rattle.swc_ecma_parser_error.specs.Kind.{fault_of, kind_of, IsOutOfMemory};
 ghost use Rattle.swc_ecma_parser_grammar.specs.language.Goals.{expression};
 ghost use Rattle.swc_ecma_parser_grammar.specs.language.Items.{sub_statement};
-ghost use Rattle.swc_ecma_parser_inner.specs.Nests.{Nests};
+ghost use Rattle.swc_ecma_parser_shared.specs.Nests.{Nests};
 ghost use Rattle.swc_ecma_parser_model.specs.Tree.{Tree};
 ghost use Rattle.swc_ecma_parser_reader.specs.Reader as rules;
 ghost use Rattle.swc_ecma_parser_reader.specs.State as reader;
@@ -16,13 +16,13 @@ ghost use Rattle.swc_ecma_parser_trees.specs.Parts.{part_of};
 
 use std::alloc::{AllocError, Global};
 use swc_ecma_parser_common::{Atom, Boxed, Span};
+use swc_ecma_parser_cursor::Cursor;
 use swc_ecma_parser_error::{Error, Labelled, PResult, SyntaxError};
 use swc_ecma_parser_grammar::{Class, Position};
-use swc_ecma_parser_inner::cover::{Cover, Reading, inside};
-use swc_ecma_parser_inner::grammar::{Grammar, Part};
-use swc_ecma_parser_inner::steps::{grown, pushed, since};
 use swc_ecma_parser_recovery::recovery::stays_refused;
-use swc_ecma_parser_source::Source;
+use swc_ecma_parser_shared::cover::{Cover, Reading, inside};
+use swc_ecma_parser_shared::grammar::{Grammar, Part};
+use swc_ecma_parser_shared::steps::{grown, pushed, since};
 use swc_ecma_parser_statements::simple::SUB_STATEMENT;
 use swc_ecma_parser_token::TokenKind;
 use swc_ecma_parser_trees::{BuildsControl, MakerOf, Trees};
@@ -53,7 +53,7 @@ fn in_condition(alloc: Global, inner: Error, word: Span) -> Result<SyntaxError, 
 
 /// The refusal of a condition behind the word `if`. One for want of memory or depth stays as it is.
 #[inline(never)]
-fn labelled<P: Source>(alloc: Global, p: &mut P, error: Error, word: Span) -> Error
+fn labelled<P: Cursor>(alloc: Global, p: &mut P, error: Error, word: Span) -> Error
     ensures memory { kind_of result.kind ≢ kinds.OutOfMemory → kind_of error.kind ≢ kinds.OutOfMemory }
     ensures gives { kind_of result.kind ≢ kinds.OutOfMemory
         → reader.labelled_as {A = Tree} (Err (fault_of error, P.seen p.old)) ≡ Err (fault_of result, P.seen p.new) }
@@ -72,7 +72,7 @@ fn labelled<P: Source>(alloc: Global, p: &mut P, error: Error, word: Span) -> Er
 #[tactic(auto, unfolding(swc_ecma_parser_reader::specs::Reader::condition, swc_ecma_parser_reader::specs::State::labelled, swc_ecma_parser_reader::specs::Expressions::inside))]
 #[inline(never)]
 fn condition<
-    P: Source,
+    P: Cursor,
     T: Trees,
     S: Fn(&MakerOf<T>, &mut P, usize, Position) -> PResult<T::Stmt>,
     E: Fn(&MakerOf<T>, &mut P, usize, Reading) -> PResult<Cover<T::Expr>>,
@@ -93,7 +93,7 @@ fn condition<
 /// An `if` up to its first statement.
 #[tactic(auto, unfolding(swc_ecma_parser_reader::specs::Reader::link, swc_ecma_parser_reader::specs::Reader::link_from))]
 fn next_link<
-    P: Source,
+    P: Cursor,
     T: Trees,
     S: Fn(&MakerOf<T>, &mut P, usize, Position) -> PResult<T::Stmt>,
     E: Fn(&MakerOf<T>, &mut P, usize, Reading) -> PResult<Cover<T::Expr>>,
@@ -113,7 +113,7 @@ fn next_link<
 #[tactic(auto, unfolding(swc_ecma_parser_reader::specs::Reader::alternative))]
 #[inline(never)]
 fn alternative<
-    P: Source,
+    P: Cursor,
     T: Trees,
     S: Fn(&MakerOf<T>, &mut P, usize, Position) -> PResult<T::Stmt>,
     E: Fn(&MakerOf<T>, &mut P, usize, Reading) -> PResult<Cover<T::Expr>>,
@@ -132,14 +132,14 @@ fn alternative<
 
 /// Whether one more `if` of a chain stands behind a link.
 #[tactic(auto, unfolding(swc_ecma_parser_reader::specs::Reader::goes_on))]
-fn goes_on<P: Source>(p: &P) -> bool
+fn goes_on<P: Cursor>(p: &P) -> bool
     ensures { result ≡ rules.goes_on (P.seen p.now).at }
 {
     p.sees(TokenKind::Else) && p.next_sees(TokenKind::If)
 }
 
 /// An `if` up to what was read last, with what stands behind its `else`.
-fn closed<P: Source, T: BuildsControl>(
+fn closed<P: Cursor, T: BuildsControl>(
     alloc: Global,
     p: &mut P,
     link: Link<T::Expr, T::Stmt>,
@@ -156,7 +156,7 @@ fn closed<P: Source, T: BuildsControl>(
 
 /// A chain around what stands behind its last `else`.
 #[tactic(auto, using(crate::proofs::Links::around_push, std::proofs::lemmas::List::map_push))]
-fn enclosed<P: Source, T: BuildsControl>(
+fn enclosed<P: Cursor, T: BuildsControl>(
     alloc: Global,
     p: &mut P,
     mut links: Vec<Link<T::Expr, T::Stmt>>,
@@ -176,7 +176,7 @@ fn enclosed<P: Source, T: BuildsControl>(
 /// An `if` statement.
 #[inline(never)]
 pub fn if_stmt<
-    P: Source,
+    P: Cursor,
     T: BuildsControl,
     S: Fn(&MakerOf<T>, &mut P, usize, Position) -> PResult<T::Stmt>,
     E: Fn(&MakerOf<T>, &mut P, usize, Reading) -> PResult<Cover<T::Expr>>,

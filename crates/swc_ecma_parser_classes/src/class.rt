@@ -5,7 +5,7 @@ ghost use Rattle.swc_ecma_parser_classes.specs.Heads.{ReadsClass};
 ghost use Rattle.swc_ecma_parser_classes.specs.Named.{class_expr_of};
 ghost use Rattle.swc_ecma_parser_grammar.specs.Own as own;
 ghost use Rattle.swc_ecma_parser_grammar.specs.language.Goals.{left_side};
-ghost use Rattle.swc_ecma_parser_inner.specs.Keys.{word_of};
+ghost use Rattle.swc_ecma_parser_shared.specs.Keys.{word_of};
 ghost use Rattle.swc_ecma_parser_model.specs.Forms as forms;
 ghost use Rattle.swc_ecma_parser_reader.specs.Dressed as dressed;
 ghost use Rattle.swc_ecma_parser_reader.specs.Jumps.{told};
@@ -16,13 +16,13 @@ ghost use Rattle.swc_ecma_parser_trees.specs.Parts.{part_of};
 
 use swc_ecma_parser_bodies::body::close;
 use swc_ecma_parser_common::Span;
+use swc_ecma_parser_cursor::{Cursor, Wanted};
 use swc_ecma_parser_error::{PResult, SyntaxError};
 use swc_ecma_parser_grammar::Class;
-use swc_ecma_parser_inner::found::{found_module_item, set_found_module_item};
-use swc_ecma_parser_inner::steps::{grown, pushed, since, told_if, with_in};
 use swc_ecma_parser_input::Context;
 use swc_ecma_parser_model::Ident;
-use swc_ecma_parser_source::{Source, Wanted};
+use swc_ecma_parser_shared::found::{found_module_item, set_found_module_item};
+use swc_ecma_parser_shared::steps::{grown, pushed, since, told_if, with_in};
 use swc_ecma_parser_token::TokenKind;
 use swc_ecma_parser_trees::{BuildsClass, BuildsClassDecl, MakerOf};
 
@@ -38,7 +38,7 @@ pub struct ClassGrammar<E, M> {
 
 /// Whether the members of a class end here.
 #[tactic(auto, unfolding(swc_ecma_parser_reader::specs::Reader::closes))]
-fn closes<P: Source>(p: &P) -> bool
+fn closes<P: Cursor>(p: &P) -> bool
     ensures { result ≡ rules.closes (P.seen p.now).at }
 {
     p.sees(TokenKind::RBrace) || p.sees(TokenKind::End)
@@ -46,7 +46,7 @@ fn closes<P: Source>(p: &P) -> bool
 
 /// Records a constructor behind another.
 #[inline(never)]
-fn second_constructor<P: Source, T: BuildsClass>(
+fn second_constructor<P: Cursor, T: BuildsClass>(
     p: &mut P,
     has_constructor: bool,
     member: &T::Member,
@@ -69,7 +69,7 @@ fn with_constructor<T: BuildsClass>(has_constructor: bool, member: &T::Member) -
 #[tactic(auto, unfolding(swc_ecma_parser_reader::specs::Members::members), using(swc_ecma_parser_reader::proofs::classes::Loops::members_done))]
 #[inline(never)]
 fn members<
-    P: Source,
+    P: Cursor,
     T: BuildsClass,
     E: Fn(&MakerOf<T>, &mut P, usize, Class) -> PResult<T::Expr>,
     M: Fn(&MakerOf<T>, &mut P, usize, &[T::Member]) -> PResult<T::Member>,
@@ -90,7 +90,7 @@ fn members<
 
 /// What a class extends, from behind `extends`.
 fn heritage<
-    P: Source,
+    P: Cursor,
     T: BuildsClass,
     E: Fn(&MakerOf<T>, &mut P, usize, Class) -> PResult<T::Expr>,
     M: Fn(&MakerOf<T>, &mut P, usize, &[T::Member]) -> PResult<T::Member>,
@@ -105,7 +105,7 @@ fn heritage<
 #[tactic(auto, unfolding(swc_ecma_parser_reader::specs::Members::extended))]
 #[inline(never)]
 fn extended<
-    P: Source,
+    P: Cursor,
     T: BuildsClass,
     E: Fn(&MakerOf<T>, &mut P, usize, Class) -> PResult<T::Expr>,
     M: Fn(&MakerOf<T>, &mut P, usize, &[T::Member]) -> PResult<T::Member>,
@@ -124,7 +124,7 @@ fn extended<
 /// What a class extends, dropped, with what in it makes a program a module.
 #[inline(never)]
 fn dropped<
-    P: Source,
+    P: Cursor,
     T: BuildsClass,
     E: Fn(&MakerOf<T>, &mut P, usize, Class) -> PResult<T::Expr>,
     M: Fn(&MakerOf<T>, &mut P, usize, &[T::Member]) -> PResult<T::Member>,
@@ -142,7 +142,7 @@ fn dropped<
 #[tactic(auto, using(crate::proofs::Surplus::surplus_none, crate::proofs::Surplus::surplus_err, crate::proofs::Surplus::surplus_told))]
 #[inline(never)]
 fn surplus<
-    P: Source,
+    P: Cursor,
     T: BuildsClass,
     E: Fn(&MakerOf<T>, &mut P, usize, Class) -> PResult<T::Expr>,
     M: Fn(&MakerOf<T>, &mut P, usize, &[T::Member]) -> PResult<T::Member>,
@@ -163,7 +163,7 @@ fn surplus<
 #[tactic(auto, unfolding(swc_ecma_parser_reader::specs::Dressed::class_parts_with, swc_ecma_parser_reader::specs::Members::class_parts))]
 #[inline(never)]
 pub fn class_parts_with<
-    P: Source,
+    P: Cursor,
     T: BuildsClass,
     E: Fn(&MakerOf<T>, &mut P, usize, Class) -> PResult<T::Expr>,
     M: Fn(&MakerOf<T>, &mut P, usize, &[T::Member]) -> PResult<T::Member>,
@@ -203,7 +203,7 @@ fn in_class(flags: Context) -> Context
 /// A class that is declared and begins at `start`, in what stands around it.
 #[tactic(auto, unfolding(swc_ecma_parser_reader::specs::Dressed::named_class_with, swc_ecma_parser_reader::specs::Reader::named))]
 fn named_class<
-    P: Source,
+    P: Cursor,
     T: BuildsClassDecl,
     E: Fn(&MakerOf<T>, &mut P, usize, Class) -> PResult<T::Expr>,
     M: Fn(&MakerOf<T>, &mut P, usize, &[T::Member]) -> PResult<T::Member>,
@@ -226,7 +226,7 @@ fn named_class<
 /// A class that is declared and begins at `start`, with the decorators before it.
 #[tactic(auto, unfolding(swc_ecma_parser_reader::specs::Dressed::class_decl_with))]
 pub fn class_decl_with<
-    P: Source,
+    P: Cursor,
     T: BuildsClassDecl,
     E: Fn(&MakerOf<T>, &mut P, usize, Class) -> PResult<T::Expr>,
     M: Fn(&MakerOf<T>, &mut P, usize, &[T::Member]) -> PResult<T::Member>,
@@ -251,7 +251,7 @@ pub fn class_decl_with<
 #[tactic(auto, unfolding(swc_ecma_parser_reader::specs::Members::class_name, swc_ecma_parser_reader::specs::Reader::named))]
 #[inline(never)]
 fn class_name<
-    P: Source,
+    P: Cursor,
     T: BuildsClass,
     E: Fn(&MakerOf<T>, &mut P, usize, Class) -> PResult<T::Expr>,
     M: Fn(&MakerOf<T>, &mut P, usize, &[T::Member]) -> PResult<T::Member>,
@@ -276,7 +276,7 @@ pub struct NamedClass<C> {
 /// A class that is an expression, in what stands around it, with the decorators before it.
 #[tactic(auto, unfolding(swc_ecma_parser_reader::specs::Dressed::unnamed_class_with))]
 fn unnamed_class<
-    P: Source,
+    P: Cursor,
     T: BuildsClass,
     E: Fn(&MakerOf<T>, &mut P, usize, Class) -> PResult<T::Expr>,
     M: Fn(&MakerOf<T>, &mut P, usize, &[T::Member]) -> PResult<T::Member>,
@@ -299,7 +299,7 @@ fn unnamed_class<
 /// A class that is an expression, as its parts, with the decorators before it.
 #[tactic(auto, unfolding(swc_ecma_parser_reader::specs::Dressed::class_expr_with))]
 pub fn class_expr_with<
-    P: Source,
+    P: Cursor,
     T: BuildsClass,
     E: Fn(&MakerOf<T>, &mut P, usize, Class) -> PResult<T::Expr>,
     M: Fn(&MakerOf<T>, &mut P, usize, &[T::Member]) -> PResult<T::Member>,

@@ -11,15 +11,15 @@ ghost use Rattle.swc_ecma_parser_reader.specs.Members as members;
 ghost use Rattle.swc_ecma_parser_reader.specs.State.{Gives, GivesAs};
 ghost use Rattle.swc_ecma_parser_token.specs.declared.kind.TokenKind.TheVariants as kind;
 
+use swc_ecma_parser_cursor::Cursor;
 use swc_ecma_parser_error::PResult;
 use swc_ecma_parser_functions::function::{Manner, star};
 use swc_ecma_parser_functions::methods::MethodForm;
-use swc_ecma_parser_source::Source;
 use swc_ecma_parser_token::TokenKind;
 
 /// Whether the word that stands here is a key, by what stands behind it.
 #[tactic(auto, unfolding(swc_ecma_parser_grammar::specs::language::Classes::ends_key))]
-fn is_key<P: Source>(p: &P) -> bool
+fn is_key<P: Cursor>(p: &P) -> bool
     ensures { result ≡ classes.ends_key (place.after (P.seen p.now).at) }
 {
     p.next_sees(TokenKind::LParen)
@@ -30,7 +30,7 @@ fn is_key<P: Source>(p: &P) -> bool
 
 /// Whether a field that the word here names can end behind it.
 #[tactic(auto, unfolding(swc_ecma_parser_grammar::specs::Ends::can_end))]
-fn next_can_end<P: Source>(p: &P) -> bool
+fn next_can_end<P: Cursor>(p: &P) -> bool
     ensures { result ≡ ends.can_end (place.after (P.seen p.now).at) }
 {
     p.next_sees(TokenKind::End) || p.next_sees(TokenKind::RBrace) || p.next_had_line_break()
@@ -38,7 +38,7 @@ fn next_can_end<P: Source>(p: &P) -> bool
 
 /// Whether `static` stands here and is no key.
 #[tactic(auto, unfolding(swc_ecma_parser_grammar::specs::language::Classes::is_static_word))]
-fn is_static_word<P: Source>(p: &P) -> bool
+fn is_static_word<P: Cursor>(p: &P) -> bool
     ensures { result ≡ classes.is_static_word (P.seen p.now).at }
 {
     p.word_at("static") && !is_key(p)
@@ -46,7 +46,7 @@ fn is_static_word<P: Source>(p: &P) -> bool
 
 /// `static`, where it is no key.
 #[tactic(auto, unfolding(swc_ecma_parser_reader::specs::Members::static_word))]
-pub fn static_word<P: Source>(p: &mut P) -> PResult<bool>
+pub fn static_word<P: Cursor>(p: &mut P) -> PResult<bool>
     ensures { Gives (members.static_word (P.seen p.old)) result (P.seen p.new) }
 {
     if !is_static_word(p) {
@@ -58,7 +58,7 @@ pub fn static_word<P: Source>(p: &mut P) -> PResult<bool>
 
 /// Whether `accessor` stands here and begins a field with a getter and a setter.
 #[tactic(auto, unfolding(swc_ecma_parser_grammar::specs::language::Classes::is_accessor_word))]
-pub fn is_accessor_word<P: Source>(p: &P) -> bool
+pub fn is_accessor_word<P: Cursor>(p: &P) -> bool
     ensures { result ≡ classes.is_accessor_word (P.seen p.now).code (P.seen p.now).at }
 {
     p.auto_accessors() && p.word_at("accessor") && !is_key(p) && !next_can_end(p)
@@ -66,7 +66,7 @@ pub fn is_accessor_word<P: Source>(p: &P) -> bool
 
 /// Whether `get` or `set` stands here and an accessor goes on behind it.
 #[tactic(auto, unfolding(swc_ecma_parser_reader::specs::Members::begins_accessor))]
-fn begins_accessor<P: Source>(p: &P, text: &'static str) -> bool
+fn begins_accessor<P: Cursor>(p: &P, text: &'static str) -> bool
     ensures { result ≡ members.begins_accessor text.now (P.seen p.now).at }
 {
     p.word_at(text) && !is_key(p) && !(p.next_sees(TokenKind::Mul) && p.next_had_line_break())
@@ -74,7 +74,7 @@ fn begins_accessor<P: Source>(p: &P, text: &'static str) -> bool
 
 /// Whether `async` stands here, and on its line what it makes async.
 #[tactic(auto, unfolding(swc_ecma_parser_reader::specs::Members::begins_async_member))]
-fn begins_async_member<P: Source>(p: &P) -> bool
+fn begins_async_member<P: Cursor>(p: &P) -> bool
     ensures { result ≡ members.begins_async_member (P.seen p.now).at }
 {
     p.word_at("async") && !is_key(p) && !next_can_end(p)
@@ -82,7 +82,7 @@ fn begins_async_member<P: Source>(p: &P) -> bool
 
 /// Whether one of these words or `*` stands before a key.
 #[tactic(auto, unfolding(swc_ecma_parser_reader::specs::Members::begins_words))]
-pub fn begins_words<P: Source>(p: &P) -> bool
+pub fn begins_words<P: Cursor>(p: &P) -> bool
     ensures { result ≡ members.begins_words (P.seen p.now).at }
 {
     begins_accessor(p, "get")
@@ -92,7 +92,7 @@ pub fn begins_words<P: Source>(p: &P) -> bool
 }
 
 /// Whether a `static` behind another word and a block stand here.
-pub fn begins_static_block<P: Source>(p: &P) -> bool
+pub fn begins_static_block<P: Cursor>(p: &P) -> bool
     ensures { result ≡ (follows.word_at (codes "static") (P.seen p.now).at && looks.sees kind.LBrace (place.after (P.seen p.now).at)) }
 {
     p.word_at("static") && p.next_sees(TokenKind::LBrace)
@@ -100,7 +100,7 @@ pub fn begins_static_block<P: Source>(p: &P) -> bool
 
 /// Whether a static block goes on behind `accessor`, with a `static` of its own or without it.
 #[tactic(auto, unfolding(swc_ecma_parser_reader::specs::Members::begins_block))]
-pub fn begins_block<P: Source>(p: &P, is_static: bool) -> bool
+pub fn begins_block<P: Cursor>(p: &P, is_static: bool) -> bool
     ensures { result ≡ members.begins_block is_static (P.seen p.now).at }
 {
     (is_static && p.sees(TokenKind::LBrace)) || begins_static_block(p)
@@ -108,7 +108,7 @@ pub fn begins_block<P: Source>(p: &P, is_static: bool) -> bool
 
 /// The words before a key, if any stand there.
 #[tactic(auto, unfolding(swc_ecma_parser_reader::specs::Members::member_words, swc_ecma_parser_reader::specs::Methods::starred))]
-pub fn member_words<P: Source>(p: &mut P) -> PResult<MethodForm>
+pub fn member_words<P: Cursor>(p: &mut P) -> PResult<MethodForm>
     ensures { GivesAs form_of (members.member_words (P.seen p.old)) result (P.seen p.new) }
 {
     if begins_accessor(p, "get") {

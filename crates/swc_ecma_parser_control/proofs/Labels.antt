@@ -15,7 +15,7 @@ use Rattle.swc_ecma_parser_grammar.specs.Own.{duplicates, only}
 use Rattle.swc_ecma_parser_grammar.specs.declared.position.Position.{Position}
 use Rattle.swc_ecma_parser_grammar.specs.language.Contexts.{in_breakable}
 use Rattle.swc_ecma_parser_grammar.specs.language.Items.{labelled_item}
-use Rattle.swc_ecma_parser_source.specs.Labels.{LeavesLabel}
+use Rattle.swc_ecma_parser_cursor.specs.Labels.{LeavesLabel}
 use Rattle.swc_ecma_parser_reader.specs.State.{State, Outcome, Reader, and_then, ◌>>=◌, ◌>>◌, pure, reference, expect, since, coded, flagged, below, relabelled}
 use Rattle.swc_ecma_parser_reader.specs.Reader.{told, relabels, labelled_body, labeled_stmt, stmt}
 use Rattle.swc_ecma_parser_reader.proofs.Plain.{relabels_told, told_append, told_alike}

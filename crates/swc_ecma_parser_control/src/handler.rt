@@ -2,7 +2,7 @@
 
 ghost use Rattle.std.specs.Prelude.{◌≡◌};
 ghost use Rattle.swc_ecma_parser_grammar.specs.language.Items.{nested_item};
-ghost use Rattle.swc_ecma_parser_inner.specs.Nests.{Nests};
+ghost use Rattle.swc_ecma_parser_shared.specs.Nests.{Nests};
 ghost use Rattle.swc_ecma_parser_reader.specs.Reader as rules;
 ghost use Rattle.swc_ecma_parser_reader.specs.State as reader;
 ghost use Rattle.swc_ecma_parser_reader.specs.State.{Gives, GivesAs};
@@ -10,21 +10,21 @@ ghost use Rattle.swc_ecma_parser_trees.specs.Parts.{part_of};
 
 use swc_ecma_parser_bodies::body::braced;
 use swc_ecma_parser_common::Span;
+use swc_ecma_parser_cursor::Cursor;
 use swc_ecma_parser_error::{PResult, SyntaxError};
 use swc_ecma_parser_grammar::Position;
-use swc_ecma_parser_inner::cover::{Cover, Reading};
-use swc_ecma_parser_inner::grammar::{Grammar, Part};
-use swc_ecma_parser_inner::steps::{grown, since};
 use swc_ecma_parser_patterns::pat::inner_pat;
 use swc_ecma_parser_recovery::recovery::dropped;
-use swc_ecma_parser_source::Source;
+use swc_ecma_parser_shared::cover::{Cover, Reading};
+use swc_ecma_parser_shared::grammar::{Grammar, Part};
+use swc_ecma_parser_shared::steps::{grown, since};
 use swc_ecma_parser_token::TokenKind;
 use swc_ecma_parser_trees::{BuildsBlock, BuildsOperator, BuildsStmt, BuildsTry, MakerOf, Trees};
 
 /// What a catch binds, in parentheses.
 #[tactic(auto, unfolding(swc_ecma_parser_reader::specs::Reader::bound))]
 fn bound<
-    P: Source,
+    P: Cursor,
     T: Trees,
     S: Fn(&MakerOf<T>, &mut P, usize, Position) -> PResult<T::Stmt>,
     E: Fn(&MakerOf<T>, &mut P, usize, Reading) -> PResult<Cover<T::Expr>>,
@@ -42,7 +42,7 @@ fn bound<
 /// What a catch binds, if it binds something.
 #[tactic(auto, unfolding(swc_ecma_parser_reader::specs::Reader::parameter))]
 fn parameter<
-    P: Source,
+    P: Cursor,
     T: Trees,
     S: Fn(&MakerOf<T>, &mut P, usize, Position) -> PResult<T::Stmt>,
     E: Fn(&MakerOf<T>, &mut P, usize, Reading) -> PResult<Cover<T::Expr>>,
@@ -62,7 +62,7 @@ fn parameter<
 #[tactic(auto, unfolding(swc_ecma_parser_reader::specs::Reader::handler, swc_ecma_parser_reader::specs::Reader::caught, swc_ecma_parser_grammar::specs::Looks::spanned))]
 #[inline(never)]
 fn handler<
-    P: Source,
+    P: Cursor,
     T: BuildsTry,
     S: Fn(&MakerOf<T>, &mut P, usize, Position) -> PResult<T::Stmt>,
     E: Fn(&MakerOf<T>, &mut P, usize, Reading) -> PResult<Cover<T::Expr>>,
@@ -86,7 +86,7 @@ fn handler<
 /// A finally, if one stands here.
 #[tactic(auto, unfolding(swc_ecma_parser_reader::specs::Reader::finalizer))]
 fn finalizer<
-    P: Source,
+    P: Cursor,
     T: BuildsBlock,
     S: Fn(&MakerOf<T>, &mut P, usize, Position) -> PResult<T::Stmt>,
     E: Fn(&MakerOf<T>, &mut P, usize, Reading) -> PResult<Cover<T::Expr>>,
@@ -105,7 +105,7 @@ fn finalizer<
 
 /// The empty span before what stands here; at the end of the list, behind what was read last.
 #[tactic(auto, unfolding(swc_ecma_parser_reader::specs::Reader::begins_at))]
-fn begins_at<P: Source>(p: &P) -> Span
+fn begins_at<P: Cursor>(p: &P) -> Span
     ensures { result ≡ rules.begins_at (P.seen p.now).at }
 {
     let span = p.span();
@@ -119,7 +119,7 @@ fn begins_at<P: Source>(p: &P) -> Span
 
 /// Whether a catch or a finally stands here.
 #[tactic(auto, unfolding(swc_ecma_parser_reader::specs::Reader::is_handled))]
-fn is_handled<P: Source>(p: &P) -> bool
+fn is_handled<P: Cursor>(p: &P) -> bool
     ensures { result ≡ rules.is_handled (P.seen p.now).at }
 {
     p.sees(TokenKind::Catch) || p.sees(TokenKind::Finally)
@@ -129,7 +129,7 @@ fn is_handled<P: Source>(p: &P) -> bool
 #[tactic(auto, unfolding(swc_ecma_parser_reader::specs::Reader::try_stmt, swc_ecma_parser_reader::specs::Reader::handled, swc_ecma_parser_grammar::specs::Looks::spanned))]
 #[inline(never)]
 pub(crate) fn try_stmt<
-    P: Source,
+    P: Cursor,
     T: BuildsTry,
     S: Fn(&MakerOf<T>, &mut P, usize, Position) -> PResult<T::Stmt>,
     E: Fn(&MakerOf<T>, &mut P, usize, Reading) -> PResult<Cover<T::Expr>>,
@@ -154,7 +154,7 @@ pub(crate) fn try_stmt<
 
 /// Reads a catch, if one stands here, and drops it.
 fn dropped_handler<
-    P: Source,
+    P: Cursor,
     T: BuildsTry,
     S: Fn(&MakerOf<T>, &mut P, usize, Position) -> PResult<T::Stmt>,
     E: Fn(&MakerOf<T>, &mut P, usize, Reading) -> PResult<Cover<T::Expr>>,
@@ -171,7 +171,7 @@ fn dropped_handler<
 
 /// The same of a finally.
 fn dropped_finalizer<
-    P: Source,
+    P: Cursor,
     T: BuildsBlock,
     S: Fn(&MakerOf<T>, &mut P, usize, Position) -> PResult<T::Stmt>,
     E: Fn(&MakerOf<T>, &mut P, usize, Reading) -> PResult<Cover<T::Expr>>,
@@ -190,7 +190,7 @@ fn dropped_finalizer<
 #[tactic(auto, unfolding(swc_ecma_parser_reader::specs::Reader::stray))]
 #[inline(never)]
 pub(crate) fn stray<
-    P: Source,
+    P: Cursor,
     T: BuildsTry + BuildsStmt + BuildsOperator,
     S: Fn(&MakerOf<T>, &mut P, usize, Position) -> PResult<T::Stmt>,
     E: Fn(&MakerOf<T>, &mut P, usize, Reading) -> PResult<Cover<T::Expr>>,

@@ -5,7 +5,7 @@ ghost use Rattle.swc_ecma_parser_error.specs.Kind as kinds;
 ghost use Rattle.swc_ecma_parser_error.specs.Kind.{IsOutOfMemory};
 ghost use Rattle.swc_ecma_parser_grammar.specs.Own as own;
 ghost use Rattle.swc_ecma_parser_grammar.specs.language.Goals.{expression};
-ghost use Rattle.swc_ecma_parser_inner.specs.Nests.{Nests};
+ghost use Rattle.swc_ecma_parser_shared.specs.Nests.{Nests};
 ghost use Rattle.swc_ecma_parser_model.specs.Tree as tree;
 ghost use Rattle.swc_ecma_parser_reader.proofs.Plain.{duplicate};
 ghost use Rattle.swc_ecma_parser_reader.specs.Reader as rules;
@@ -14,13 +14,13 @@ ghost use Rattle.swc_ecma_parser_reader.specs.State.{Gives, GivesAs};
 use crate::switch::in_breakable;
 use std::alloc::Global;
 use swc_ecma_parser_common::{Atom, Boxed, Span};
+use swc_ecma_parser_cursor::{Cursor, Wanted};
 use swc_ecma_parser_error::{PResult, SyntaxError};
 use swc_ecma_parser_grammar::Position;
-use swc_ecma_parser_inner::cover::{Cover, Reading};
-use swc_ecma_parser_inner::grammar::{Grammar, Part};
-use swc_ecma_parser_inner::steps::{grown, since};
 use swc_ecma_parser_model::{Ident, VarDeclKind};
-use swc_ecma_parser_source::{Source, Wanted};
+use swc_ecma_parser_shared::cover::{Cover, Reading};
+use swc_ecma_parser_shared::grammar::{Grammar, Part};
+use swc_ecma_parser_shared::steps::{grown, since};
 use swc_ecma_parser_statements::simple::expr_stmt_at;
 use swc_ecma_parser_statements::variables::variables;
 use swc_ecma_parser_token::TokenKind;
@@ -31,14 +31,14 @@ use swc_ecma_parser_trees::{
 
 /// Whether a label stands here.
 #[tactic(auto, unfolding(swc_ecma_parser_reader::specs::Reader::begins_label))]
-fn begins_label<P: Source>(p: &P) -> bool
+fn begins_label<P: Cursor>(p: &P) -> bool
     ensures { result ≡ rules.begins_label (P.seen p.now).code (P.seen p.now).at }
 {
     p.name_at() && p.next_sees(TokenKind::Colon)
 }
 
 /// The text of a label, as a fault holds it.
-fn label_text<P: Source>(alloc: Global, p: &mut P, label: &Ident) -> PResult<Boxed<Atom>>
+fn label_text<P: Cursor>(alloc: Global, p: &mut P, label: &Ident) -> PResult<Boxed<Atom>>
     ensures state { IfOk result (λ text. P.seen p.new ≡ P.seen p.old) }
     ensures err { IfErr result IsOutOfMemory }
 {
@@ -48,7 +48,7 @@ fn label_text<P: Source>(alloc: Global, p: &mut P, label: &Ident) -> PResult<Box
 
 /// Records so many times that a label stands around already.
 #[tactic(auto, using(swc_ecma_parser_reader::proofs::Plain::told_none, swc_ecma_parser_reader::proofs::Plain::told_more, swc_ecma_parser_reader::proofs::Plain::told_err))]
-fn duplicate<P: Source>(alloc: Global, p: &mut P, label: &Ident, times: usize) -> PResult<()>
+fn duplicate<P: Cursor>(alloc: Global, p: &mut P, label: &Ident, times: usize) -> PResult<()>
     ensures { Gives (rules.told (replicate times (duplicate label.now.span)) (P.seen p.old)) result (P.seen p.new) }
 {
     let mut left = times;
@@ -63,7 +63,7 @@ fn duplicate<P: Source>(alloc: Global, p: &mut P, label: &Ident, times: usize) -
 /// Records each equal label around.
 #[tactic(auto, using(swc_ecma_parser_reader::proofs::Plain::duplicates_counted))]
 #[inline(never)]
-fn duplicates<P: Source>(alloc: Global, p: &mut P, label: &Ident) -> PResult<()>
+fn duplicates<P: Cursor>(alloc: Global, p: &mut P, label: &Ident) -> PResult<()>
     ensures { Gives (rules.told (own.duplicates (P.seen p.old).scope.labels (tree.ident label.now.span label.now.sym)) (P.seen p.old)) result (P.seen p.new) }
 {
     let times = p.count_labels(label.sym.as_str());
@@ -72,7 +72,7 @@ fn duplicates<P: Source>(alloc: Global, p: &mut P, label: &Ident) -> PResult<()>
 
 /// Records a function behind a label: that of strict code, and a generator.
 #[inline(never)]
-fn labelled_function<P: Source>(
+fn labelled_function<P: Cursor>(
     p: &mut P,
     is_function: bool,
     is_starred: bool,
@@ -93,7 +93,7 @@ fn labelled_function<P: Source>(
 #[tactic(auto, unfolding(swc_ecma_parser_reader::specs::Reader::labelled_body))]
 #[inline(never)]
 fn labelled_body<
-    P: Source,
+    P: Cursor,
     T: Trees,
     S: Fn(&MakerOf<T>, &mut P, usize, Position) -> PResult<T::Stmt>,
     E: Fn(&MakerOf<T>, &mut P, usize, Reading) -> PResult<Cover<T::Expr>>,
@@ -119,7 +119,7 @@ fn labelled_body<
 #[tactic(auto, unfolding(swc_ecma_parser_reader::specs::Reader::labeled_stmt), using(swc_ecma_parser_reader::proofs::Plain::relabels_told))]
 #[inline(never)]
 fn labeled_stmt<
-    P: Source,
+    P: Cursor,
     T: BuildsControl + BuildsBlock,
     S: Fn(&MakerOf<T>, &mut P, usize, Position) -> PResult<T::Stmt>,
     E: Fn(&MakerOf<T>, &mut P, usize, Reading) -> PResult<Cover<T::Expr>>,
@@ -144,7 +144,7 @@ fn labeled_stmt<
 /// A statement that its first token does not tell: one with a label, or an expression statement.
 #[tactic(auto, unfolding(swc_ecma_parser_reader::specs::Reader::other_stmt))]
 pub(crate) fn other_stmt<
-    P: Source,
+    P: Cursor,
     T: BuildsStmt + BuildsOperator + BuildsControl + BuildsBlock,
     S: Fn(&MakerOf<T>, &mut P, usize, Position) -> PResult<T::Stmt>,
     E: Fn(&MakerOf<T>, &mut P, usize, Reading) -> PResult<Cover<T::Expr>>,
@@ -163,7 +163,7 @@ pub(crate) fn other_stmt<
 #[tactic(auto, unfolding(swc_ecma_parser_reader::specs::Reader::let_stmt))]
 #[inline(never)]
 pub(crate) fn let_stmt<
-    P: Source,
+    P: Cursor,
     T: BuildsPattern + BuildsStmt + BuildsOperator + BuildsVariables + BuildsControl + BuildsBlock,
     S: Fn(&MakerOf<T>, &mut P, usize, Position) -> PResult<T::Stmt>,
     E: Fn(&MakerOf<T>, &mut P, usize, Reading) -> PResult<Cover<T::Expr>>,

@@ -2,7 +2,7 @@
 
 ghost use Rattle.std.specs.Prelude.{◌≡◌, ◌≢◌};
 ghost use Rattle.swc_ecma_parser_grammar.specs.Looks as looks;
-ghost use Rattle.swc_ecma_parser_inner.specs.Nests.{Nests};
+ghost use Rattle.swc_ecma_parser_shared.specs.Nests.{Nests};
 ghost use Rattle.swc_ecma_parser_reader.specs.Reader as rules;
 ghost use Rattle.swc_ecma_parser_reader.specs.State.{GivesAs};
 ghost use Rattle.swc_ecma_parser_token.specs.declared.kind.TokenKind.TheVariants as kind;
@@ -13,15 +13,15 @@ use crate::switch::switch_stmt;
 use crate::with_statement::with_stmt;
 use swc_ecma_parser_bodies::body::block;
 use swc_ecma_parser_branches::branch::if_stmt;
+use swc_ecma_parser_cursor::Cursor;
 use swc_ecma_parser_error::PResult;
 use swc_ecma_parser_functions::function::{function_decl, function_stmt};
 use swc_ecma_parser_grammar::Position;
-use swc_ecma_parser_inner::cover::{Cover, Reading};
-use swc_ecma_parser_inner::grammar::{Grammar, Part};
 use swc_ecma_parser_loops::for_loop::for_stmt;
-use swc_ecma_parser_loops::simple::{do_while, while_stmt};
+use swc_ecma_parser_loops::while_do::{do_while, while_stmt};
 use swc_ecma_parser_model::VarDeclKind;
-use swc_ecma_parser_source::Source;
+use swc_ecma_parser_shared::cover::{Cover, Reading};
+use swc_ecma_parser_shared::grammar::{Grammar, Part};
 use swc_ecma_parser_statements::jump::{break_stmt, continue_stmt};
 use swc_ecma_parser_statements::leave::{return_stmt, throw};
 use swc_ecma_parser_statements::simple::{debugger, empty, import_stmt_at};
@@ -36,7 +36,7 @@ use swc_ecma_parser_trees::{
 /// A statement that begins with a name, and is no function: what is declared with `using`, where declarations are read, or another.
 #[tactic(auto, unfolding(swc_ecma_parser_reader::specs::Reader::using_or_other))]
 fn using_or_other<
-    P: Source,
+    P: Cursor,
     T: BuildsPattern + BuildsStmt + BuildsOperator + BuildsControl + BuildsVarDecl,
     S: Fn(&MakerOf<T>, &mut P, usize, Position) -> PResult<T::Stmt>,
     E: Fn(&MakerOf<T>, &mut P, usize, Reading) -> PResult<Cover<T::Expr>>,
@@ -54,7 +54,7 @@ fn using_or_other<
 /// A statement that begins with a name: an async function, which may stand in the place of any statement, or another.
 #[tactic(auto, unfolding(swc_ecma_parser_reader::specs::Reader::async_or_other))]
 fn async_or_other<
-    P: Source,
+    P: Cursor,
     T: BuildsPattern + BuildsStmt + BuildsOperator + BuildsControl + BuildsVarDecl,
     S: Fn(&MakerOf<T>, &mut P, usize, Position) -> PResult<T::Stmt>,
     E: Fn(&MakerOf<T>, &mut P, usize, Reading) -> PResult<Cover<T::Expr>>,
@@ -72,7 +72,7 @@ fn async_or_other<
 /// A statement, by its first token. A class is read by the caller, so none begins here.
 #[tactic(auto, unfolding(swc_ecma_parser_reader::specs::Reader::stmt_level))]
 pub fn level<
-    P: Source,
+    P: Cursor,
     T: BuildsPattern
         + BuildsOperator
         + BuildsStmt

@@ -3,28 +3,28 @@
 ghost use Rattle.std.specs.Prelude.{◌≡◌, true, is_some, map};
 ghost use Rattle.swc_ecma_parser_grammar.specs.language.Items.{nested_item};
 ghost use Rattle.swc_ecma_parser_grammar.specs.language.Goals.{expression};
-ghost use Rattle.swc_ecma_parser_inner.specs.Nests.{Nests};
+ghost use Rattle.swc_ecma_parser_shared.specs.Nests.{Nests};
 ghost use Rattle.swc_ecma_parser_reader.specs.Reader as rules;
 ghost use Rattle.swc_ecma_parser_reader.specs.State.{GivesAs};
 ghost use Rattle.swc_ecma_parser_trees.specs.Parts.{part_of};
 
 use swc_ecma_parser_bodies::body::{Body, begins_clause, body_items};
 use swc_ecma_parser_common::Span;
+use swc_ecma_parser_cursor::Cursor;
 use swc_ecma_parser_error::{PResult, SyntaxError};
 use swc_ecma_parser_grammar::{Class, Position};
-use swc_ecma_parser_inner::cover::{Cover, Reading, inside};
-use swc_ecma_parser_inner::grammar::{Grammar, Part};
-use swc_ecma_parser_inner::steps::{grown, pushed, since};
 use swc_ecma_parser_input::Context;
-use swc_ecma_parser_loops::simple::head;
-use swc_ecma_parser_source::Source;
+use swc_ecma_parser_loops::while_do::head;
+use swc_ecma_parser_shared::cover::{Cover, Reading, inside};
+use swc_ecma_parser_shared::grammar::{Grammar, Part};
+use swc_ecma_parser_shared::steps::{grown, pushed, since};
 use swc_ecma_parser_token::TokenKind;
 use swc_ecma_parser_trees::{BuildsSwitch, MakerOf};
 
 /// A clause from its `:` on.
 #[tactic(auto, unfolding(swc_ecma_parser_reader::specs::Reader::clause_from))]
 fn clause_from<
-    P: Source,
+    P: Cursor,
     T: BuildsSwitch,
     S: Fn(&MakerOf<T>, &mut P, usize, Position) -> PResult<T::Stmt>,
     E: Fn(&MakerOf<T>, &mut P, usize, Reading) -> PResult<Cover<T::Expr>>,
@@ -48,7 +48,7 @@ fn clause_from<
 /// A `case`.
 #[tactic(auto, unfolding(swc_ecma_parser_reader::specs::Reader::case_clause, swc_ecma_parser_reader::specs::Expressions::inside))]
 fn case_clause<
-    P: Source,
+    P: Cursor,
     T: BuildsSwitch,
     S: Fn(&MakerOf<T>, &mut P, usize, Position) -> PResult<T::Stmt>,
     E: Fn(&MakerOf<T>, &mut P, usize, Reading) -> PResult<Cover<T::Expr>>,
@@ -66,7 +66,7 @@ fn case_clause<
 /// A `default`, which is refused behind an earlier one.
 #[tactic(auto, unfolding(swc_ecma_parser_reader::specs::Reader::default_clause))]
 fn default_clause<
-    P: Source,
+    P: Cursor,
     T: BuildsSwitch,
     S: Fn(&MakerOf<T>, &mut P, usize, Position) -> PResult<T::Stmt>,
     E: Fn(&MakerOf<T>, &mut P, usize, Reading) -> PResult<Cover<T::Expr>>,
@@ -86,7 +86,7 @@ fn default_clause<
 /// A clause, behind a `default` or none.
 #[tactic(auto, unfolding(swc_ecma_parser_reader::specs::Reader::clause))]
 fn clause<
-    P: Source,
+    P: Cursor,
     T: BuildsSwitch,
     S: Fn(&MakerOf<T>, &mut P, usize, Position) -> PResult<T::Stmt>,
     E: Fn(&MakerOf<T>, &mut P, usize, Reading) -> PResult<Cover<T::Expr>>,
@@ -104,7 +104,7 @@ fn clause<
 /// Clauses one behind another.
 #[tactic(auto, unfolding(swc_ecma_parser_reader::specs::Reader::clauses), using(swc_ecma_parser_reader::proofs::Loops::clauses_done, swc_ecma_parser_reader::proofs::Loops::clauses_err, swc_ecma_parser_reader::proofs::Loops::clauses_more, swc_ecma_parser_reader::proofs::Loops::clause_shorter, std::proofs::lemmas::List::map_push))]
 fn clauses<
-    P: Source,
+    P: Cursor,
     T: BuildsSwitch,
     S: Fn(&MakerOf<T>, &mut P, usize, Position) -> PResult<T::Stmt>,
     E: Fn(&MakerOf<T>, &mut P, usize, Reading) -> PResult<Cover<T::Expr>>,
@@ -141,7 +141,7 @@ pub(crate) fn in_breakable(flags: Context) -> Context
 #[tactic(auto, unfolding(swc_ecma_parser_reader::specs::Reader::switch_stmt, swc_ecma_parser_grammar::specs::Looks::spanned))]
 #[inline(never)]
 pub(crate) fn switch_stmt<
-    P: Source,
+    P: Cursor,
     T: BuildsSwitch,
     S: Fn(&MakerOf<T>, &mut P, usize, Position) -> PResult<T::Stmt>,
     E: Fn(&MakerOf<T>, &mut P, usize, Reading) -> PResult<Cover<T::Expr>>,

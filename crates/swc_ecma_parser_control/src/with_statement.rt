@@ -4,25 +4,25 @@ ghost use Rattle.std.specs.Prelude.{◌≡◌, true};
 ghost use Rattle.swc_ecma_parser_grammar.specs.language.Contexts as contexts;
 ghost use Rattle.swc_ecma_parser_grammar.specs.language.Goals.{expression};
 ghost use Rattle.swc_ecma_parser_grammar.specs.language.Items.{sub_statement};
-ghost use Rattle.swc_ecma_parser_inner.specs.Nests.{Nests};
+ghost use Rattle.swc_ecma_parser_shared.specs.Nests.{Nests};
 ghost use Rattle.swc_ecma_parser_reader.specs.Reader as rules;
 ghost use Rattle.swc_ecma_parser_reader.specs.State.{Gives, GivesAs, within};
 
 use swc_ecma_parser_common::Span;
+use swc_ecma_parser_cursor::Cursor;
 use swc_ecma_parser_error::{PResult, SyntaxError};
 use swc_ecma_parser_grammar::Position;
-use swc_ecma_parser_inner::cover::{Cover, Reading};
-use swc_ecma_parser_inner::grammar::{Grammar, Part};
-use swc_ecma_parser_inner::steps::{grown, since};
 use swc_ecma_parser_input::Context;
-use swc_ecma_parser_loops::simple::head;
-use swc_ecma_parser_source::Source;
+use swc_ecma_parser_loops::while_do::head;
+use swc_ecma_parser_shared::cover::{Cover, Reading};
+use swc_ecma_parser_shared::grammar::{Grammar, Part};
+use swc_ecma_parser_shared::steps::{grown, since};
 use swc_ecma_parser_statements::simple::SUB_STATEMENT;
 use swc_ecma_parser_trees::{BuildsControl, MakerOf, Trees};
 
 /// Says that `with` stands at this word: a fault of module code.
 #[tactic(auto, unfolding(swc_ecma_parser_reader::specs::Reader::note_with))]
-fn note_with<P: Source>(p: &mut P, word: Span) -> PResult<()>
+fn note_with<P: Cursor>(p: &mut P, word: Span) -> PResult<()>
     ensures { Gives (rules.note_with word (P.seen p.old)) result (P.seen p.new) }
 {
     p.module_fault(SyntaxError::WithInStrict, word)
@@ -40,7 +40,7 @@ fn in_with(flags: Context) -> Context
 
 /// The body of a `with`.
 fn scoped<
-    P: Source,
+    P: Cursor,
     T: Trees,
     S: Fn(&MakerOf<T>, &mut P, usize, Position) -> PResult<T::Stmt>,
     E: Fn(&MakerOf<T>, &mut P, usize, Reading) -> PResult<Cover<T::Expr>>,
@@ -60,7 +60,7 @@ fn scoped<
 #[tactic(auto, unfolding(swc_ecma_parser_reader::specs::Reader::with_stmt))]
 #[inline(never)]
 pub(crate) fn with_stmt<
-    P: Source,
+    P: Cursor,
     T: BuildsControl,
     S: Fn(&MakerOf<T>, &mut P, usize, Position) -> PResult<T::Stmt>,
     E: Fn(&MakerOf<T>, &mut P, usize, Reading) -> PResult<Cover<T::Expr>>,

@@ -7,7 +7,7 @@ use Rattle.swc_ecma_parser_model.specs.Tree.{Tree}
 use Rattle.swc_ecma_parser_reader.specs.DecoratorLevels.{decorated_in}
 use Rattle.swc_ecma_parser_reader.specs.Decorators.{Leading, leading}
 use Rattle.swc_ecma_parser_reader.specs.State.{State, Outcome, GivesAs, too_deep}
-use Rattle.swc_ecma_parser_core.proofs.Refusals.{too_deep_as}
+use Rattle.swc_ecma_parser_knot.proofs.Refusals.{too_deep_as}
 use Rattle.swc_ecma_parser_module_reader.specs.Decorated.{begins_decorators}
 use Rattle.swc_ecma_parser_module_reader.specs.Items.{begun_item, held_at, item_whole}
 use Rattle.swc_ecma_parser_module_reader.specs.Modules.{item_behind, module_item}

@@ -17,15 +17,15 @@ ghost use Rattle.swc_ecma_parser_state.specs.Opened.{begun};
 use crate::program::program_body;
 use std::alloc::Global;
 use std::marker::Brand;
-use swc_ecma_parser_core::grammar::leading;
+use swc_ecma_parser_cursor::Cursor;
 use swc_ecma_parser_error::{Error, PResult};
 use swc_ecma_parser_grammar::Position;
 use swc_ecma_parser_input::{Context, Tokens};
+use swc_ecma_parser_knot::knot::leading;
 use swc_ecma_parser_module_items::decorated::begins_decorators;
 use swc_ecma_parser_module_items::items::{item_behind, module_body, module_item};
 use swc_ecma_parser_module_items::programs::begins_module;
 use swc_ecma_parser_scripts::script::{script_body, whole_stmt};
-use swc_ecma_parser_source::Source;
 use swc_ecma_parser_state::{Call, Origin, State};
 use swc_ecma_parser_token::TokenKind;
 use swc_ecma_parser_trees::{

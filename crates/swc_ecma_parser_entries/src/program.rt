@@ -6,11 +6,11 @@ ghost use Rattle.swc_ecma_parser_module_reader.specs.Programs.{program_code};
 ghost use Rattle.swc_ecma_parser_reader.specs.Reader.{at_end};
 ghost use Rattle.swc_ecma_parser_reader.specs.State as reader;
 
+use swc_ecma_parser_cursor::Cursor;
 use swc_ecma_parser_error::PResult;
-use swc_ecma_parser_inner::steps::{since, whole_start};
 use swc_ecma_parser_input::{Context, Tokens};
 use swc_ecma_parser_module_items::programs::{items_from, statements};
-use swc_ecma_parser_source::Source;
+use swc_ecma_parser_shared::steps::{since, whole_start};
 use swc_ecma_parser_state::{Call, Origin};
 use swc_ecma_parser_token::TokenKind;
 use swc_ecma_parser_trees::{BuildsExport, BuildsStatements, BuildsVarDecl, MakerOf};

@@ -6,8 +6,8 @@ use Rattle.swc_ecma_parser_model.specs.Tree.{Tree}
 use Rattle.swc_ecma_parser_grammar.specs.Names.{Code}
 use Rattle.swc_ecma_parser_grammar.specs.language.Items.{nested_item}
 use Rattle.swc_ecma_parser_grammar.specs.scaffold.ReadsSupported.{ReadsStmt}
-use Rattle.swc_ecma_parser_source.specs.Around.{left_body}
-use Rattle.swc_ecma_parser_source.specs.declared.around.Around.{Around}
+use Rattle.swc_ecma_parser_cursor.specs.Around.{left_body}
+use Rattle.swc_ecma_parser_cursor.specs.declared.around.Around.{Around}
 use Rattle.swc_ecma_parser_reader.specs.State.{State, Reader, and_then, coded, flagged, within, enclosed, unlabelled, relabelled, found_as}
 use Rattle.swc_ecma_parser_reader.specs.Reader.{stmt, braced, parameters}
 use Rattle.swc_ecma_parser_reader.proofs.Meets.{Refuses, meant}

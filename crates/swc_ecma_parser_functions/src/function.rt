@@ -7,8 +7,8 @@ ghost use Rattle.swc_ecma_parser_grammar.specs.Own as own;
 ghost use Rattle.swc_ecma_parser_grammar.specs.Parameters.{parameter};
 ghost use Rattle.swc_ecma_parser_grammar.specs.language.Items.{nested_item};
 ghost use Rattle.swc_ecma_parser_grammar.specs.language.Contexts as contexts;
-ghost use Rattle.swc_ecma_parser_inner.specs.Keys.{word_of};
-ghost use Rattle.swc_ecma_parser_inner.specs.Nests.{Nests};
+ghost use Rattle.swc_ecma_parser_shared.specs.Keys.{word_of};
+ghost use Rattle.swc_ecma_parser_shared.specs.Nests.{Nests};
 ghost use Rattle.swc_ecma_parser_model.specs.Forms as forms;
 ghost use Rattle.swc_ecma_parser_model.specs.Tree as tree;
 ghost use Rattle.swc_ecma_parser_reader.specs.Dressed as dressed;
@@ -20,15 +20,15 @@ ghost use Rattle.swc_ecma_parser_trees.specs.Parts.{part_of};
 
 use swc_ecma_parser_bodies::body::{Body, body_items, close};
 use swc_ecma_parser_common::Span;
+use swc_ecma_parser_cursor::{Cursor, Wanted};
 use swc_ecma_parser_error::{PResult, SyntaxError};
 use swc_ecma_parser_grammar::Position;
-use swc_ecma_parser_inner::cover::{Cover, Reading};
-use swc_ecma_parser_inner::grammar::{Grammar, Part};
-use swc_ecma_parser_inner::steps::{grown, pushed, since};
 use swc_ecma_parser_input::Context;
 use swc_ecma_parser_model::Ident;
 use swc_ecma_parser_patterns::params::parameters;
-use swc_ecma_parser_source::{Source, Wanted};
+use swc_ecma_parser_shared::cover::{Cover, Reading};
+use swc_ecma_parser_shared::grammar::{Grammar, Part};
+use swc_ecma_parser_shared::steps::{grown, pushed, since};
 use swc_ecma_parser_token::TokenKind;
 use swc_ecma_parser_trees::{BuildsBlock, BuildsDecl, BuildsFunction, BuildsPattern, MakerOf};
 
@@ -107,7 +107,7 @@ fn first_use_strict<T: BuildsBlock>(stmts: &[T::Stmt]) -> Option<Span>
 /// Parameters, in what stands around them.
 #[inline(never)]
 pub fn parameters_inside<
-    P: Source,
+    P: Cursor,
     T: BuildsPattern,
     S: Fn(&MakerOf<T>, &mut P, usize, Position) -> PResult<T::Stmt>,
     E: Fn(&MakerOf<T>, &mut P, usize, Reading) -> PResult<Cover<T::Expr>>,
@@ -126,7 +126,7 @@ pub fn parameters_inside<
 /// The statements of a body, from its `{` to its `}`.
 #[tactic(auto, unfolding(swc_ecma_parser_reader::specs::Reader::braced, swc_ecma_parser_reader::specs::Reader::block_from, swc_ecma_parser_grammar::specs::Looks::spanned))]
 fn block<
-    P: Source,
+    P: Cursor,
     T: BuildsBlock,
     S: Fn(&MakerOf<T>, &mut P, usize, Position) -> PResult<T::Stmt>,
     E: Fn(&MakerOf<T>, &mut P, usize, Reading) -> PResult<Cover<T::Expr>>,
@@ -152,7 +152,7 @@ fn block<
 /// Statements in braces as a body, in what stands around them.
 #[inline(never)]
 pub fn inner_body<
-    P: Source,
+    P: Cursor,
     T: BuildsBlock,
     S: Fn(&MakerOf<T>, &mut P, usize, Position) -> PResult<T::Stmt>,
     E: Fn(&MakerOf<T>, &mut P, usize, Reading) -> PResult<Cover<T::Expr>>,
@@ -179,7 +179,7 @@ pub fn inner_body<
 /// The body of a function, in what stands around its statements.
 #[tactic(auto, unfolding(swc_ecma_parser_reader::specs::Reader::function_body))]
 pub fn function_body<
-    P: Source,
+    P: Cursor,
     T: BuildsBlock,
     S: Fn(&MakerOf<T>, &mut P, usize, Position) -> PResult<T::Stmt>,
     E: Fn(&MakerOf<T>, &mut P, usize, Reading) -> PResult<Cover<T::Expr>>,
@@ -198,7 +198,7 @@ pub fn function_body<
 }
 
 /// Patterns as parameters, each as long as its pattern.
-pub fn as_params<P: Source, T: BuildsFunction + BuildsPattern>(
+pub fn as_params<P: Cursor, T: BuildsFunction + BuildsPattern>(
     t: &MakerOf<T>,
     p: &mut P,
     pats: Vec<T::Pat>,
@@ -224,7 +224,7 @@ pub fn are_plain<T: BuildsFunction>(params: &[T::Param]) -> bool
 }
 
 /// Records a directive that says a body is strict, where a parameter is no plain name.
-pub fn misdirected<P: Source>(p: &mut P, is_plain: bool, directive: Option<Span>) -> PResult<()>
+pub fn misdirected<P: Cursor>(p: &mut P, is_plain: bool, directive: Option<Span>) -> PResult<()>
     ensures plain { is_plain ≡ true → Gives (rules.told [] (P.seen p.old)) result (P.seen p.new) }
     ensures late { is_plain ≡ false → Gives (rules.told (late directive) (P.seen p.old)) result (P.seen p.new) }
 {
@@ -236,7 +236,7 @@ pub fn misdirected<P: Source>(p: &mut P, is_plain: bool, directive: Option<Span>
 
 /// The words that begin a function, and whether `async` is one of them.
 #[tactic(auto, unfolding(swc_ecma_parser_reader::specs::Reader::function_word))]
-pub fn function_word<P: Source>(p: &mut P) -> PResult<bool>
+pub fn function_word<P: Cursor>(p: &mut P) -> PResult<bool>
     ensures { Gives (rules.function_word (P.seen p.old)) result (P.seen p.new) }
 {
     let is_async = p.is_async_function();
@@ -249,7 +249,7 @@ pub fn function_word<P: Source>(p: &mut P) -> PResult<bool>
 
 /// The `*` of a generator, if one stands here.
 #[tactic(auto, unfolding(swc_ecma_parser_reader::specs::Methods::star))]
-pub fn star<P: Source>(p: &mut P) -> PResult<bool>
+pub fn star<P: Cursor>(p: &mut P) -> PResult<bool>
     ensures { Gives (methods.star (P.seen p.old)) result (P.seen p.new) }
 {
     if !p.sees(TokenKind::Mul) {
@@ -262,7 +262,7 @@ pub fn star<P: Source>(p: &mut P) -> PResult<bool>
 /// A function, from behind its name, with the decorators before it.
 #[tactic(auto, unfolding(swc_ecma_parser_reader::specs::Dressed::function_parts_with, swc_ecma_parser_reader::specs::Reader::function_parts, swc_ecma_parser_reader::specs::Reader::misdirected))]
 pub fn function_parts_with<
-    P: Source,
+    P: Cursor,
     T: BuildsFunction + BuildsPattern,
     S: Fn(&MakerOf<T>, &mut P, usize, Position) -> PResult<T::Stmt>,
     E: Fn(&MakerOf<T>, &mut P, usize, Reading) -> PResult<Cover<T::Expr>>,
@@ -301,7 +301,7 @@ pub fn function_parts_with<
 /// A function without decorators, from behind its name.
 #[tactic(auto, using(swc_ecma_parser_reader::proofs::decorators::Dressed::function_parts_plain))]
 pub fn function_parts<
-    P: Source,
+    P: Cursor,
     T: BuildsFunction + BuildsPattern,
     S: Fn(&MakerOf<T>, &mut P, usize, Position) -> PResult<T::Stmt>,
     E: Fn(&MakerOf<T>, &mut P, usize, Reading) -> PResult<Cover<T::Expr>>,
@@ -323,7 +323,7 @@ pub fn function_parts<
 #[tactic(auto, unfolding(swc_ecma_parser_reader::specs::Reader::function_decl))]
 #[inline(never)]
 pub fn function_decl<
-    P: Source,
+    P: Cursor,
     T: BuildsDecl + BuildsPattern,
     S: Fn(&MakerOf<T>, &mut P, usize, Position) -> PResult<T::Stmt>,
     E: Fn(&MakerOf<T>, &mut P, usize, Reading) -> PResult<Cover<T::Expr>>,
@@ -348,7 +348,7 @@ pub fn function_decl<
 /// The same, where declarations are read or with a fault of its word.
 #[tactic(auto, unfolding(swc_ecma_parser_reader::specs::Reader::function_stmt))]
 pub fn function_stmt<
-    P: Source,
+    P: Cursor,
     T: BuildsDecl + BuildsPattern,
     S: Fn(&MakerOf<T>, &mut P, usize, Position) -> PResult<T::Stmt>,
     E: Fn(&MakerOf<T>, &mut P, usize, Reading) -> PResult<Cover<T::Expr>>,
@@ -366,7 +366,7 @@ pub fn function_stmt<
 
 /// The name of a function that is an expression, read in the function's own code, if there is one.
 #[inline(never)]
-fn own_name<P: Source>(p: &mut P, manner: Manner) -> PResult<Option<Ident>>
+fn own_name<P: Cursor>(p: &mut P, manner: Manner) -> PResult<Option<Ident>>
     ensures { GivesAs (part_of word_of) (rules.own_name manner.is_async manner.is_generator (P.seen p.old)) result (P.seen p.new) }
 {
     let outer = p.flags();
@@ -384,7 +384,7 @@ fn own_name<P: Source>(p: &mut P, manner: Manner) -> PResult<Option<Ident>>
 #[tactic(auto, unfolding(swc_ecma_parser_reader::specs::Reader::function, swc_ecma_parser_reader::specs::Reader::function_by, swc_ecma_parser_reader::specs::Reader::function_expr))]
 #[inline(never)]
 pub fn function_expr<
-    P: Source,
+    P: Cursor,
     T: BuildsFunction + BuildsPattern,
     S: Fn(&MakerOf<T>, &mut P, usize, Position) -> PResult<T::Stmt>,
     E: Fn(&MakerOf<T>, &mut P, usize, Reading) -> PResult<Cover<T::Expr>>,

@@ -3,8 +3,8 @@
 ghost use Rattle.std.specs.Prelude.{◌≡◌, map};
 ghost use Rattle.swc_ecma_parser_functions.specs.Methods.{form_of};
 ghost use Rattle.swc_ecma_parser_grammar.specs.language.Items.{nested_item};
-ghost use Rattle.swc_ecma_parser_inner.specs.Keys.{key_of};
-ghost use Rattle.swc_ecma_parser_inner.specs.Nests.{Nests};
+ghost use Rattle.swc_ecma_parser_shared.specs.Keys.{key_of};
+ghost use Rattle.swc_ecma_parser_shared.specs.Nests.{Nests};
 ghost use Rattle.swc_ecma_parser_reader.specs.Methods as methods;
 ghost use Rattle.swc_ecma_parser_reader.specs.Methods.{property_form};
 ghost use Rattle.swc_ecma_parser_reader.specs.Reader as rules;
@@ -14,13 +14,13 @@ use crate::function::{
     FunctionBody, Manner, function_body, function_parts, misdirected, parameters_inside, star,
 };
 use swc_ecma_parser_common::Span;
+use swc_ecma_parser_cursor::Cursor;
 use swc_ecma_parser_error::{PResult, SyntaxError};
 use swc_ecma_parser_grammar::Position;
-use swc_ecma_parser_inner::cover::{Cover, Reading};
-use swc_ecma_parser_inner::grammar::{Grammar, Part};
-use swc_ecma_parser_inner::keys::{Key, made_key};
-use swc_ecma_parser_inner::steps::{grown, since};
-use swc_ecma_parser_source::Source;
+use swc_ecma_parser_shared::cover::{Cover, Reading};
+use swc_ecma_parser_shared::grammar::{Grammar, Part};
+use swc_ecma_parser_shared::keys::{Key, made_key};
+use swc_ecma_parser_shared::steps::{grown, since};
 use swc_ecma_parser_trees::{BuildsMethod, BuildsPattern, MakerOf, Trees};
 
 /// What a method is, by the words before its key.
@@ -55,7 +55,7 @@ const PLAIN: Manner = Manner {
 /// The words before a key, if any stand there.
 #[tactic(auto, unfolding(swc_ecma_parser_reader::specs::Methods::method_words, swc_ecma_parser_reader::specs::Methods::starred))]
 #[inline(never)]
-pub fn method_words<P: Source>(p: &mut P) -> PResult<MethodForm>
+pub fn method_words<P: Cursor>(p: &mut P) -> PResult<MethodForm>
     ensures { GivesAs form_of (methods.method_words (P.seen p.old)) result (P.seen p.new) }
 {
     if p.modifies("get") {
@@ -79,7 +79,7 @@ pub fn method_words<P: Source>(p: &mut P) -> PResult<MethodForm>
 
 /// A getter has no parameter; else its word is refused.
 #[inline(never)]
-fn no_parameter<P: Source, T: Trees>(p: &mut P, params: &[T::Pat], word: Span) -> PResult<()>
+fn no_parameter<P: Cursor, T: Trees>(p: &mut P, params: &[T::Pat], word: Span) -> PResult<()>
     ensures { Gives (rules.no_parameter word (map T.pat_of params.now) (P.seen p.old)) result (P.seen p.new) }
 {
     if params.is_empty() {
@@ -90,7 +90,7 @@ fn no_parameter<P: Source, T: Trees>(p: &mut P, params: &[T::Pat], word: Span) -
 
 /// A setter has one parameter, which is no rest; else its word is refused.
 #[inline(never)]
-fn one_parameter<P: Source, T: BuildsPattern>(
+fn one_parameter<P: Cursor, T: BuildsPattern>(
     p: &mut P,
     params: Vec<T::Pat>,
     word: Span,
@@ -114,7 +114,7 @@ fn one_parameter<P: Source, T: BuildsPattern>(
 #[tactic(auto, unfolding(swc_ecma_parser_reader::specs::Reader::getter))]
 #[inline(never)]
 fn getter<
-    P: Source,
+    P: Cursor,
     T: BuildsMethod + BuildsPattern,
     S: Fn(&MakerOf<T>, &mut P, usize, Position) -> PResult<T::Stmt>,
     E: Fn(&MakerOf<T>, &mut P, usize, Reading) -> PResult<Cover<T::Expr>>,
@@ -144,7 +144,7 @@ fn getter<
 #[tactic(auto, unfolding(swc_ecma_parser_reader::specs::Reader::setter))]
 #[inline(never)]
 fn setter<
-    P: Source,
+    P: Cursor,
     T: BuildsMethod + BuildsPattern,
     S: Fn(&MakerOf<T>, &mut P, usize, Position) -> PResult<T::Stmt>,
     E: Fn(&MakerOf<T>, &mut P, usize, Reading) -> PResult<Cover<T::Expr>>,
@@ -175,7 +175,7 @@ fn setter<
 #[tactic(auto, unfolding(swc_ecma_parser_reader::specs::Reader::plain_method))]
 #[inline(never)]
 fn plain_method<
-    P: Source,
+    P: Cursor,
     T: BuildsMethod + BuildsPattern,
     S: Fn(&MakerOf<T>, &mut P, usize, Position) -> PResult<T::Stmt>,
     E: Fn(&MakerOf<T>, &mut P, usize, Reading) -> PResult<Cover<T::Expr>>,
@@ -201,7 +201,7 @@ fn plain_method<
 #[tactic(auto, unfolding(swc_ecma_parser_reader::specs::Reader::function, swc_ecma_parser_reader::specs::Reader::function_by))]
 #[inline(never)]
 pub fn method<
-    P: Source,
+    P: Cursor,
     T: BuildsMethod + BuildsPattern,
     S: Fn(&MakerOf<T>, &mut P, usize, Position) -> PResult<T::Stmt>,
     E: Fn(&MakerOf<T>, &mut P, usize, Reading) -> PResult<Cover<T::Expr>>,

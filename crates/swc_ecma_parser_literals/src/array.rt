@@ -1,20 +1,20 @@
 //! Arrays: ECMA-262, section 13.2.4.
 
 ghost use Rattle.std.specs.Prelude.{◌≡◌, true, IfOk};
-ghost use Rattle.swc_ecma_parser_inner.specs.Covers.{cover_of, covers_of};
-ghost use Rattle.swc_ecma_parser_inner.specs.Nests.{Nests};
+ghost use Rattle.swc_ecma_parser_shared.specs.Covers.{cover_of, covers_of};
+ghost use Rattle.swc_ecma_parser_shared.specs.Nests.{Nests};
 ghost use Rattle.swc_ecma_parser_reader.specs.Expressions as exprs;
 ghost use Rattle.swc_ecma_parser_reader.specs.Expressions.{is_literal};
 ghost use Rattle.swc_ecma_parser_reader.specs.Reader as rules;
 ghost use Rattle.swc_ecma_parser_reader.specs.State.{GivesAs};
 ghost use Rattle.swc_ecma_parser_trees.specs.Parts.{part_of};
 
+use swc_ecma_parser_cursor::Cursor;
 use swc_ecma_parser_error::PResult;
 use swc_ecma_parser_grammar::Position;
-use swc_ecma_parser_inner::cover::{Cover, Covers, Reading, behind_comma, covered, done, joined};
-use swc_ecma_parser_inner::grammar::{Grammar, Part};
-use swc_ecma_parser_inner::steps::{grown, since};
-use swc_ecma_parser_source::Source;
+use swc_ecma_parser_shared::cover::{Cover, Covers, Reading, behind_comma, covered, done, joined};
+use swc_ecma_parser_shared::grammar::{Grammar, Part};
+use swc_ecma_parser_shared::steps::{grown, since};
 use swc_ecma_parser_token::TokenKind;
 use swc_ecma_parser_trees::{BuildsCall, MakerOf};
 
@@ -22,7 +22,7 @@ use swc_ecma_parser_trees::{BuildsCall, MakerOf};
 #[tactic(auto, unfolding(swc_ecma_parser_reader::specs::Expressions::spread_item))]
 #[inline(never)]
 fn spread_item<
-    P: Source,
+    P: Cursor,
     T: BuildsCall,
     S: Fn(&MakerOf<T>, &mut P, usize, Position) -> PResult<T::Stmt>,
     E: Fn(&MakerOf<T>, &mut P, usize, Reading) -> PResult<Cover<T::Expr>>,
@@ -45,7 +45,7 @@ fn spread_item<
 /// An element that is not spread.
 #[tactic(auto, unfolding(swc_ecma_parser_reader::specs::Expressions::plain_item))]
 fn plain_item<
-    P: Source,
+    P: Cursor,
     T: BuildsCall,
     S: Fn(&MakerOf<T>, &mut P, usize, Position) -> PResult<T::Stmt>,
     E: Fn(&MakerOf<T>, &mut P, usize, Reading) -> PResult<Cover<T::Expr>>,
@@ -66,7 +66,7 @@ fn plain_item<
 /// An element.
 #[tactic(auto, unfolding(swc_ecma_parser_reader::specs::Expressions::item))]
 fn item<
-    P: Source,
+    P: Cursor,
     T: BuildsCall,
     S: Fn(&MakerOf<T>, &mut P, usize, Position) -> PResult<T::Stmt>,
     E: Fn(&MakerOf<T>, &mut P, usize, Reading) -> PResult<Cover<T::Expr>>,
@@ -84,7 +84,7 @@ fn item<
 /// Elements, from `[` on. A comma with nothing before it makes a hole.
 #[tactic(auto, unfolding(swc_ecma_parser_reader::specs::Expressions::elements), using(swc_ecma_parser_reader::proofs::expressions::Loops::elements_done, swc_ecma_parser_reader::proofs::expressions::Loops::elements_hole, swc_ecma_parser_reader::proofs::expressions::Loops::elements_err, swc_ecma_parser_reader::proofs::expressions::Loops::elements_last, swc_ecma_parser_reader::proofs::expressions::Loops::elements_more, swc_ecma_parser_reader::proofs::expressions::Loops::elements_comma_err, swc_ecma_parser_reader::proofs::expressions::Loops::hole_shorter, swc_ecma_parser_reader::proofs::expressions::Loops::item_shorter, swc_ecma_parser_reader::proofs::expressions::Loops::items_shorter))]
 fn elements<
-    P: Source,
+    P: Cursor,
     T: BuildsCall,
     S: Fn(&MakerOf<T>, &mut P, usize, Position) -> PResult<T::Stmt>,
     E: Fn(&MakerOf<T>, &mut P, usize, Reading) -> PResult<Cover<T::Expr>>,
@@ -123,7 +123,7 @@ fn elements<
 #[tactic(auto, unfolding(swc_ecma_parser_reader::specs::Expressions::array))]
 #[inline(never)]
 pub fn array<
-    P: Source,
+    P: Cursor,
     T: BuildsCall,
     S: Fn(&MakerOf<T>, &mut P, usize, Position) -> PResult<T::Stmt>,
     E: Fn(&MakerOf<T>, &mut P, usize, Reading) -> PResult<Cover<T::Expr>>,

@@ -2,9 +2,9 @@
 
 ghost use Rattle.std.specs.Prelude.{◌≡◌, true, IfOk};
 ghost use Rattle.swc_ecma_parser_functions.specs.Methods.{form_of};
-ghost use Rattle.swc_ecma_parser_inner.specs.Covers.{bare, cover_of, covers_of};
-ghost use Rattle.swc_ecma_parser_inner.specs.Keys.{key_of, word_of};
-ghost use Rattle.swc_ecma_parser_inner.specs.Nests.{Nests};
+ghost use Rattle.swc_ecma_parser_shared.specs.Covers.{bare, cover_of, covers_of};
+ghost use Rattle.swc_ecma_parser_shared.specs.Keys.{key_of, word_of};
+ghost use Rattle.swc_ecma_parser_shared.specs.Nests.{Nests};
 ghost use Rattle.swc_ecma_parser_reader.specs.Expressions as exprs;
 ghost use Rattle.swc_ecma_parser_reader.specs.Expressions.{is_literal};
 ghost use Rattle.swc_ecma_parser_reader.specs.Reader as rules;
@@ -12,23 +12,23 @@ ghost use Rattle.swc_ecma_parser_reader.specs.State.{GivesAs};
 
 use std::alloc::Global;
 use swc_ecma_parser_common::Span;
+use swc_ecma_parser_cursor::{Cursor, Wanted, may_refer_to_await};
 use swc_ecma_parser_error::PResult;
 use swc_ecma_parser_functions::methods::{MethodForm, method, method_words};
 use swc_ecma_parser_grammar::{Class, Position};
-use swc_ecma_parser_inner::cover::{
+use swc_ecma_parser_model::Ident;
+use swc_ecma_parser_shared::cover::{
     Cover, Covers, Reading, behind_comma, close, covered, done, inside, joined, no_brace,
 };
-use swc_ecma_parser_inner::grammar::{Grammar, Part};
-use swc_ecma_parser_inner::keys::{Key, made_key, property_key};
-use swc_ecma_parser_inner::steps::{as_name, grown, since};
-use swc_ecma_parser_model::Ident;
-use swc_ecma_parser_source::{Source, Wanted, may_refer_to_await};
+use swc_ecma_parser_shared::grammar::{Grammar, Part};
+use swc_ecma_parser_shared::keys::{Key, made_key, property_key};
+use swc_ecma_parser_shared::steps::{as_name, grown, since};
 use swc_ecma_parser_token::TokenKind;
 use swc_ecma_parser_trees::{BuildsMethod, BuildsObject, BuildsPattern, MakerOf};
 
 /// A key with nothing behind it: a name.
 #[tactic(auto, unfolding(swc_ecma_parser_reader::specs::Expressions::shorthand_name, swc_ecma_parser_reader::specs::State::as_name))]
-fn shorthand_name<P: Source, T: BuildsObject>(
+fn shorthand_name<P: Cursor, T: BuildsObject>(
     alloc: Global,
     p: &mut P,
     name: Ident,
@@ -44,7 +44,7 @@ fn shorthand_name<P: Source, T: BuildsObject>(
 #[tactic(auto, unfolding(swc_ecma_parser_reader::specs::Expressions::key_value))]
 #[inline(never)]
 fn key_value<
-    P: Source,
+    P: Cursor,
     T: BuildsObject,
     S: Fn(&MakerOf<T>, &mut P, usize, Position) -> PResult<T::Stmt>,
     E: Fn(&MakerOf<T>, &mut P, usize, Reading) -> PResult<Cover<T::Expr>>,
@@ -70,7 +70,7 @@ fn key_value<
 /// A name and its default, from `=` on: a part that only a pattern has.
 #[tactic(auto, unfolding(swc_ecma_parser_reader::specs::Expressions::initialized))]
 fn initialized<
-    P: Source,
+    P: Cursor,
     T: BuildsObject,
     S: Fn(&MakerOf<T>, &mut P, usize, Position) -> PResult<T::Stmt>,
     E: Fn(&MakerOf<T>, &mut P, usize, Reading) -> PResult<Cover<T::Expr>>,
@@ -99,7 +99,7 @@ fn initialized<
 /// The same where it is a name.
 #[tactic(auto, unfolding(swc_ecma_parser_reader::specs::Expressions::initialized_name, swc_ecma_parser_reader::specs::State::as_name))]
 fn initialized_name<
-    P: Source,
+    P: Cursor,
     T: BuildsObject,
     S: Fn(&MakerOf<T>, &mut P, usize, Position) -> PResult<T::Stmt>,
     E: Fn(&MakerOf<T>, &mut P, usize, Reading) -> PResult<Cover<T::Expr>>,
@@ -121,7 +121,7 @@ fn initialized_name<
 
 /// A key by itself.
 #[inline(never)]
-fn bare_key<P: Source, T: BuildsObject>(
+fn bare_key<P: Cursor, T: BuildsObject>(
     alloc: Global,
     p: &mut P,
     key: Key<T::Expr>,
@@ -138,7 +138,7 @@ fn bare_key<P: Source, T: BuildsObject>(
 #[tactic(auto, using(crate::proofs::Refusals::wanted_cover))]
 #[inline(never)]
 fn initialized_key<
-    P: Source,
+    P: Cursor,
     T: BuildsObject,
     S: Fn(&MakerOf<T>, &mut P, usize, Position) -> PResult<T::Stmt>,
     E: Fn(&MakerOf<T>, &mut P, usize, Reading) -> PResult<Cover<T::Expr>>,
@@ -162,7 +162,7 @@ fn initialized_key<
 /// What stands behind a key.
 #[tactic(auto, unfolding(swc_ecma_parser_reader::specs::Expressions::behind_key, swc_ecma_parser_reader::specs::Expressions::bare_key))]
 fn behind_key<
-    P: Source,
+    P: Cursor,
     T: BuildsObject,
     S: Fn(&MakerOf<T>, &mut P, usize, Position) -> PResult<T::Stmt>,
     E: Fn(&MakerOf<T>, &mut P, usize, Reading) -> PResult<Cover<T::Expr>>,
@@ -189,7 +189,7 @@ fn behind_key<
 /// What stands behind a key, where words of a method stand before it or not.
 #[tactic(auto, unfolding(swc_ecma_parser_reader::specs::Expressions::behind_words, swc_ecma_parser_reader::specs::Expressions::method))]
 fn behind_words<
-    P: Source,
+    P: Cursor,
     T: BuildsMethod + BuildsPattern,
     S: Fn(&MakerOf<T>, &mut P, usize, Position) -> PResult<T::Stmt>,
     E: Fn(&MakerOf<T>, &mut P, usize, Reading) -> PResult<Cover<T::Expr>>,
@@ -214,7 +214,7 @@ fn behind_words<
 /// A property that begins with a key, or with the words of a method before it.
 #[tactic(auto, unfolding(swc_ecma_parser_reader::specs::Expressions::keyed_property))]
 fn keyed_property<
-    P: Source,
+    P: Cursor,
     T: BuildsMethod + BuildsPattern,
     S: Fn(&MakerOf<T>, &mut P, usize, Position) -> PResult<T::Stmt>,
     E: Fn(&MakerOf<T>, &mut P, usize, Reading) -> PResult<Cover<T::Expr>>,
@@ -233,7 +233,7 @@ fn keyed_property<
 #[tactic(auto, unfolding(swc_ecma_parser_reader::specs::Expressions::spread_property))]
 #[inline(never)]
 fn spread_property<
-    P: Source,
+    P: Cursor,
     T: BuildsObject,
     S: Fn(&MakerOf<T>, &mut P, usize, Position) -> PResult<T::Stmt>,
     E: Fn(&MakerOf<T>, &mut P, usize, Reading) -> PResult<Cover<T::Expr>>,
@@ -252,7 +252,7 @@ fn spread_property<
 /// A property.
 #[tactic(auto, unfolding(swc_ecma_parser_reader::specs::Expressions::property))]
 fn property<
-    P: Source,
+    P: Cursor,
     T: BuildsMethod + BuildsPattern,
     S: Fn(&MakerOf<T>, &mut P, usize, Position) -> PResult<T::Stmt>,
     E: Fn(&MakerOf<T>, &mut P, usize, Reading) -> PResult<Cover<T::Expr>>,
@@ -270,7 +270,7 @@ fn property<
 /// Properties, from `{` on.
 #[tactic(auto, unfolding(swc_ecma_parser_reader::specs::Expressions::properties), using(swc_ecma_parser_reader::proofs::expressions::Loops::properties_done, swc_ecma_parser_reader::proofs::expressions::Loops::properties_err, swc_ecma_parser_reader::proofs::expressions::Loops::properties_last, swc_ecma_parser_reader::proofs::expressions::Loops::properties_more, swc_ecma_parser_reader::proofs::expressions::Loops::properties_comma_err, swc_ecma_parser_reader::proofs::expressions::Loops::property_shorter, swc_ecma_parser_reader::proofs::expressions::Loops::properties_shorter))]
 fn properties<
-    P: Source,
+    P: Cursor,
     T: BuildsMethod + BuildsPattern,
     S: Fn(&MakerOf<T>, &mut P, usize, Position) -> PResult<T::Stmt>,
     E: Fn(&MakerOf<T>, &mut P, usize, Reading) -> PResult<Cover<T::Expr>>,
@@ -304,7 +304,7 @@ fn properties<
 #[tactic(auto, unfolding(swc_ecma_parser_reader::specs::Expressions::object))]
 #[inline(never)]
 pub fn object<
-    P: Source,
+    P: Cursor,
     T: BuildsMethod + BuildsPattern,
     S: Fn(&MakerOf<T>, &mut P, usize, Position) -> PResult<T::Stmt>,
     E: Fn(&MakerOf<T>, &mut P, usize, Reading) -> PResult<Cover<T::Expr>>,
@@ -324,7 +324,7 @@ pub fn object<
 /// An object alone, whatever goes on behind it.
 #[tactic(auto, unfolding(swc_ecma_parser_reader::specs::Expressions::object_level))]
 pub fn object_level<
-    P: Source,
+    P: Cursor,
     T: BuildsMethod + BuildsPattern,
     S: Fn(&MakerOf<T>, &mut P, usize, Position) -> PResult<T::Stmt>,
     E: Fn(&MakerOf<T>, &mut P, usize, Reading) -> PResult<Cover<T::Expr>>,

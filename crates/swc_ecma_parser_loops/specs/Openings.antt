@@ -4,7 +4,7 @@ use Rattle.swc_ecma_parser_model.specs.Tree as tree
 use Rattle.swc_ecma_parser_model.specs.Tree.{Tree, listed}
 use Rattle.swc_ecma_parser_grammar.specs.Own.{head_faults}
 use Rattle.swc_ecma_parser_reader.specs.Reader as rules
-use Rattle.swc_ecma_parser_inner.specs.Covers.{cover_of}
+use Rattle.swc_ecma_parser_shared.specs.Covers.{cover_of}
 use Rattle.swc_ecma_parser_loops.specs.declared.head.Declared.{Declared}
 use Rattle.swc_ecma_parser_loops.specs.declared.head.Resources.{Resources}
 use Rattle.swc_ecma_parser_loops.specs.declared.head.Opening.{Opening}

@@ -3,7 +3,7 @@
 ghost use Rattle.std.specs.Prelude.{◌≡◌, Some};
 ghost use Rattle.swc_ecma_parser_grammar.specs.language.Goals.{expression};
 ghost use Rattle.swc_ecma_parser_grammar.specs.language.Items.{sub_statement};
-ghost use Rattle.swc_ecma_parser_inner.specs.Nests.{Nests};
+ghost use Rattle.swc_ecma_parser_shared.specs.Nests.{Nests};
 ghost use Rattle.swc_ecma_parser_loops.specs.Made as made;
 ghost use Rattle.swc_ecma_parser_loops.specs.Openings.{opening_of, left_of, IsBare};
 ghost use Rattle.swc_ecma_parser_reader.specs.Reader as rules;
@@ -11,21 +11,21 @@ ghost use Rattle.swc_ecma_parser_reader.specs.State.{Gives, GivesAs};
 ghost use Rattle.swc_ecma_parser_trees.specs.Parts.{part_of};
 
 use crate::head::{Left, Opening, as_init, as_left, head_of, head_opening, misdeclared};
-use crate::simple::looped;
+use crate::while_do::looped;
 use swc_ecma_parser_common::Span;
+use swc_ecma_parser_cursor::Cursor;
 use swc_ecma_parser_error::{PResult, SyntaxError};
 use swc_ecma_parser_grammar::{Class, Position};
-use swc_ecma_parser_inner::cover::{Cover, Reading, inside};
-use swc_ecma_parser_inner::grammar::{Grammar, Part};
-use swc_ecma_parser_inner::steps::{grown, since};
-use swc_ecma_parser_source::Source;
+use swc_ecma_parser_shared::cover::{Cover, Reading, inside};
+use swc_ecma_parser_shared::grammar::{Grammar, Part};
+use swc_ecma_parser_shared::steps::{grown, since};
 use swc_ecma_parser_token::TokenKind;
 use swc_ecma_parser_trees::{BuildsFor, BuildsPattern, MakerOf, Trees};
 
 /// A further part of a head, if what stands behind it does not stand here.
 #[tactic(auto, unfolding(swc_ecma_parser_reader::specs::Reader::head_part, swc_ecma_parser_reader::specs::Expressions::inside))]
 fn head_part<
-    P: Source,
+    P: Cursor,
     T: Trees,
     S: Fn(&MakerOf<T>, &mut P, usize, Position) -> PResult<T::Stmt>,
     E: Fn(&MakerOf<T>, &mut P, usize, Reading) -> PResult<Cover<T::Expr>>,
@@ -43,7 +43,7 @@ fn head_part<
 
 /// The tree of a `for` of three parts.
 #[inline(never)]
-fn made_for<P: Source, T: BuildsFor>(
+fn made_for<P: Cursor, T: BuildsFor>(
     t: &MakerOf<T>,
     p: &mut P,
     start: Span,
@@ -60,7 +60,7 @@ fn made_for<P: Source, T: BuildsFor>(
 
 /// The tree of a `for` with `in`.
 #[inline(never)]
-fn made_for_in<P: Source, T: BuildsPattern + BuildsFor>(
+fn made_for_in<P: Cursor, T: BuildsPattern + BuildsFor>(
     t: &MakerOf<T>,
     p: &mut P,
     start: Span,
@@ -77,7 +77,7 @@ fn made_for_in<P: Source, T: BuildsPattern + BuildsFor>(
 
 /// The tree of a `for` with `of`.
 #[inline(never)]
-fn made_for_of<P: Source, T: BuildsPattern + BuildsFor>(
+fn made_for_of<P: Cursor, T: BuildsPattern + BuildsFor>(
     t: &MakerOf<T>,
     p: &mut P,
     is_await: bool,
@@ -97,7 +97,7 @@ fn made_for_of<P: Source, T: BuildsPattern + BuildsFor>(
 #[tactic(auto, unfolding(swc_ecma_parser_reader::specs::Reader::for_parts))]
 #[inline(never)]
 fn for_parts<
-    P: Source,
+    P: Cursor,
     T: BuildsFor,
     S: Fn(&MakerOf<T>, &mut P, usize, Position) -> PResult<T::Stmt>,
     E: Fn(&MakerOf<T>, &mut P, usize, Reading) -> PResult<Cover<T::Expr>>,
@@ -126,7 +126,7 @@ fn for_parts<
 #[tactic(auto, unfolding(swc_ecma_parser_reader::specs::Reader::for_in, swc_ecma_parser_reader::specs::Expressions::inside))]
 #[inline(never)]
 fn for_in<
-    P: Source,
+    P: Cursor,
     T: BuildsPattern + BuildsFor,
     S: Fn(&MakerOf<T>, &mut P, usize, Position) -> PResult<T::Stmt>,
     E: Fn(&MakerOf<T>, &mut P, usize, Reading) -> PResult<Cover<T::Expr>>,
@@ -156,7 +156,7 @@ fn for_in<
 #[tactic(auto, unfolding(swc_ecma_parser_reader::specs::Reader::for_of, swc_ecma_parser_reader::specs::Expressions::inside))]
 #[inline(never)]
 fn for_of<
-    P: Source,
+    P: Cursor,
     T: BuildsPattern + BuildsFor,
     S: Fn(&MakerOf<T>, &mut P, usize, Position) -> PResult<T::Stmt>,
     E: Fn(&MakerOf<T>, &mut P, usize, Reading) -> PResult<Cover<T::Expr>>,
@@ -184,7 +184,7 @@ fn for_of<
 
 /// The word `await` behind `for`, if it stands there.
 #[tactic(auto, unfolding(swc_ecma_parser_reader::specs::Reader::await_here))]
-fn await_here<P: Source>(p: &mut P) -> PResult<Option<Span>>
+fn await_here<P: Cursor>(p: &mut P) -> PResult<Option<Span>>
     ensures { Gives (rules.await_here (P.seen p.old)) result (P.seen p.new) }
 {
     if !p.sees(TokenKind::Await) {
@@ -198,7 +198,7 @@ fn await_here<P: Source>(p: &mut P) -> PResult<Option<Span>>
 /// A `for` with `in`, behind `for await`, which is refused behind it.
 #[inline(never)]
 fn awaited_in<
-    P: Source,
+    P: Cursor,
     T: BuildsPattern + BuildsFor,
     S: Fn(&MakerOf<T>, &mut P, usize, Position) -> PResult<T::Stmt>,
     E: Fn(&MakerOf<T>, &mut P, usize, Reading) -> PResult<Cover<T::Expr>>,
@@ -222,7 +222,7 @@ fn awaited_in<
 /// A `for` of three parts, behind `for await`, which is refused behind it.
 #[inline(never)]
 fn awaited_parts<
-    P: Source,
+    P: Cursor,
     T: BuildsPattern + BuildsFor,
     S: Fn(&MakerOf<T>, &mut P, usize, Position) -> PResult<T::Stmt>,
     E: Fn(&MakerOf<T>, &mut P, usize, Reading) -> PResult<Cover<T::Expr>>,
@@ -245,7 +245,7 @@ fn awaited_parts<
 /// A `for` statement, from behind its first part.
 #[tactic(auto, unfolding(swc_ecma_parser_reader::specs::Reader::for_behind))]
 fn for_behind<
-    P: Source,
+    P: Cursor,
     T: BuildsPattern + BuildsFor,
     S: Fn(&MakerOf<T>, &mut P, usize, Position) -> PResult<T::Stmt>,
     E: Fn(&MakerOf<T>, &mut P, usize, Reading) -> PResult<Cover<T::Expr>>,
@@ -281,7 +281,7 @@ fn for_behind<
 #[tactic(auto, unfolding(swc_ecma_parser_reader::specs::Reader::for_stmt))]
 #[inline(never)]
 pub fn for_stmt<
-    P: Source,
+    P: Cursor,
     T: BuildsPattern + BuildsFor,
     S: Fn(&MakerOf<T>, &mut P, usize, Position) -> PResult<T::Stmt>,
     E: Fn(&MakerOf<T>, &mut P, usize, Reading) -> PResult<Cover<T::Expr>>,

@@ -7,7 +7,7 @@ ghost use Rattle.swc_ecma_parser_grammar.specs.Follows as follows;
 ghost use Rattle.swc_ecma_parser_grammar.specs.Looks as looks;
 ghost use Rattle.swc_ecma_parser_grammar.specs.Own as own;
 ghost use Rattle.swc_ecma_parser_grammar.specs.scaffold.Using as using;
-ghost use Rattle.swc_ecma_parser_inner.specs.Nests.{Nests};
+ghost use Rattle.swc_ecma_parser_shared.specs.Nests.{Nests};
 ghost use Rattle.swc_ecma_parser_loops.specs.Flags as flags_of;
 ghost use Rattle.swc_ecma_parser_input.specs.Place as place;
 ghost use Rattle.swc_ecma_parser_loops.specs.Openings.{declared_of, opening_of, left_of, IsTarget, IsBare};
@@ -20,14 +20,14 @@ ghost use Rattle.swc_ecma_parser_reader.specs.State.{Gives, GivesAs};
 ghost use Rattle.swc_ecma_parser_trees.specs.Parts.{part_of};
 
 use swc_ecma_parser_common::Span;
+use swc_ecma_parser_cursor::{Cursor, Wanted};
 use swc_ecma_parser_error::{PResult, SyntaxError};
 use swc_ecma_parser_grammar::Position;
-use swc_ecma_parser_inner::cover::{Cover, Reading, close, target};
-use swc_ecma_parser_inner::grammar::{Grammar, Part};
-use swc_ecma_parser_inner::steps::{grown, pushed, since, with_in};
 use swc_ecma_parser_input::Context;
 use swc_ecma_parser_model::VarDeclKind;
-use swc_ecma_parser_source::{Source, Wanted};
+use swc_ecma_parser_shared::cover::{Cover, Reading, close, target};
+use swc_ecma_parser_shared::grammar::{Grammar, Part};
+use swc_ecma_parser_shared::steps::{grown, pushed, since, with_in};
 use swc_ecma_parser_statements::variables::declarators;
 use swc_ecma_parser_token::TokenKind;
 use swc_ecma_parser_trees::{BuildsFor, BuildsPattern, BuildsVariables, MakerOf};
@@ -93,7 +93,7 @@ fn head_flags(word: VarDeclKind, flags: Context) -> Context
 /// What a head declares, without an end.
 #[tactic(auto, unfolding(swc_ecma_parser_reader::specs::Reader::head_variables), using(crate::proofs::Flags::head_code_is, crate::proofs::Flags::head_module))]
 fn head_variables<
-    P: Source,
+    P: Cursor,
     T: BuildsPattern + BuildsVariables,
     S: Fn(&MakerOf<T>, &mut P, usize, Position) -> PResult<T::Stmt>,
     E: Fn(&MakerOf<T>, &mut P, usize, Reading) -> PResult<Cover<T::Expr>>,
@@ -121,7 +121,7 @@ fn head_variables<
 /// An expression that a head begins with.
 #[tactic(auto, unfolding(swc_ecma_parser_reader::specs::Reader::head_expression))]
 fn head_expression<
-    P: Source,
+    P: Cursor,
     T: BuildsVariables,
     S: Fn(&MakerOf<T>, &mut P, usize, Position) -> PResult<T::Stmt>,
     E: Fn(&MakerOf<T>, &mut P, usize, Reading) -> PResult<Cover<T::Expr>>,
@@ -144,7 +144,7 @@ fn head_expression<
 
 /// Records that `using` declares nothing before `in`.
 #[tactic(auto, unfolding(swc_ecma_parser_reader::specs::Reader::undeclared))]
-fn undeclared<P: Source>(p: &mut P, span: Span) -> PResult<()>
+fn undeclared<P: Cursor>(p: &mut P, span: Span) -> PResult<()>
     ensures { Gives (rules.undeclared span (P.seen p.old)) result (P.seen p.new) }
 {
     if p.sees(TokenKind::In) {
@@ -156,7 +156,7 @@ fn undeclared<P: Source>(p: &mut P, span: Span) -> PResult<()>
 /// What `using` declares, behind `await` or not, from the name on.
 #[tactic(auto, unfolding(swc_ecma_parser_reader::specs::Reader::using_head))]
 fn using_head<
-    P: Source,
+    P: Cursor,
     T: BuildsPattern + BuildsVariables,
     S: Fn(&MakerOf<T>, &mut P, usize, Position) -> PResult<T::Stmt>,
     E: Fn(&MakerOf<T>, &mut P, usize, Reading) -> PResult<Cover<T::Expr>>,
@@ -190,7 +190,7 @@ fn using_head<
 /// A name before another: `using` declares where `in` or `of` stands behind that.
 #[tactic(auto, unfolding(swc_ecma_parser_reader::specs::Reader::named_head, swc_ecma_parser_grammar::specs::scaffold::Using::stands_in_head), using(swc_ecma_parser_reader::proofs::HeadWords::pattern_declares))]
 fn named_head<
-    P: Source,
+    P: Cursor,
     T: BuildsPattern + BuildsVariables,
     S: Fn(&MakerOf<T>, &mut P, usize, Position) -> PResult<T::Stmt>,
     E: Fn(&MakerOf<T>, &mut P, usize, Reading) -> PResult<Cover<T::Expr>>,
@@ -222,7 +222,7 @@ fn awaits_using<T: BuildsVariables>(expr: &T::Expr) -> bool
 
 /// Whether a name stands here that `await using` before it declares: not `of`, with `in` or `of` behind it.
 #[tactic(auto, unfolding(swc_ecma_parser_grammar::specs::scaffold::Using::declares_behind, swc_ecma_parser_grammar::specs::scaffold::Using::stands_in_head))]
-fn declares_behind<P: Source>(p: &P) -> bool
+fn declares_behind<P: Cursor>(p: &P) -> bool
     ensures { result ≡ using.declares_behind (P.seen p.now).code (P.seen p.now).at }
 {
     p.explicit_resource_management()
@@ -233,7 +233,7 @@ fn declares_behind<P: Source>(p: &P) -> bool
 
 /// Whether `await` stands here before something on its line, which may be `using`.
 #[tactic(auto, unfolding(swc_ecma_parser_reader::specs::Reader::begins_await_head))]
-fn begins_await<P: Source>(p: &P) -> bool
+fn begins_await<P: Cursor>(p: &P) -> bool
     ensures { result ≡ rules.begins_await_head (P.seen p.now).at }
 {
     p.sees(TokenKind::Await) && !p.next_had_line_break()
@@ -242,7 +242,7 @@ fn begins_await<P: Source>(p: &P) -> bool
 /// What `await` begins: an expression, or, where it is `await using` and a name stands behind it, what that declares.
 #[tactic(auto, unfolding(swc_ecma_parser_reader::specs::Reader::await_head, swc_ecma_parser_reader::specs::Reader::await_or_expression))]
 fn await_head<
-    P: Source,
+    P: Cursor,
     T: BuildsPattern + BuildsVariables,
     S: Fn(&MakerOf<T>, &mut P, usize, Position) -> PResult<T::Stmt>,
     E: Fn(&MakerOf<T>, &mut P, usize, Reading) -> PResult<Cover<T::Expr>>,
@@ -270,7 +270,7 @@ fn await_head<
 /// Behind `async`, which was read as a name: it is one, unless `=>` stands behind `of`.
 #[tactic(auto, unfolding(swc_ecma_parser_reader::specs::HeadWords::behind_async))]
 fn behind_async<
-    P: Source,
+    P: Cursor,
     T: BuildsPattern + BuildsVariables,
     S: Fn(&MakerOf<T>, &mut P, usize, Position) -> PResult<T::Stmt>,
     E: Fn(&MakerOf<T>, &mut P, usize, Reading) -> PResult<Cover<T::Expr>>,
@@ -297,7 +297,7 @@ fn behind_async<
 /// `async` before `of` on its line: the name alone, or an arrow function whose parameter is `of`.
 #[tactic(auto, using(swc_ecma_parser_reader::proofs::HeadWords::async_refused, swc_ecma_parser_reader::proofs::HeadWords::async_reads, swc_ecma_parser_reader::proofs::HeadWords::async_refused_behind, swc_ecma_parser_reader::proofs::HeadWords::pattern_declares))]
 fn async_head<
-    P: Source,
+    P: Cursor,
     T: BuildsPattern + BuildsVariables,
     S: Fn(&MakerOf<T>, &mut P, usize, Position) -> PResult<T::Stmt>,
     E: Fn(&MakerOf<T>, &mut P, usize, Reading) -> PResult<Cover<T::Expr>>,
@@ -326,7 +326,7 @@ fn async_head<
 /// An expression that may still become a target, or `async` alone.
 #[tactic(auto, using(swc_ecma_parser_reader::proofs::HeadWords::other_target, swc_ecma_parser_reader::proofs::HeadWords::async_target))]
 fn head_target<
-    P: Source,
+    P: Cursor,
     T: BuildsPattern + BuildsVariables,
     S: Fn(&MakerOf<T>, &mut P, usize, Position) -> PResult<T::Stmt>,
     E: Fn(&MakerOf<T>, &mut P, usize, Reading) -> PResult<Cover<T::Expr>>,
@@ -351,7 +351,7 @@ fn head_target<
 #[tactic(auto, unfolding(swc_ecma_parser_reader::specs::Reader::opening))]
 #[inline(never)]
 pub(crate) fn head_opening<
-    P: Source,
+    P: Cursor,
     T: BuildsPattern + BuildsVariables,
     S: Fn(&MakerOf<T>, &mut P, usize, Position) -> PResult<T::Stmt>,
     E: Fn(&MakerOf<T>, &mut P, usize, Reading) -> PResult<Cover<T::Expr>>,
@@ -389,7 +389,7 @@ pub(crate) fn head_opening<
 
 /// It as the first part of three.
 #[tactic(auto, unfolding(swc_ecma_parser_reader::specs::Reader::unfollowed))]
-pub(crate) fn as_init<P: Source, T: BuildsFor>(
+pub(crate) fn as_init<P: Cursor, T: BuildsFor>(
     t: &MakerOf<T>,
     p: &mut P,
     first: Opening<T::Declarator, T::Expr, T::Pat>,
@@ -410,7 +410,7 @@ pub(crate) fn as_init<P: Source, T: BuildsFor>(
 
 /// It as what takes each value.
 #[tactic(auto, using(crate::proofs::Targets::read_target))]
-pub(crate) fn as_left<P: Source, T: BuildsPattern + BuildsVariables>(
+pub(crate) fn as_left<P: Cursor, T: BuildsPattern + BuildsVariables>(
     t: &MakerOf<T>,
     p: &mut P,
     first: Opening<T::Declarator, T::Expr, T::Pat>,
@@ -429,7 +429,7 @@ pub(crate) fn as_left<P: Source, T: BuildsPattern + BuildsVariables>(
 }
 
 /// Records that variables behind the first stand in a head.
-fn surplus<P: Source, T: BuildsVariables>(p: &mut P, others: &[T::Declarator]) -> PResult<()>
+fn surplus<P: Cursor, T: BuildsVariables>(p: &mut P, others: &[T::Declarator]) -> PResult<()>
     ensures { Gives (rules.told (own.surplus (trees (map T.declarator_of others.now))) (P.seen p.old)) result (P.seen p.new) }
 {
     'others: for other in others {
@@ -439,7 +439,7 @@ fn surplus<P: Source, T: BuildsVariables>(p: &mut P, others: &[T::Declarator]) -
 }
 
 /// Records that the only variable of a head has an initializer, where that is refused.
-fn initialized<P: Source, T: BuildsVariables>(
+fn initialized<P: Cursor, T: BuildsVariables>(
     p: &mut P,
     refused: bool,
     only: &T::Declarator,
@@ -458,7 +458,7 @@ fn initialized<P: Source, T: BuildsVariables>(
 
 /// Records what may not be declared before `in` or `of`.
 #[tactic(auto, using(crate::proofs::Misdeclared::nothing_declared, crate::proofs::Misdeclared::one_declared, crate::proofs::Misdeclared::many_declared))]
-fn misdeclared_variables<P: Source, T: BuildsVariables>(
+fn misdeclared_variables<P: Cursor, T: BuildsVariables>(
     p: &mut P,
     refused: bool,
     declared: &Declared<T::Declarator>,
@@ -477,7 +477,7 @@ fn misdeclared_variables<P: Source, T: BuildsVariables>(
 
 /// The same of what takes each value, which is declared or not.
 #[tactic(auto, unfolding(swc_ecma_parser_reader::specs::Reader::misdeclared))]
-pub(crate) fn misdeclared<P: Source, T: BuildsVariables>(
+pub(crate) fn misdeclared<P: Cursor, T: BuildsVariables>(
     p: &mut P,
     refused: bool,
     left: &Left<T::Declarator, T::Pat>,
@@ -492,7 +492,7 @@ pub(crate) fn misdeclared<P: Source, T: BuildsVariables>(
 }
 
 /// It as a part of the tree.
-pub(crate) fn head_of<P: Source, T: BuildsFor>(
+pub(crate) fn head_of<P: Cursor, T: BuildsFor>(
     t: &MakerOf<T>,
     p: &mut P,
     left: Left<T::Declarator, T::Pat>,

@@ -4,4 +4,4 @@
 
 pub mod for_loop;
 pub mod head;
-pub mod simple;
+pub mod while_do;

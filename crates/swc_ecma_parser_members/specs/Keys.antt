@@ -5,7 +5,7 @@ use Rattle.swc_ecma_parser_error.specs.Kind as faults
 use Rattle.swc_ecma_parser_model.specs.Tree.{Tree}
 use Rattle.swc_ecma_parser_reader.specs.Methods.{MethodForm, getter_form, setter_form, method_form}
 use Rattle.swc_ecma_parser_reader.specs.State.{Reader, ◌>>=◌, since, fault, fault_at, reject}
-use Rattle.swc_ecma_parser_inner.specs.Keys.{key_of, private_of}
+use Rattle.swc_ecma_parser_shared.specs.Keys.{key_of, private_of}
 use Rattle.swc_ecma_parser_members.specs.declared.keys.MemberKey.{MemberKey}
 use Rattle.swc_ecma_parser_members.specs.declared.keys.MemberKey.TheVariants as key
 

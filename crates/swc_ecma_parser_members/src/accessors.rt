@@ -5,7 +5,7 @@ ghost use Rattle.swc_ecma_parser_members.specs.Keys.{member_key_of};
 ghost use Rattle.swc_ecma_parser_members.specs.Leading.{leading_of};
 ghost use Rattle.swc_ecma_parser_error.specs.Kind as kinds;
 ghost use Rattle.swc_ecma_parser_grammar.specs.language.Items.{nested_item};
-ghost use Rattle.swc_ecma_parser_inner.specs.Nests.{Nests};
+ghost use Rattle.swc_ecma_parser_shared.specs.Nests.{Nests};
 ghost use Rattle.swc_ecma_parser_reader.specs.Members as members;
 ghost use Rattle.swc_ecma_parser_reader.specs.Reader as rules;
 ghost use Rattle.swc_ecma_parser_reader.specs.State.{Gives, GivesAs, fault, fault_at};
@@ -17,16 +17,16 @@ use crate::member::{before_constructor, keyed_member};
 use crate::methods::{Begin, plain_method, second_static, static_block};
 use swc_ecma_parser_classes::words::{begins_block, begins_words};
 use swc_ecma_parser_common::Span;
+use swc_ecma_parser_cursor::Cursor;
 use swc_ecma_parser_error::{PResult, SyntaxError};
 use swc_ecma_parser_grammar::Position;
-use swc_ecma_parser_inner::cover::{Cover, Reading};
-use swc_ecma_parser_inner::grammar::{Grammar, Part};
-use swc_ecma_parser_source::Source;
+use swc_ecma_parser_shared::cover::{Cover, Reading};
+use swc_ecma_parser_shared::grammar::{Grammar, Part};
 use swc_ecma_parser_token::TokenKind;
 use swc_ecma_parser_trees::{BuildsClass, BuildsPattern, MakerOf};
 
 /// Records `accessor` before what is no field.
-fn accessor_fault<P: Source>(p: &mut P, accessor: Span) -> PResult<()>
+fn accessor_fault<P: Cursor>(p: &mut P, accessor: Span) -> PResult<()>
     ensures { Gives (fault (fault_at accessor kinds.TS1184) (P.seen p.old)) result (P.seen p.new) }
 {
     p.fault(SyntaxError::TS1184, accessor)
@@ -35,7 +35,7 @@ fn accessor_fault<P: Source>(p: &mut P, accessor: Span) -> PResult<()>
 /// `static` and a block, which is a fault of the `static` before `accessor` too, if one stands there.
 #[tactic(auto, unfolding(swc_ecma_parser_reader::specs::Members::static_behind))]
 fn static_behind<
-    P: Source,
+    P: Cursor,
     T: BuildsClass + BuildsPattern,
     S: Fn(&MakerOf<T>, &mut P, usize, Position) -> PResult<T::Stmt>,
     E: Fn(&MakerOf<T>, &mut P, usize, Reading) -> PResult<Cover<T::Expr>>,
@@ -54,7 +54,7 @@ fn static_behind<
 /// A static block, with a `static` of its own or without it.
 #[tactic(auto, unfolding(swc_ecma_parser_reader::specs::Members::block_behind))]
 fn block_behind<
-    P: Source,
+    P: Cursor,
     T: BuildsClass + BuildsPattern,
     S: Fn(&MakerOf<T>, &mut P, usize, Position) -> PResult<T::Stmt>,
     E: Fn(&MakerOf<T>, &mut P, usize, Reading) -> PResult<Cover<T::Expr>>,
@@ -72,7 +72,7 @@ fn block_behind<
 /// What stands behind a key without words: a method is a fault of `accessor`.
 #[tactic(auto, unfolding(swc_ecma_parser_reader::specs::Members::behind_accessed_key))]
 fn behind_accessed_key<
-    P: Source,
+    P: Cursor,
     T: BuildsClass + BuildsPattern,
     S: Fn(&MakerOf<T>, &mut P, usize, Position) -> PResult<T::Stmt>,
     E: Fn(&MakerOf<T>, &mut P, usize, Reading) -> PResult<Cover<T::Expr>>,
@@ -106,7 +106,7 @@ fn behind_accessed_key<
 /// What begins with a key, and may be a field.
 #[tactic(auto, unfolding(swc_ecma_parser_reader::specs::Members::accessed_key))]
 fn accessed_key<
-    P: Source,
+    P: Cursor,
     T: BuildsClass + BuildsPattern,
     S: Fn(&MakerOf<T>, &mut P, usize, Position) -> PResult<T::Stmt>,
     E: Fn(&MakerOf<T>, &mut P, usize, Reading) -> PResult<Cover<T::Expr>>,
@@ -130,7 +130,7 @@ fn accessed_key<
 /// What stands behind `accessor`.
 #[tactic(auto, unfolding(swc_ecma_parser_reader::specs::Members::accessed))]
 fn accessed<
-    P: Source,
+    P: Cursor,
     T: BuildsClass + BuildsPattern,
     S: Fn(&MakerOf<T>, &mut P, usize, Position) -> PResult<T::Stmt>,
     E: Fn(&MakerOf<T>, &mut P, usize, Reading) -> PResult<Cover<T::Expr>>,
@@ -162,7 +162,7 @@ fn accessed<
 #[tactic(auto, unfolding(swc_ecma_parser_reader::specs::Members::accessor_member))]
 #[inline(never)]
 pub(crate) fn accessor_member<
-    P: Source,
+    P: Cursor,
     T: BuildsClass + BuildsPattern,
     S: Fn(&MakerOf<T>, &mut P, usize, Position) -> PResult<T::Stmt>,
     E: Fn(&MakerOf<T>, &mut P, usize, Reading) -> PResult<Cover<T::Expr>>,

@@ -10,9 +10,9 @@ ghost use Rattle.swc_ecma_parser_model.specs.Tree as tree;
 ghost use Rattle.swc_ecma_parser_reader.specs.Reader as rules;
 ghost use Rattle.swc_ecma_parser_reader.specs.State.{Gives};
 
+use swc_ecma_parser_cursor::Cursor;
 use swc_ecma_parser_error::PResult;
 use swc_ecma_parser_functions::function::{FunctionBody, are_plain, as_params, misdirected};
-use swc_ecma_parser_source::Source;
 use swc_ecma_parser_trees::{BuildsBlock, BuildsFunction, BuildsPattern, MakerOf};
 
 /// Parameters, and whether each of them is a plain name.
@@ -23,7 +23,7 @@ pub(crate) struct Parameters<A> {
 }
 
 /// Patterns as parameters, and whether each of them is a plain name.
-pub(crate) fn made_parameters<P: Source, T: BuildsFunction + BuildsPattern>(
+pub(crate) fn made_parameters<P: Cursor, T: BuildsFunction + BuildsPattern>(
     t: &MakerOf<T>,
     p: &mut P,
     pats: Vec<T::Pat>,
@@ -39,7 +39,7 @@ pub(crate) fn made_parameters<P: Source, T: BuildsFunction + BuildsPattern>(
 }
 
 /// Records a directive that says a body is strict, where a parameter is no plain name.
-pub(crate) fn misdirected_body<P: Source, T: BuildsBlock>(
+pub(crate) fn misdirected_body<P: Cursor, T: BuildsBlock>(
     p: &mut P,
     are_plain: bool,
     body: &FunctionBody<T::Block>,

@@ -1,7 +1,7 @@
 //! Decorators, one behind another, also before it is known whose they are: the proposal of decorators.
 
 ghost use Rattle.std.specs.Prelude.{◌≡◌, [], map};
-ghost use Rattle.swc_ecma_parser_inner.specs.Nests.{Nests};
+ghost use Rattle.swc_ecma_parser_shared.specs.Nests.{Nests};
 ghost use Rattle.swc_ecma_parser_members.specs.Leading.{leading_of};
 ghost use Rattle.swc_ecma_parser_reader.specs.DecoratorLevels as levels;
 ghost use Rattle.swc_ecma_parser_reader.specs.Decorators as decorators;
@@ -9,19 +9,19 @@ ghost use Rattle.swc_ecma_parser_reader.specs.State.{Gives, GivesAs, loop};
 
 use std::alloc::Global;
 use swc_ecma_parser_common::Span;
+use swc_ecma_parser_cursor::Cursor;
 use swc_ecma_parser_error::{PResult, SyntaxError};
 use swc_ecma_parser_grammar::Position;
-use swc_ecma_parser_inner::cover::{Cover, Reading};
-use swc_ecma_parser_inner::found::{found_module_item, set_found_module_item};
-use swc_ecma_parser_inner::grammar::{Grammar, Part};
-use swc_ecma_parser_inner::steps::{grown, pushed, since};
-use swc_ecma_parser_source::Source;
+use swc_ecma_parser_shared::cover::{Cover, Reading};
+use swc_ecma_parser_shared::found::{found_module_item, set_found_module_item};
+use swc_ecma_parser_shared::grammar::{Grammar, Part};
+use swc_ecma_parser_shared::steps::{grown, pushed, since};
 use swc_ecma_parser_token::TokenKind;
 use swc_ecma_parser_trees::{BuildsFunction, MakerOf, Trees};
 
 /// What stands behind `@`, which the reader of expressions reads one level further in.
 fn decorated<
-    P: Source,
+    P: Cursor,
     T: Trees,
     S: Fn(&MakerOf<T>, &mut P, usize, Position) -> PResult<T::Stmt>,
     E: Fn(&MakerOf<T>, &mut P, usize, Reading) -> PResult<Cover<T::Expr>>,
@@ -37,7 +37,7 @@ fn decorated<
 /// One decorator, from `@` on.
 #[tactic(auto, unfolding(swc_ecma_parser_reader::specs::Decorators::decorator))]
 fn decorator<
-    P: Source,
+    P: Cursor,
     T: BuildsFunction,
     S: Fn(&MakerOf<T>, &mut P, usize, Position) -> PResult<T::Stmt>,
     E: Fn(&MakerOf<T>, &mut P, usize, Reading) -> PResult<Cover<T::Expr>>,
@@ -57,7 +57,7 @@ fn decorator<
 #[tactic(auto, using(swc_ecma_parser_reader::proofs::decorators::Loops::decorators_done))]
 #[inline(never)]
 fn all_decorators<
-    P: Source,
+    P: Cursor,
     T: BuildsFunction,
     S: Fn(&MakerOf<T>, &mut P, usize, Position) -> PResult<T::Stmt>,
     E: Fn(&MakerOf<T>, &mut P, usize, Reading) -> PResult<Cover<T::Expr>>,
@@ -77,7 +77,7 @@ fn all_decorators<
 /// The decorators that stand here, if any do and the setting has them.
 #[tactic(auto, unfolding(swc_ecma_parser_reader::specs::Decorators::decorators))]
 pub fn decorators<
-    P: Source,
+    P: Cursor,
     T: BuildsFunction,
     S: Fn(&MakerOf<T>, &mut P, usize, Position) -> PResult<T::Stmt>,
     E: Fn(&MakerOf<T>, &mut P, usize, Reading) -> PResult<Cover<T::Expr>>,
@@ -106,7 +106,7 @@ pub struct Leading<D> {
 #[tactic(auto, unfolding(swc_ecma_parser_reader::specs::Decorators::leading))]
 #[inline(never)]
 pub fn leading_decorators<
-    P: Source,
+    P: Cursor,
     T: BuildsFunction,
     S: Fn(&MakerOf<T>, &mut P, usize, Position) -> PResult<T::Stmt>,
     E: Fn(&MakerOf<T>, &mut P, usize, Reading) -> PResult<Cover<T::Expr>>,
@@ -129,7 +129,7 @@ pub fn leading_decorators<
 /// Records decorators that nothing takes; what in them makes a program a module is dropped with them.
 #[tactic(auto, unfolding(swc_ecma_parser_reader::specs::Decorators::misplaced))]
 #[inline(never)]
-pub fn misplaced<P: Source, T: BuildsFunction>(
+pub fn misplaced<P: Cursor, T: BuildsFunction>(
     alloc: Global,
     p: &mut P,
     leading: &Leading<T::Decorator>,

@@ -3,7 +3,7 @@
 ghost use Rattle.std.specs.Prelude.{◌≡◌, true, false, map, IfOk};
 ghost use Rattle.swc_ecma_parser_members.specs.Keys.{member_key_of};
 ghost use Rattle.swc_ecma_parser_grammar.specs.language.Classes.{field_member};
-ghost use Rattle.swc_ecma_parser_inner.specs.Nests.{Nests};
+ghost use Rattle.swc_ecma_parser_shared.specs.Nests.{Nests};
 ghost use Rattle.swc_ecma_parser_model.specs.Tree.{listed};
 ghost use Rattle.swc_ecma_parser_reader.specs.Members as members;
 ghost use Rattle.swc_ecma_parser_reader.specs.Reader as rules;
@@ -13,20 +13,20 @@ ghost use Rattle.swc_ecma_parser_trees.specs.Parts.{part_of};
 use crate::keys::{MemberKey, is_constructor_key, key_span};
 use std::alloc::{AllocError, Global};
 use swc_ecma_parser_common::Span;
+use swc_ecma_parser_cursor::{Cursor, Wanted};
 use swc_ecma_parser_error::{PResult, SyntaxError};
 use swc_ecma_parser_grammar::{Class, Position};
-use swc_ecma_parser_inner::cover::{Cover, Reading, inside};
-use swc_ecma_parser_inner::ends::{can_end, ends_at};
-use swc_ecma_parser_inner::grammar::{Grammar, Part};
-use swc_ecma_parser_inner::keys::made_key;
-use swc_ecma_parser_inner::steps::{grown, since};
-use swc_ecma_parser_source::{Source, Wanted};
+use swc_ecma_parser_shared::cover::{Cover, Reading, inside};
+use swc_ecma_parser_shared::ends::{can_end, ends_at};
+use swc_ecma_parser_shared::grammar::{Grammar, Part};
+use swc_ecma_parser_shared::keys::made_key;
+use swc_ecma_parser_shared::steps::{grown, since};
 use swc_ecma_parser_token::TokenKind;
 use swc_ecma_parser_trees::{BuildsClass, MakerOf, Trees};
 
 /// The end of a field, which is recorded where it is missing.
 #[tactic(auto, unfolding(swc_ecma_parser_reader::specs::Members::field_end))]
-fn field_end<P: Source>(p: &mut P) -> PResult<()>
+fn field_end<P: Cursor>(p: &mut P) -> PResult<()>
     ensures { Gives (members.field_end (P.seen p.old)) result (P.seen p.new) }
 {
     if p.sees(TokenKind::Semi) {
@@ -41,7 +41,7 @@ fn field_end<P: Source>(p: &mut P) -> PResult<()>
 
 /// A field is not named `constructor`.
 #[tactic(auto, unfolding(swc_ecma_parser_reader::specs::Members::field_named))]
-fn field_named<P: Source, T: Trees>(p: &mut P, key: &MemberKey<T::Expr>) -> PResult<()>
+fn field_named<P: Cursor, T: Trees>(p: &mut P, key: &MemberKey<T::Expr>) -> PResult<()>
     ensures { Gives (members.field_named (member_key_of T.expr_of key.now) (P.seen p.old)) result (P.seen p.new) }
 {
     if is_constructor_key::<T>(key) {
@@ -53,7 +53,7 @@ fn field_named<P: Source, T: Trees>(p: &mut P, key: &MemberKey<T::Expr>) -> PRes
 /// `=` and what stands behind it, if it stands here.
 #[tactic(auto, unfolding(swc_ecma_parser_reader::specs::Members::field_value))]
 fn field_value<
-    P: Source,
+    P: Cursor,
     T: BuildsClass,
     S: Fn(&MakerOf<T>, &mut P, usize, Position) -> PResult<T::Stmt>,
     E: Fn(&MakerOf<T>, &mut P, usize, Reading) -> PResult<Cover<T::Expr>>,
@@ -143,7 +143,7 @@ fn made_field<T: BuildsClass>(
 /// A field that goes on as one.
 #[tactic(auto, unfolding(swc_ecma_parser_reader::specs::Members::field_from))]
 fn field_from<
-    P: Source,
+    P: Cursor,
     T: BuildsClass,
     S: Fn(&MakerOf<T>, &mut P, usize, Position) -> PResult<T::Stmt>,
     E: Fn(&MakerOf<T>, &mut P, usize, Reading) -> PResult<Cover<T::Expr>>,
@@ -171,7 +171,7 @@ fn field_from<
 #[tactic(auto, unfolding(swc_ecma_parser_reader::specs::Members::field))]
 #[inline(never)]
 pub(crate) fn field<
-    P: Source,
+    P: Cursor,
     T: BuildsClass,
     S: Fn(&MakerOf<T>, &mut P, usize, Position) -> PResult<T::Stmt>,
     E: Fn(&MakerOf<T>, &mut P, usize, Reading) -> PResult<Cover<T::Expr>>,

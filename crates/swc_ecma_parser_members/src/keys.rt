@@ -2,8 +2,8 @@
 
 ghost use Rattle.std.specs.Prelude.{◌≡◌};
 ghost use Rattle.swc_ecma_parser_members.specs.Keys.{member_key_of};
-ghost use Rattle.swc_ecma_parser_inner.specs.Keys.{key_of, private_of};
-ghost use Rattle.swc_ecma_parser_inner.specs.Nests.{Nests};
+ghost use Rattle.swc_ecma_parser_shared.specs.Keys.{key_of, private_of};
+ghost use Rattle.swc_ecma_parser_shared.specs.Nests.{Nests};
 ghost use Rattle.swc_ecma_parser_model.specs.Forms as forms;
 ghost use Rattle.swc_ecma_parser_reader.specs.Jumps.{told};
 ghost use Rattle.swc_ecma_parser_reader.specs.Members as members;
@@ -11,14 +11,14 @@ ghost use Rattle.swc_ecma_parser_reader.specs.Reader as rules;
 ghost use Rattle.swc_ecma_parser_reader.specs.State.{Gives, GivesAs};
 
 use swc_ecma_parser_common::Span;
+use swc_ecma_parser_cursor::Cursor;
 use swc_ecma_parser_error::{PResult, SyntaxError};
 use swc_ecma_parser_grammar::Position;
-use swc_ecma_parser_inner::cover::{Cover, Reading};
-use swc_ecma_parser_inner::grammar::{Grammar, Part};
-use swc_ecma_parser_inner::keys::{Key, private_name, property_key};
-use swc_ecma_parser_inner::steps::told_if;
 use swc_ecma_parser_model::PrivateName;
-use swc_ecma_parser_source::Source;
+use swc_ecma_parser_shared::cover::{Cover, Reading};
+use swc_ecma_parser_shared::grammar::{Grammar, Part};
+use swc_ecma_parser_shared::keys::{Key, private_name, property_key};
+use swc_ecma_parser_shared::steps::told_if;
 use swc_ecma_parser_token::TokenKind;
 use swc_ecma_parser_trees::{MakerOf, Trees};
 
@@ -67,7 +67,7 @@ pub(crate) fn key_span<T: Trees>(key: &MemberKey<T::Expr>) -> Span
 }
 
 /// Records a private name `constructor`.
-fn private_faults<P: Source>(p: &mut P, name: &PrivateName) -> PResult<()>
+fn private_faults<P: Cursor>(p: &mut P, name: &PrivateName) -> PResult<()>
     ensures { Gives (told (members.private_faults (private_of name.now)) (P.seen p.old)) result (P.seen p.new) }
 {
     let is_constructor = name.id.sym.as_str() == "constructor";
@@ -82,7 +82,7 @@ fn private_faults<P: Source>(p: &mut P, name: &PrivateName) -> PResult<()>
 /// A private name as a key.
 #[tactic(auto, unfolding(swc_ecma_parser_reader::specs::Members::private_key))]
 fn private_key<
-    P: Source,
+    P: Cursor,
     T: Trees,
     S: Fn(&MakerOf<T>, &mut P, usize, Position) -> PResult<T::Stmt>,
     E: Fn(&MakerOf<T>, &mut P, usize, Reading) -> PResult<Cover<T::Expr>>,
@@ -100,7 +100,7 @@ fn private_key<
 #[tactic(auto, unfolding(swc_ecma_parser_reader::specs::Members::member_key))]
 #[inline(never)]
 pub(crate) fn member_key<
-    P: Source,
+    P: Cursor,
     T: Trees,
     S: Fn(&MakerOf<T>, &mut P, usize, Position) -> PResult<T::Stmt>,
     E: Fn(&MakerOf<T>, &mut P, usize, Reading) -> PResult<Cover<T::Expr>>,

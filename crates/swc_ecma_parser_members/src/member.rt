@@ -4,7 +4,7 @@ ghost use Rattle.swc_ecma_parser_members.specs.Keys.{member_key_of};
 ghost use Rattle.swc_ecma_parser_members.specs.Leading.{leading_of};
 ghost use Rattle.swc_ecma_parser_functions.specs.Methods.{form_of};
 ghost use Rattle.swc_ecma_parser_grammar.specs.language.Items.{nested_item};
-ghost use Rattle.swc_ecma_parser_inner.specs.Nests.{Nests};
+ghost use Rattle.swc_ecma_parser_shared.specs.Nests.{Nests};
 ghost use Rattle.swc_ecma_parser_reader.specs.DecoratorLevels as levels;
 ghost use Rattle.swc_ecma_parser_reader.specs.Members as members;
 ghost use Rattle.swc_ecma_parser_reader.specs.Reader as rules;
@@ -19,18 +19,18 @@ use std::alloc::Global;
 use swc_ecma_parser_classes::words::{
     begins_static_block, is_accessor_word, member_words, static_word,
 };
+use swc_ecma_parser_cursor::Cursor;
 use swc_ecma_parser_error::PResult;
 use swc_ecma_parser_grammar::Position;
-use swc_ecma_parser_inner::cover::{Cover, Reading};
-use swc_ecma_parser_inner::grammar::{Grammar, Part};
-use swc_ecma_parser_inner::steps::{grown, since};
-use swc_ecma_parser_source::Source;
+use swc_ecma_parser_shared::cover::{Cover, Reading};
+use swc_ecma_parser_shared::grammar::{Grammar, Part};
+use swc_ecma_parser_shared::steps::{grown, since};
 use swc_ecma_parser_token::TokenKind;
 use swc_ecma_parser_trees::{BuildsClass, BuildsFunction, BuildsPattern, MakerOf};
 
 /// A constructor has no decorators.
 #[tactic(auto, unfolding(swc_ecma_parser_reader::specs::Members::before_constructor))]
-pub(crate) fn before_constructor<P: Source, T: BuildsFunction>(
+pub(crate) fn before_constructor<P: Cursor, T: BuildsFunction>(
     alloc: Global,
     p: &mut P,
     leading: &Leading<T::Decorator>,
@@ -48,7 +48,7 @@ pub(crate) fn before_constructor<P: Source, T: BuildsFunction>(
 #[tactic(auto, unfolding(swc_ecma_parser_reader::specs::Members::behind_key))]
 #[inline(never)]
 fn behind_key<
-    P: Source,
+    P: Cursor,
     T: BuildsClass + BuildsPattern,
     S: Fn(&MakerOf<T>, &mut P, usize, Position) -> PResult<T::Stmt>,
     E: Fn(&MakerOf<T>, &mut P, usize, Reading) -> PResult<Cover<T::Expr>>,
@@ -88,7 +88,7 @@ fn behind_key<
 #[tactic(auto, unfolding(swc_ecma_parser_reader::specs::Members::keyed_member))]
 #[inline(never)]
 pub(crate) fn keyed_member<
-    P: Source,
+    P: Cursor,
     T: BuildsClass + BuildsPattern,
     S: Fn(&MakerOf<T>, &mut P, usize, Position) -> PResult<T::Stmt>,
     E: Fn(&MakerOf<T>, &mut P, usize, Reading) -> PResult<Cover<T::Expr>>,
@@ -119,7 +119,7 @@ pub(crate) fn keyed_member<
 /// A member, from behind `static` if it stands there.
 #[tactic(auto, unfolding(swc_ecma_parser_reader::specs::Members::behind_static))]
 fn behind_static<
-    P: Source,
+    P: Cursor,
     T: BuildsClass + BuildsPattern,
     S: Fn(&MakerOf<T>, &mut P, usize, Position) -> PResult<T::Stmt>,
     E: Fn(&MakerOf<T>, &mut P, usize, Reading) -> PResult<Cover<T::Expr>>,
@@ -151,7 +151,7 @@ fn behind_static<
 /// A member that is more than a `;`.
 #[tactic(auto, unfolding(swc_ecma_parser_reader::specs::Members::full_member))]
 fn full_member<
-    P: Source,
+    P: Cursor,
     T: BuildsClass + BuildsPattern,
     S: Fn(&MakerOf<T>, &mut P, usize, Position) -> PResult<T::Stmt>,
     E: Fn(&MakerOf<T>, &mut P, usize, Reading) -> PResult<Cover<T::Expr>>,
@@ -176,7 +176,7 @@ fn full_member<
 #[tactic(auto, unfolding(swc_ecma_parser_reader::specs::Members::empty_member))]
 #[inline(never)]
 fn empty_member<
-    P: Source,
+    P: Cursor,
     T: BuildsClass,
     S: Fn(&MakerOf<T>, &mut P, usize, Position) -> PResult<T::Stmt>,
     E: Fn(&MakerOf<T>, &mut P, usize, Reading) -> PResult<Cover<T::Expr>>,
@@ -194,7 +194,7 @@ fn empty_member<
 /// A member of a class.
 #[tactic(auto, unfolding(swc_ecma_parser_reader::specs::Members::member_level))]
 pub fn member_level<
-    P: Source,
+    P: Cursor,
     T: BuildsClass + BuildsPattern,
     S: Fn(&MakerOf<T>, &mut P, usize, Position) -> PResult<T::Stmt>,
     E: Fn(&MakerOf<T>, &mut P, usize, Reading) -> PResult<Cover<T::Expr>>,

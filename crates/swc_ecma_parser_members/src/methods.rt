@@ -11,7 +11,7 @@ ghost use Rattle.swc_ecma_parser_grammar.specs.Own as own;
 ghost use Rattle.swc_ecma_parser_grammar.specs.Own.{only};
 ghost use Rattle.swc_ecma_parser_grammar.specs.language.Items.{nested_item};
 ghost use Rattle.swc_ecma_parser_grammar.specs.language.Classes.{method_member};
-ghost use Rattle.swc_ecma_parser_inner.specs.Nests.{Nests};
+ghost use Rattle.swc_ecma_parser_shared.specs.Nests.{Nests};
 ghost use Rattle.swc_ecma_parser_model.specs.Forms as forms;
 ghost use Rattle.swc_ecma_parser_reader.specs.Jumps.{told};
 ghost use Rattle.swc_ecma_parser_reader.specs.Members as members;
@@ -24,18 +24,18 @@ use crate::keys::{MemberKey, is_constructor_key, is_constructor_name, key_span};
 use std::alloc::{AllocError, Global};
 use swc_ecma_parser_bodies::body::braced;
 use swc_ecma_parser_common::{Atom, Boxed, Span};
+use swc_ecma_parser_cursor::Cursor;
 use swc_ecma_parser_error::{PResult, SyntaxError};
 use swc_ecma_parser_functions::function::{FunctionBody, Manner, function_body, parameters_inside};
 use swc_ecma_parser_functions::methods::MethodForm;
 use swc_ecma_parser_grammar::Position;
-use swc_ecma_parser_inner::cover::{Cover, Reading};
-use swc_ecma_parser_inner::grammar::{Grammar, Part};
-use swc_ecma_parser_inner::keys::made_key;
-use swc_ecma_parser_inner::steps::{grown, since, told_if};
 use swc_ecma_parser_input::Context;
 use swc_ecma_parser_model::MethodKind;
 use swc_ecma_parser_patterns::params::parameters;
-use swc_ecma_parser_source::Source;
+use swc_ecma_parser_shared::cover::{Cover, Reading};
+use swc_ecma_parser_shared::grammar::{Grammar, Part};
+use swc_ecma_parser_shared::keys::made_key;
+use swc_ecma_parser_shared::steps::{grown, since, told_if};
 use swc_ecma_parser_trees::{BuildsClass, BuildsPattern, MakerOf, Trees};
 
 /// Neither async nor a generator.
@@ -90,7 +90,7 @@ fn manner_of(form: MethodForm) -> Manner
 }
 
 /// A getter has no parameter.
-fn getter_faults<P: Source, T: BuildsPattern>(
+fn getter_faults<P: Cursor, T: BuildsPattern>(
     p: &mut P,
     word: Span,
     params: &[T::Pat],
@@ -101,7 +101,7 @@ fn getter_faults<P: Source, T: BuildsPattern>(
 }
 
 /// The first parameter of a setter is no rest.
-fn rest_faults<P: Source, T: BuildsPattern>(p: &mut P, params: &[T::Pat]) -> PResult<()>
+fn rest_faults<P: Cursor, T: BuildsPattern>(p: &mut P, params: &[T::Pat]) -> PResult<()>
     ensures { Gives (told (members.rest_faults (map T.pat_of params.now)) (P.seen p.old)) result (P.seen p.new) }
 {
     match params.first() {
@@ -121,7 +121,7 @@ fn is_not_one<A>(items: &[A]) -> bool
 }
 
 /// A setter has one parameter, which is no rest.
-fn setter_faults<P: Source, T: BuildsPattern>(
+fn setter_faults<P: Cursor, T: BuildsPattern>(
     p: &mut P,
     word: Span,
     params: &[T::Pat],
@@ -135,7 +135,7 @@ fn setter_faults<P: Source, T: BuildsPattern>(
 
 /// Records parameters of an accessor that it may not have.
 #[inline(never)]
-fn parameter_faults<P: Source, T: BuildsPattern>(
+fn parameter_faults<P: Cursor, T: BuildsPattern>(
     p: &mut P,
     form: MethodForm,
     word: Span,
@@ -154,7 +154,7 @@ fn parameter_faults<P: Source, T: BuildsPattern>(
 #[tactic(auto, unfolding(swc_ecma_parser_reader::specs::Members::method_parts))]
 #[inline(never)]
 fn method_parts<
-    P: Source,
+    P: Cursor,
     T: BuildsClass + BuildsPattern,
     S: Fn(&MakerOf<T>, &mut P, usize, Position) -> PResult<T::Stmt>,
     E: Fn(&MakerOf<T>, &mut P, usize, Reading) -> PResult<Cover<T::Expr>>,
@@ -179,7 +179,7 @@ fn method_parts<
 /// The function of a method, from behind its body.
 #[tactic(auto, unfolding(swc_ecma_parser_reader::specs::Reader::misdirected))]
 #[inline(never)]
-fn made_function<P: Source, T: BuildsClass + BuildsPattern>(
+fn made_function<P: Cursor, T: BuildsClass + BuildsPattern>(
     t: &MakerOf<T>,
     p: &mut P,
     head: Head,
@@ -207,7 +207,7 @@ fn made_function<P: Source, T: BuildsClass + BuildsPattern>(
 }
 
 /// The key `constructor` behind words or `*`.
-fn misnamed_by<P: Source>(p: &mut P, head: Head, key: Span) -> PResult<()>
+fn misnamed_by<P: Cursor>(p: &mut P, head: Head, key: Span) -> PResult<()>
     ensures { Gives (misnamed_at (form_of head.form) head.start head.word key (P.seen p.old)) result (P.seen p.new) }
 {
     match head.form {
@@ -227,7 +227,7 @@ fn misnamed_by<P: Source>(p: &mut P, head: Head, key: Span) -> PResult<()>
 /// A method behind words or `*` is not named `constructor`.
 #[tactic(auto, unfolding(swc_ecma_parser_reader::specs::Members::misnamed))]
 #[inline(never)]
-fn misnamed<P: Source, T: Trees>(p: &mut P, head: Head, key: &MemberKey<T::Expr>) -> PResult<()>
+fn misnamed<P: Cursor, T: Trees>(p: &mut P, head: Head, key: &MemberKey<T::Expr>) -> PResult<()>
     ensures { Gives (members.misnamed (form_of head.form) head.start head.word (member_key_of T.expr_of key.now) (P.seen p.old)) result (P.seen p.new) }
 {
     if !is_constructor_key::<T>(key) {
@@ -261,7 +261,7 @@ fn made_method<T: BuildsClass>(
 #[tactic(auto, unfolding(swc_ecma_parser_reader::specs::Members::method))]
 #[inline(never)]
 pub(crate) fn method<
-    P: Source,
+    P: Cursor,
     T: BuildsClass + BuildsPattern,
     S: Fn(&MakerOf<T>, &mut P, usize, Position) -> PResult<T::Stmt>,
     E: Fn(&MakerOf<T>, &mut P, usize, Reading) -> PResult<Cover<T::Expr>>,
@@ -287,7 +287,7 @@ pub(crate) fn method<
 }
 
 /// The fault of `static` before a constructor.
-fn static_constructor<P: Source>(alloc: Global, p: &mut P) -> PResult<SyntaxError>
+fn static_constructor<P: Cursor>(alloc: Global, p: &mut P) -> PResult<SyntaxError>
     ensures kind { IfOk result (λ kind. kind_of kind ≡ kinds.TS1089) }
     ensures state { IfOk result (λ kind. P.seen p.new ≡ P.seen p.old) }
     ensures err { IfErr result IsOutOfMemory }
@@ -298,7 +298,7 @@ fn static_constructor<P: Source>(alloc: Global, p: &mut P) -> PResult<SyntaxErro
 
 /// A constructor is not static.
 #[inline(never)]
-fn unstatic<P: Source>(alloc: Global, p: &mut P, is_static: bool, first: Span) -> PResult<()>
+fn unstatic<P: Cursor>(alloc: Global, p: &mut P, is_static: bool, first: Span) -> PResult<()>
     ensures { Gives (told (only is_static kinds.TS1089 first) (P.seen p.old)) result (P.seen p.new) }
 {
     if !is_static {
@@ -312,7 +312,7 @@ fn unstatic<P: Source>(alloc: Global, p: &mut P, is_static: bool, first: Span) -
 #[tactic(auto, unfolding(swc_ecma_parser_reader::specs::Members::constructor))]
 #[inline(never)]
 fn constructor<
-    P: Source,
+    P: Cursor,
     T: BuildsClass + BuildsPattern,
     S: Fn(&MakerOf<T>, &mut P, usize, Position) -> PResult<T::Stmt>,
     E: Fn(&MakerOf<T>, &mut P, usize, Reading) -> PResult<Cover<T::Expr>>,
@@ -329,7 +329,7 @@ fn constructor<
 /// A constructor, from behind its body.
 #[tactic(auto, unfolding(swc_ecma_parser_reader::specs::Reader::misdirected))]
 #[inline(never)]
-fn made_constructor<P: Source, T: BuildsClass + BuildsPattern>(
+fn made_constructor<P: Cursor, T: BuildsClass + BuildsPattern>(
     t: &MakerOf<T>,
     p: &mut P,
     begin: Begin,
@@ -351,7 +351,7 @@ fn made_constructor<P: Source, T: BuildsClass + BuildsPattern>(
 #[tactic(auto, unfolding(swc_ecma_parser_reader::specs::Members::plain_method))]
 #[inline(never)]
 pub(crate) fn plain_method<
-    P: Source,
+    P: Cursor,
     T: BuildsClass + BuildsPattern,
     S: Fn(&MakerOf<T>, &mut P, usize, Position) -> PResult<T::Stmt>,
     E: Fn(&MakerOf<T>, &mut P, usize, Reading) -> PResult<Cover<T::Expr>>,
@@ -402,7 +402,7 @@ fn in_static_block(flags: Context) -> Context
 #[tactic(auto, unfolding(swc_ecma_parser_reader::specs::Members::static_block))]
 #[inline(never)]
 pub(crate) fn static_block<
-    P: Source,
+    P: Cursor,
     T: BuildsClass,
     S: Fn(&MakerOf<T>, &mut P, usize, Position) -> PResult<T::Stmt>,
     E: Fn(&MakerOf<T>, &mut P, usize, Reading) -> PResult<Cover<T::Expr>>,
@@ -423,7 +423,7 @@ pub(crate) fn static_block<
 #[tactic(auto, unfolding(swc_ecma_parser_reader::specs::Members::second_static))]
 #[inline(never)]
 pub(crate) fn second_static<
-    P: Source,
+    P: Cursor,
     T: BuildsClass,
     S: Fn(&MakerOf<T>, &mut P, usize, Position) -> PResult<T::Stmt>,
     E: Fn(&MakerOf<T>, &mut P, usize, Reading) -> PResult<Cover<T::Expr>>,

@@ -18,15 +18,15 @@ use crate::exported::{
 };
 use swc_ecma_parser_classes::class::NamedClass;
 use swc_ecma_parser_common::{BytePos, Span};
-use swc_ecma_parser_core::grammar::{
-    declared_class_with, declared_function_with, inner_class_with, inner_function_with, leading,
-};
+use swc_ecma_parser_cursor::Cursor;
 use swc_ecma_parser_error::{PResult, SyntaxError};
 use swc_ecma_parser_functions::function::{Manner, function_word, star};
-use swc_ecma_parser_inner::found::found_module_item;
-use swc_ecma_parser_inner::steps::{grown, since};
+use swc_ecma_parser_knot::knot::{
+    declared_class_with, declared_function_with, inner_class_with, inner_function_with, leading,
+};
 use swc_ecma_parser_members::decorators::{Leading, misplaced};
-use swc_ecma_parser_source::Source;
+use swc_ecma_parser_shared::found::found_module_item;
+use swc_ecma_parser_shared::steps::{grown, since};
 use swc_ecma_parser_token::TokenKind;
 use swc_ecma_parser_trees::{
     BuildsExport, BuildsFunction, BuildsStatements, BuildsVarDecl, MakerOf,
@@ -34,7 +34,7 @@ use swc_ecma_parser_trees::{
 
 /// Whether decorators begin here.
 #[tactic(auto, unfolding(swc_ecma_parser_module_reader::specs::Decorated::begins_decorators))]
-pub fn begins_decorators<P: Source>(p: &P) -> bool
+pub fn begins_decorators<P: Cursor>(p: &P) -> bool
     ensures { result ≡ decorated.begins_decorators (P.seen p.now).code (P.seen p.now).at }
 {
     p.decorators() && p.sees(TokenKind::At)
@@ -66,7 +66,7 @@ fn begin_before<T: BuildsFunction>(word: Span, list: &[T::Decorator]) -> bool
 
 /// Refuses decorators behind the words of an export that begins at `start`, where they may not stand.
 #[tactic(auto, unfolding(swc_ecma_parser_module_reader::specs::Decorated::later_alone))]
-fn later_alone<P: Source, T: BuildsFunction>(
+fn later_alone<P: Cursor, T: BuildsFunction>(
     p: &mut P,
     start: Span,
     before: &Leading<T::Decorator>,
@@ -88,7 +88,7 @@ fn later_alone<P: Source, T: BuildsFunction>(
 }
 
 /// Decorators behind the words of an export that begins at `start`, which may stand there.
-fn alone<P: Source, T: BuildsFunction>(
+fn alone<P: Cursor, T: BuildsFunction>(
     p: &mut P,
     start: Span,
     before: &Leading<T::Decorator>,
@@ -102,7 +102,7 @@ fn alone<P: Source, T: BuildsFunction>(
 
 /// The decorators behind the words of an export that begins at `start`, or those before it, where there are none.
 #[tactic(auto, unfolding(swc_ecma_parser_module_reader::specs::Decorated::later))]
-fn later<P: Source, T: BuildsStatements>(
+fn later<P: Cursor, T: BuildsStatements>(
     t: &MakerOf<T>,
     p: &mut P,
     depth: usize,
@@ -120,7 +120,7 @@ fn later<P: Source, T: BuildsStatements>(
 
 /// An export of a class, from it on, with its decorators.
 #[tactic(auto, unfolding(swc_ecma_parser_module_reader::specs::Exports::exported), using(swc_ecma_parser_module_reader::proofs::Dressed::class_dressed))]
-fn exported_class<P: Source, T: BuildsStatements + BuildsExport>(
+fn exported_class<P: Cursor, T: BuildsStatements + BuildsExport>(
     t: &MakerOf<T>,
     p: &mut P,
     depth: usize,
@@ -137,7 +137,7 @@ fn exported_class<P: Source, T: BuildsStatements + BuildsExport>(
 
 /// An export of a function, from it on, with its decorators.
 #[tactic(auto, unfolding(swc_ecma_parser_module_reader::specs::Exports::exported), using(swc_ecma_parser_module_reader::proofs::Dressed::function_dressed))]
-fn exported_function<P: Source, T: BuildsStatements + BuildsExport>(
+fn exported_function<P: Cursor, T: BuildsStatements + BuildsExport>(
     t: &MakerOf<T>,
     p: &mut P,
     depth: usize,
@@ -153,7 +153,7 @@ fn exported_function<P: Source, T: BuildsStatements + BuildsExport>(
 
 /// A class that is exported by default, from it on, with its decorators.
 #[tactic(auto, unfolding(swc_ecma_parser_module_reader::specs::Decorated::by_default), using(swc_ecma_parser_module_reader::proofs::Dressed::class_expr_dressed))]
-fn default_class<P: Source, T: BuildsStatements + BuildsExport>(
+fn default_class<P: Cursor, T: BuildsStatements + BuildsExport>(
     t: &MakerOf<T>,
     p: &mut P,
     depth: usize,
@@ -171,7 +171,7 @@ fn default_class<P: Source, T: BuildsStatements + BuildsExport>(
 
 /// A function that is exported by default, with its decorators.
 #[tactic(auto, unfolding(swc_ecma_parser_module_reader::specs::Decorated::default_function_with))]
-fn default_function_decl<P: Source, T: BuildsStatements + BuildsExport>(
+fn default_function_decl<P: Cursor, T: BuildsStatements + BuildsExport>(
     t: &MakerOf<T>,
     p: &mut P,
     depth: usize,
@@ -194,7 +194,7 @@ fn default_function_decl<P: Source, T: BuildsStatements + BuildsExport>(
 
 /// An export of such a function, from it on.
 #[tactic(auto, unfolding(swc_ecma_parser_module_reader::specs::Decorated::by_default), using(swc_ecma_parser_module_reader::proofs::Dressed::default_function_dressed))]
-fn default_function<P: Source, T: BuildsStatements + BuildsExport>(
+fn default_function<P: Cursor, T: BuildsStatements + BuildsExport>(
     t: &MakerOf<T>,
     p: &mut P,
     depth: usize,
@@ -210,7 +210,7 @@ fn default_function<P: Source, T: BuildsStatements + BuildsExport>(
 
 /// What is exported behind decorators: a class and a function take them, and before anything else they are dropped.
 #[tactic(auto, unfolding(swc_ecma_parser_module_reader::specs::Decorated::named_with))]
-fn named_with<P: Source, T: BuildsStatements + BuildsExport + BuildsVarDecl>(
+fn named_with<P: Cursor, T: BuildsStatements + BuildsExport + BuildsVarDecl>(
     t: &MakerOf<T>,
     p: &mut P,
     depth: usize,
@@ -231,7 +231,7 @@ fn named_with<P: Source, T: BuildsStatements + BuildsExport + BuildsVarDecl>(
 
 /// What is exported by default behind decorators.
 #[tactic(auto, unfolding(swc_ecma_parser_module_reader::specs::Decorated::default_with))]
-fn default_with<P: Source, T: BuildsStatements + BuildsExport>(
+fn default_with<P: Cursor, T: BuildsStatements + BuildsExport>(
     t: &MakerOf<T>,
     p: &mut P,
     depth: usize,
@@ -252,7 +252,7 @@ fn default_with<P: Source, T: BuildsStatements + BuildsExport>(
 }
 
 /// An export from behind its word on, with the decorators there or before it.
-fn later_named<P: Source, T: BuildsStatements + BuildsExport + BuildsVarDecl>(
+fn later_named<P: Cursor, T: BuildsStatements + BuildsExport + BuildsVarDecl>(
     t: &MakerOf<T>,
     p: &mut P,
     depth: usize,
@@ -266,7 +266,7 @@ fn later_named<P: Source, T: BuildsStatements + BuildsExport + BuildsVarDecl>(
 }
 
 /// An export of a default from behind its words on, with the decorators there or before it.
-fn later_default<P: Source, T: BuildsStatements + BuildsExport>(
+fn later_default<P: Cursor, T: BuildsStatements + BuildsExport>(
     t: &MakerOf<T>,
     p: &mut P,
     depth: usize,
@@ -282,7 +282,7 @@ fn later_default<P: Source, T: BuildsStatements + BuildsExport>(
 
 /// An export from behind its word on, with the decorators before it.
 #[tactic(auto, unfolding(swc_ecma_parser_module_reader::specs::Decorated::behind_export))]
-fn behind_export<P: Source, T: BuildsStatements + BuildsExport + BuildsVarDecl>(
+fn behind_export<P: Cursor, T: BuildsStatements + BuildsExport + BuildsVarDecl>(
     t: &MakerOf<T>,
     p: &mut P,
     depth: usize,
@@ -299,7 +299,7 @@ fn behind_export<P: Source, T: BuildsStatements + BuildsExport + BuildsVarDecl>(
 
 /// An export of a default from behind its words on, the last of which stands at `first`, with the decorators before it.
 #[tactic(auto, unfolding(swc_ecma_parser_module_reader::specs::Decorated::behind_default_word))]
-fn behind_default_word<P: Source, T: BuildsStatements + BuildsExport>(
+fn behind_default_word<P: Cursor, T: BuildsStatements + BuildsExport>(
     t: &MakerOf<T>,
     p: &mut P,
     depth: usize,
@@ -317,7 +317,7 @@ fn behind_default_word<P: Source, T: BuildsStatements + BuildsExport>(
 
 /// An export, with the decorators before it.
 #[tactic(auto, unfolding(swc_ecma_parser_module_reader::specs::Decorated::export_from))]
-fn export_from<P: Source, T: BuildsStatements + BuildsExport + BuildsVarDecl>(
+fn export_from<P: Cursor, T: BuildsStatements + BuildsExport + BuildsVarDecl>(
     t: &MakerOf<T>,
     p: &mut P,
     depth: usize,
@@ -337,7 +337,7 @@ fn export_from<P: Source, T: BuildsStatements + BuildsExport + BuildsVarDecl>(
 
 /// An export behind decorators, if they may stand there.
 #[tactic(auto, unfolding(swc_ecma_parser_module_reader::specs::Decorated::export_with))]
-pub fn export_with<P: Source, T: BuildsStatements + BuildsExport + BuildsVarDecl>(
+pub fn export_with<P: Cursor, T: BuildsStatements + BuildsExport + BuildsVarDecl>(
     t: &MakerOf<T>,
     p: &mut P,
     depth: usize,
@@ -354,7 +354,7 @@ pub fn export_with<P: Source, T: BuildsStatements + BuildsExport + BuildsVarDecl
 }
 
 /// No decorators, where nothing was read.
-pub fn no_leading<P: Source, T: BuildsFunction>(t: &MakerOf<T>, p: &mut P) -> Leading<T::Decorator>
+pub fn no_leading<P: Cursor, T: BuildsFunction>(t: &MakerOf<T>, p: &mut P) -> Leading<T::Decorator>
     ensures none { leading_of T.decorator_of result ≡ decorated.no_leading (P.seen p.old) }
     ensures state { P.seen p.new ≡ P.seen p.old }
 {
@@ -369,7 +369,7 @@ pub fn no_leading<P: Source, T: BuildsFunction>(t: &MakerOf<T>, p: &mut P) -> Le
 
 /// An export, before which no decorators stand.
 #[tactic(auto, unfolding(swc_ecma_parser_module_reader::specs::Decorated::export_item))]
-pub fn export_item<P: Source, T: BuildsStatements + BuildsExport + BuildsVarDecl>(
+pub fn export_item<P: Cursor, T: BuildsStatements + BuildsExport + BuildsVarDecl>(
     t: &MakerOf<T>,
     p: &mut P,
     depth: usize,

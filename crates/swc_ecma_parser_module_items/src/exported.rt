@@ -3,7 +3,7 @@
 ghost use Rattle.std.specs.Prelude.{◌≡◌};
 ghost use Rattle.swc_ecma_parser_grammar.specs.language.Items.{nested_item};
 ghost use Rattle.swc_ecma_parser_grammar.specs.language.Goals.{left_side};
-ghost use Rattle.swc_ecma_parser_inner.specs.Keys.{word_of};
+ghost use Rattle.swc_ecma_parser_shared.specs.Keys.{word_of};
 ghost use Rattle.swc_ecma_parser_module_reader.specs.Exports as exports;
 ghost use Rattle.swc_ecma_parser_reader.specs.Members as members;
 ghost use Rattle.swc_ecma_parser_reader.specs.Reader as rules;
@@ -13,24 +13,24 @@ ghost use Rattle.swc_ecma_parser_trees.specs.Parts.{part_of};
 use crate::inner::inner_expr;
 use swc_ecma_parser_classes::class::NamedClass;
 use swc_ecma_parser_common::Span;
-use swc_ecma_parser_core::grammar::{
+use swc_ecma_parser_cursor::{Cursor, Wanted};
+use swc_ecma_parser_error::PResult;
+use swc_ecma_parser_functions::function::{Manner, function_word, star};
+use swc_ecma_parser_knot::knot::{
     declared_class, declared_function, inner_class, inner_declaration_end, inner_declarators,
     inner_function,
 };
-use swc_ecma_parser_error::PResult;
-use swc_ecma_parser_functions::function::{Manner, function_word, star};
-use swc_ecma_parser_inner::steps::{grown, since, with_in};
 use swc_ecma_parser_model::{Ident, VarDeclKind};
 use swc_ecma_parser_modules::exports::{
     default_from, export_names, export_star, is_default_from, is_name_from, name_from,
 };
-use swc_ecma_parser_source::{Source, Wanted};
+use swc_ecma_parser_shared::steps::{grown, since, with_in};
 use swc_ecma_parser_token::TokenKind;
 use swc_ecma_parser_trees::{BuildsExport, BuildsStatements, BuildsVarDecl, MakerOf};
 
 /// The name of a function that is exported by default, which is read in the code around, if there is one.
 #[tactic(auto, unfolding(swc_ecma_parser_module_reader::specs::Exports::default_name, swc_ecma_parser_reader::specs::Reader::named))]
-pub(crate) fn default_name<P: Source>(p: &mut P) -> PResult<Option<Ident>>
+pub(crate) fn default_name<P: Cursor>(p: &mut P) -> PResult<Option<Ident>>
     ensures { GivesAs (part_of word_of) (exports.default_name (P.seen p.old)) result (P.seen p.new) }
 {
     if !p.name_at() {
@@ -42,7 +42,7 @@ pub(crate) fn default_name<P: Source>(p: &mut P) -> PResult<Option<Ident>>
 
 /// A function that is exported by default.
 #[tactic(auto, unfolding(swc_ecma_parser_module_reader::specs::Exports::default_function))]
-fn default_function<P: Source, T: BuildsStatements + BuildsExport>(
+fn default_function<P: Cursor, T: BuildsStatements + BuildsExport>(
     t: &MakerOf<T>,
     p: &mut P,
     depth: usize,
@@ -64,7 +64,7 @@ fn default_function<P: Source, T: BuildsStatements + BuildsExport>(
 
 /// An export of such a function, from it on.
 #[tactic(auto, unfolding(swc_ecma_parser_module_reader::specs::Exports::exported_function))]
-fn exported_function<P: Source, T: BuildsStatements + BuildsExport>(
+fn exported_function<P: Cursor, T: BuildsStatements + BuildsExport>(
     t: &MakerOf<T>,
     p: &mut P,
     depth: usize,
@@ -78,7 +78,7 @@ fn exported_function<P: Source, T: BuildsStatements + BuildsExport>(
 }
 
 /// A class that is exported by default, which is read as an expression: its name may be missing too.
-fn default_class<P: Source, T: BuildsStatements + BuildsExport>(
+fn default_class<P: Cursor, T: BuildsStatements + BuildsExport>(
     t: &MakerOf<T>,
     p: &mut P,
     depth: usize,
@@ -92,7 +92,7 @@ fn default_class<P: Source, T: BuildsStatements + BuildsExport>(
 
 /// An export of such a class, from it on.
 #[tactic(auto, unfolding(swc_ecma_parser_module_reader::specs::Exports::exported_class))]
-fn exported_class<P: Source, T: BuildsStatements + BuildsExport>(
+fn exported_class<P: Cursor, T: BuildsStatements + BuildsExport>(
     t: &MakerOf<T>,
     p: &mut P,
     depth: usize,
@@ -107,7 +107,7 @@ fn exported_class<P: Source, T: BuildsStatements + BuildsExport>(
 
 /// An export of an expression by default, from it on.
 #[tactic(auto, unfolding(swc_ecma_parser_module_reader::specs::Exports::default_expr))]
-fn default_expr<P: Source, T: BuildsStatements + BuildsExport>(
+fn default_expr<P: Cursor, T: BuildsStatements + BuildsExport>(
     t: &MakerOf<T>,
     p: &mut P,
     depth: usize,
@@ -123,7 +123,7 @@ fn default_expr<P: Source, T: BuildsStatements + BuildsExport>(
 
 /// Whether a function begins here.
 #[tactic(auto, unfolding(swc_ecma_parser_module_reader::specs::Exports::begins_default_function))]
-pub(crate) fn begins_function<P: Source>(p: &P) -> bool
+pub(crate) fn begins_function<P: Cursor>(p: &P) -> bool
     ensures { result ≡ exports.begins_default_function (P.seen p.now).at }
 {
     p.sees(TokenKind::Function) || p.is_async_function()
@@ -131,7 +131,7 @@ pub(crate) fn begins_function<P: Source>(p: &P) -> bool
 
 /// An export of a default that is neither a class nor a function, from behind its words on, the last of which stands at `first`.
 #[tactic(auto, unfolding(swc_ecma_parser_module_reader::specs::Exports::default_rest))]
-pub(crate) fn default_rest<P: Source, T: BuildsStatements + BuildsExport>(
+pub(crate) fn default_rest<P: Cursor, T: BuildsStatements + BuildsExport>(
     t: &MakerOf<T>,
     p: &mut P,
     depth: usize,
@@ -148,7 +148,7 @@ pub(crate) fn default_rest<P: Source, T: BuildsStatements + BuildsExport>(
 
 /// An export of a default, from behind its words on, the last of which stands at `first`.
 #[tactic(auto, unfolding(swc_ecma_parser_module_reader::specs::Exports::export_default))]
-pub(crate) fn export_default<P: Source, T: BuildsStatements + BuildsExport>(
+pub(crate) fn export_default<P: Cursor, T: BuildsStatements + BuildsExport>(
     t: &MakerOf<T>,
     p: &mut P,
     depth: usize,
@@ -168,7 +168,7 @@ pub(crate) fn export_default<P: Source, T: BuildsStatements + BuildsExport>(
 
 /// An export of variables, from their word on.
 #[tactic(auto, unfolding(swc_ecma_parser_module_reader::specs::Exports::exported, swc_ecma_parser_reader::specs::Reader::variables, swc_ecma_parser_grammar::specs::Looks::spanned))]
-fn exported_variables<P: Source, T: BuildsStatements + BuildsExport + BuildsVarDecl>(
+fn exported_variables<P: Cursor, T: BuildsStatements + BuildsExport + BuildsVarDecl>(
     t: &MakerOf<T>,
     p: &mut P,
     depth: usize,
@@ -192,7 +192,7 @@ fn exported_variables<P: Source, T: BuildsStatements + BuildsExport + BuildsVarD
 
 /// An export of a function, from it on.
 #[tactic(auto, unfolding(swc_ecma_parser_module_reader::specs::Exports::exported))]
-fn exported_decl<P: Source, T: BuildsStatements + BuildsExport>(
+fn exported_decl<P: Cursor, T: BuildsStatements + BuildsExport>(
     t: &MakerOf<T>,
     p: &mut P,
     depth: usize,
@@ -207,7 +207,7 @@ fn exported_decl<P: Source, T: BuildsStatements + BuildsExport>(
 
 /// An export of a class, from it on.
 #[tactic(auto, unfolding(swc_ecma_parser_module_reader::specs::Exports::exported))]
-fn exported_class_decl<P: Source, T: BuildsStatements + BuildsExport>(
+fn exported_class_decl<P: Cursor, T: BuildsStatements + BuildsExport>(
     t: &MakerOf<T>,
     p: &mut P,
     depth: usize,
@@ -222,7 +222,7 @@ fn exported_class_decl<P: Source, T: BuildsStatements + BuildsExport>(
 
 /// An export of what is neither a class nor a function, from behind its word on.
 #[tactic(auto, unfolding(swc_ecma_parser_module_reader::specs::Exports::export_rest))]
-pub(crate) fn export_rest<P: Source, T: BuildsStatements + BuildsExport + BuildsVarDecl>(
+pub(crate) fn export_rest<P: Cursor, T: BuildsStatements + BuildsExport + BuildsVarDecl>(
     t: &MakerOf<T>,
     p: &mut P,
     depth: usize,
@@ -253,7 +253,7 @@ pub(crate) fn export_rest<P: Source, T: BuildsStatements + BuildsExport + Builds
 
 /// An export that is no default, from behind its word on.
 #[tactic(auto, unfolding(swc_ecma_parser_module_reader::specs::Exports::export_named))]
-pub(crate) fn export_named<P: Source, T: BuildsStatements + BuildsExport + BuildsVarDecl>(
+pub(crate) fn export_named<P: Cursor, T: BuildsStatements + BuildsExport + BuildsVarDecl>(
     t: &MakerOf<T>,
     p: &mut P,
     depth: usize,

@@ -5,15 +5,15 @@ ghost use Rattle.swc_ecma_parser_grammar.specs.language.Goals.{assignment};
 ghost use Rattle.swc_ecma_parser_reader.specs.Reader as rules;
 ghost use Rattle.swc_ecma_parser_reader.specs.State.{GivesAs, within};
 
-use swc_ecma_parser_core::grammar::expression;
+use swc_ecma_parser_cursor::Cursor;
 use swc_ecma_parser_error::PResult;
 use swc_ecma_parser_grammar::Class;
-use swc_ecma_parser_inner::steps;
-use swc_ecma_parser_source::Source;
+use swc_ecma_parser_knot::knot::expression;
+use swc_ecma_parser_shared::steps;
 use swc_ecma_parser_trees::{BuildsStatements, MakerOf};
 
 /// An expression without commas, in so many levels.
-pub fn inner_expr<P: Source, T: BuildsStatements>(
+pub fn inner_expr<P: Cursor, T: BuildsStatements>(
     t: &MakerOf<T>,
     p: &mut P,
     depth: usize,

@@ -9,15 +9,15 @@ ghost use Rattle.swc_ecma_parser_reader.specs.State as reader;
 ghost use Rattle.swc_ecma_parser_reader.specs.State.{GivesAs};
 
 use crate::decorated::{begins_decorators, export_item, export_with};
-use swc_ecma_parser_core::grammar::{leading, stmt_behind};
+use swc_ecma_parser_cursor::Cursor;
 use swc_ecma_parser_error::PResult;
 use swc_ecma_parser_grammar::Position;
-use swc_ecma_parser_inner::steps::{grown, pushed, since, whole_start};
 use swc_ecma_parser_input::Context;
+use swc_ecma_parser_knot::knot::{leading, stmt_behind};
 use swc_ecma_parser_members::decorators::{Leading, misplaced};
 use swc_ecma_parser_modules::imports::import_decl;
 use swc_ecma_parser_scripts::script::whole_stmt;
-use swc_ecma_parser_source::Source;
+use swc_ecma_parser_shared::steps::{grown, pushed, since, whole_start};
 use swc_ecma_parser_token::TokenKind;
 use swc_ecma_parser_trees::{BuildsExport, BuildsItem, BuildsStatements, BuildsVarDecl, MakerOf};
 
@@ -29,7 +29,7 @@ pub(crate) const TOP_ITEM: Position = Position {
 
 /// Whether `import` stands here and begins no expression.
 #[tactic(auto, unfolding(swc_ecma_parser_module_reader::specs::Modules::begins_import, swc_ecma_parser_grammar::specs::Follows::begins_import_expression))]
-pub(crate) fn begins_import<P: Source>(p: &P) -> bool
+pub(crate) fn begins_import<P: Cursor>(p: &P) -> bool
     ensures { result ≡ modules.begins_import (P.seen p.now).at }
 {
     p.sees(TokenKind::Import) && !(p.next_sees(TokenKind::LParen) || p.next_sees(TokenKind::Dot))
@@ -37,7 +37,7 @@ pub(crate) fn begins_import<P: Source>(p: &P) -> bool
 
 /// An import, in so many levels.
 #[tactic(auto, using(swc_ecma_parser_module_reader::proofs::Levels::import_lowest, swc_ecma_parser_module_reader::proofs::Levels::import_above))]
-fn import_in<P: Source, T: BuildsStatements + BuildsExport>(
+fn import_in<P: Cursor, T: BuildsStatements + BuildsExport>(
     t: &MakerOf<T>,
     p: &mut P,
     limit: usize,
@@ -52,7 +52,7 @@ fn import_in<P: Source, T: BuildsStatements + BuildsExport>(
 
 /// An export, in so many levels.
 #[tactic(auto, using(swc_ecma_parser_module_reader::proofs::Levels::export_lowest, swc_ecma_parser_module_reader::proofs::Levels::export_above))]
-fn export_in<P: Source, T: BuildsStatements + BuildsExport + BuildsVarDecl>(
+fn export_in<P: Cursor, T: BuildsStatements + BuildsExport + BuildsVarDecl>(
     t: &MakerOf<T>,
     p: &mut P,
     limit: usize,
@@ -66,7 +66,7 @@ fn export_in<P: Source, T: BuildsStatements + BuildsExport + BuildsVarDecl>(
 }
 
 /// An import behind decorators, which are dropped.
-fn import_behind<P: Source, T: BuildsStatements + BuildsExport>(
+fn import_behind<P: Cursor, T: BuildsStatements + BuildsExport>(
     t: &MakerOf<T>,
     p: &mut P,
     depth: usize,
@@ -80,7 +80,7 @@ fn import_behind<P: Source, T: BuildsStatements + BuildsExport>(
 
 /// An item behind decorators.
 #[tactic(auto, unfolding(swc_ecma_parser_module_reader::specs::Modules::item_behind))]
-pub fn item_behind<P: Source, T: BuildsStatements + BuildsExport + BuildsVarDecl>(
+pub fn item_behind<P: Cursor, T: BuildsStatements + BuildsExport + BuildsVarDecl>(
     t: &MakerOf<T>,
     p: &mut P,
     depth: usize,
@@ -100,7 +100,7 @@ pub fn item_behind<P: Source, T: BuildsStatements + BuildsExport + BuildsVarDecl
 
 /// An item that begins with decorators, in so many levels.
 #[tactic(auto, using(swc_ecma_parser_module_reader::proofs::Levels::decorated_lowest, swc_ecma_parser_module_reader::proofs::Levels::decorated_above))]
-fn decorated_item<P: Source, T: BuildsStatements + BuildsExport + BuildsVarDecl>(
+fn decorated_item<P: Cursor, T: BuildsStatements + BuildsExport + BuildsVarDecl>(
     t: &MakerOf<T>,
     p: &mut P,
     limit: usize,
@@ -116,7 +116,7 @@ fn decorated_item<P: Source, T: BuildsStatements + BuildsExport + BuildsVarDecl>
 
 /// An item of a module, in so many levels: an import, an export or a statement.
 #[tactic(auto, unfolding(swc_ecma_parser_module_reader::specs::Modules::module_item))]
-pub fn module_item<P: Source, T: BuildsStatements + BuildsExport + BuildsVarDecl>(
+pub fn module_item<P: Cursor, T: BuildsStatements + BuildsExport + BuildsVarDecl>(
     t: &MakerOf<T>,
     p: &mut P,
     limit: usize,
@@ -137,7 +137,7 @@ pub fn module_item<P: Source, T: BuildsStatements + BuildsExport + BuildsVarDecl
 }
 
 /// Turns strict what follows a directive that says so, and says whether the next item can be a directive too.
-fn direct<P: Source, T: BuildsItem>(p: &mut P, directives: bool, x: &T::Item) -> bool
+fn direct<P: Cursor, T: BuildsItem>(p: &mut P, directives: bool, x: &T::Item) -> bool
     ensures state { P.seen p.new ≡ reader.coded (directed (P.seen p.old).code directives (T.item_of x.now)) (P.seen p.old) }
     ensures next { result ≡ directs_on directives (T.item_of x.now) }
 {
@@ -153,7 +153,7 @@ fn direct<P: Source, T: BuildsItem>(p: &mut P, directives: bool, x: &T::Item) ->
 
 /// Whether the list has ended.
 #[tactic(auto, unfolding(swc_ecma_parser_reader::specs::Reader::at_end))]
-pub(crate) fn at_end<P: Source>(p: &P) -> bool
+pub(crate) fn at_end<P: Cursor>(p: &P) -> bool
     ensures { result ≡ rules.at_end (P.seen p.now).at }
 {
     p.sees(TokenKind::End)
@@ -161,7 +161,7 @@ pub(crate) fn at_end<P: Source>(p: &P) -> bool
 
 /// The items of a module behind these, the first of all of which can be directives; `directives` says whether the next can be one.
 #[tactic(auto, using(swc_ecma_parser_reader::proofs::Loops::items_stop, swc_ecma_parser_reader::proofs::Loops::items_err, swc_ecma_parser_bodies::proofs::Items::body_more, swc_ecma_parser_bodies::proofs::Items::body_next, swc_ecma_parser_module_reader::proofs::Falls::item_shorter, std::proofs::lemmas::List::map_push))]
-pub(crate) fn items_behind<P: Source, T: BuildsStatements + BuildsExport + BuildsVarDecl>(
+pub(crate) fn items_behind<P: Cursor, T: BuildsStatements + BuildsExport + BuildsVarDecl>(
     t: &MakerOf<T>,
     p: &mut P,
     limit: usize,
@@ -183,7 +183,7 @@ pub(crate) fn items_behind<P: Source, T: BuildsStatements + BuildsExport + Build
 
 /// The items of a module, the first of which can be directives.
 #[tactic(auto, unfolding(swc_ecma_parser_reader::specs::Reader::items))]
-pub(crate) fn items<P: Source, T: BuildsStatements + BuildsExport + BuildsVarDecl>(
+pub(crate) fn items<P: Cursor, T: BuildsStatements + BuildsExport + BuildsVarDecl>(
     t: &MakerOf<T>,
     p: &mut P,
     limit: usize,
@@ -197,7 +197,7 @@ pub(crate) fn items<P: Source, T: BuildsStatements + BuildsExport + BuildsVarDec
 
 /// A module, whose items may stand so many levels deep.
 #[tactic(auto, unfolding(swc_ecma_parser_module_reader::specs::Modules::module_body, swc_ecma_parser_grammar::specs::Looks::whole_span))]
-pub fn module_body<P: Source, T: BuildsStatements + BuildsExport + BuildsVarDecl>(
+pub fn module_body<P: Cursor, T: BuildsStatements + BuildsExport + BuildsVarDecl>(
     t: &MakerOf<T>,
     p: &mut P,
     limit: usize,

@@ -13,18 +13,18 @@ ghost use Rattle.swc_ecma_parser_reader.specs.State.{GivesAs};
 use crate::decorated::{begins_decorators, no_leading};
 use crate::items::{TOP_ITEM, at_end, begins_import, item_behind, items, items_behind};
 use swc_ecma_parser_bodies::body::direct;
-use swc_ecma_parser_core::grammar::{leading, stmt_behind};
+use swc_ecma_parser_cursor::Cursor;
 use swc_ecma_parser_error::PResult;
-use swc_ecma_parser_inner::steps::{grown, pushed};
+use swc_ecma_parser_knot::knot::{leading, stmt_behind};
 use swc_ecma_parser_members::decorators::Leading;
 use swc_ecma_parser_scripts::script::whole_stmt;
-use swc_ecma_parser_source::Source;
+use swc_ecma_parser_shared::steps::{grown, pushed};
 use swc_ecma_parser_token::TokenKind;
 use swc_ecma_parser_trees::{BuildsExport, BuildsItem, BuildsStatements, BuildsVarDecl, MakerOf};
 
 /// Whether an import or an export begins here, from which on the code is a module's.
 #[tactic(auto, unfolding(swc_ecma_parser_module_reader::specs::Programs::begins_module))]
-pub fn begins_module<P: Source>(p: &P) -> bool
+pub fn begins_module<P: Cursor>(p: &P) -> bool
     ensures { result ≡ programs.begins_module (P.seen p.now).at }
 {
     begins_import(p) || p.sees(TokenKind::Export)
@@ -32,7 +32,7 @@ pub fn begins_module<P: Source>(p: &P) -> bool
 
 /// Whether the statements before one end here.
 #[tactic(auto, unfolding(swc_ecma_parser_module_reader::specs::Programs::before_module))]
-fn before_module<P: Source>(p: &P) -> bool
+fn before_module<P: Cursor>(p: &P) -> bool
     ensures { result ≡ programs.before_module (P.seen p.now).at }
 {
     at_end(p) || begins_module(p)
@@ -57,7 +57,7 @@ enum Led<S, D> {
 
 /// A statement that begins with decorators, or the decorators of an import or export.
 #[tactic(auto, unfolding(swc_ecma_parser_module_reader::specs::Turns::behind_list), using(swc_ecma_parser_module_reader::proofs::Turns::turn_lowest, swc_ecma_parser_module_reader::proofs::Turns::turn_above))]
-fn front_decorated<P: Source, T: BuildsStatements>(
+fn front_decorated<P: Cursor, T: BuildsStatements>(
     t: &MakerOf<T>,
     p: &mut P,
     limit: usize,
@@ -77,7 +77,7 @@ fn front_decorated<P: Source, T: BuildsStatements>(
 
 /// A statement, or what stands before an import or export.
 #[tactic(auto, unfolding(swc_ecma_parser_module_reader::specs::Turns::turn))]
-fn front_item<P: Source, T: BuildsStatements>(
+fn front_item<P: Cursor, T: BuildsStatements>(
     t: &MakerOf<T>,
     p: &mut P,
     limit: usize,
@@ -94,7 +94,7 @@ fn front_item<P: Source, T: BuildsStatements>(
 /// The statements of a program before its first import or export, the first of which can be directives, and the decorators before
 /// that.
 #[tactic(auto, unfolding(swc_ecma_parser_module_reader::specs::Programs::front), using(swc_ecma_parser_module_reader::proofs::Fronts::front_stop, swc_ecma_parser_module_reader::proofs::Turns::front_err, swc_ecma_parser_module_reader::proofs::Turns::front_word, swc_ecma_parser_module_reader::proofs::Turns::front_read, swc_ecma_parser_bodies::proofs::Items::body_next, swc_ecma_parser_module_reader::proofs::Turns::turn_shorter, std::proofs::lemmas::List::map_push))]
-pub fn statements<P: Source, T: BuildsStatements>(
+pub fn statements<P: Cursor, T: BuildsStatements>(
     t: &MakerOf<T>,
     p: &mut P,
     limit: usize,
@@ -127,7 +127,7 @@ pub fn statements<P: Source, T: BuildsStatements>(
 }
 
 /// Statements as items of a module.
-fn as_items<P: Source, T: BuildsItem>(
+fn as_items<P: Cursor, T: BuildsItem>(
     t: &MakerOf<T>,
     p: &mut P,
     stmts: Vec<T::Stmt>,
@@ -146,7 +146,7 @@ fn as_items<P: Source, T: BuildsItem>(
 }
 
 /// Items behind others.
-fn joined<P: Source, T: BuildsItem>(
+fn joined<P: Cursor, T: BuildsItem>(
     p: &mut P,
     before: Vec<T::Item>,
     behind: Vec<T::Item>,
@@ -165,7 +165,7 @@ fn joined<P: Source, T: BuildsItem>(
 
 /// The import or export behind decorators, in so many levels.
 #[tactic(auto, using(swc_ecma_parser_module_reader::proofs::Levels::first_lowest, swc_ecma_parser_module_reader::proofs::Levels::first_above))]
-fn first_behind<P: Source, T: BuildsStatements + BuildsExport + BuildsVarDecl>(
+fn first_behind<P: Cursor, T: BuildsStatements + BuildsExport + BuildsVarDecl>(
     t: &MakerOf<T>,
     p: &mut P,
     limit: usize,
@@ -181,7 +181,7 @@ fn first_behind<P: Source, T: BuildsStatements + BuildsExport + BuildsVarDecl>(
 
 /// The items of a program from its first import or export on, with the decorators before that.
 #[tactic(auto, unfolding(swc_ecma_parser_module_reader::specs::Programs::behind_front))]
-fn behind_front<P: Source, T: BuildsStatements + BuildsExport + BuildsVarDecl>(
+fn behind_front<P: Cursor, T: BuildsStatements + BuildsExport + BuildsVarDecl>(
     t: &MakerOf<T>,
     p: &mut P,
     limit: usize,
@@ -202,7 +202,7 @@ fn behind_front<P: Source, T: BuildsStatements + BuildsExport + BuildsVarDecl>(
 
 /// The items of a program that turned out to be a module: its statements before its first import or export, and what stands from
 /// there on, in module code.
-pub fn items_from<P: Source, T: BuildsStatements + BuildsExport + BuildsVarDecl>(
+pub fn items_from<P: Cursor, T: BuildsStatements + BuildsExport + BuildsVarDecl>(
     t: &MakerOf<T>,
     p: &mut P,
     limit: usize,

@@ -17,16 +17,16 @@ ghost use Rattle.swc_ecma_parser_reader.specs.State.{Gives, GivesAs, loop};
 use crate::parts::{attributes, made_name, module_name, source};
 use std::alloc::{AllocError, Global};
 use swc_ecma_parser_common::{Atom, Boxed, Span};
+use swc_ecma_parser_cursor::{Cursor, Wanted, is_reserved_word};
 use swc_ecma_parser_error::{PResult, SyntaxError};
-use swc_ecma_parser_inner::steps::{grown, pushed, since};
 use swc_ecma_parser_model::Ident;
-use swc_ecma_parser_source::{Source, Wanted, is_reserved_word};
+use swc_ecma_parser_shared::steps::{grown, pushed, since};
 use swc_ecma_parser_token::TokenKind;
 use swc_ecma_parser_trees::{BuildsExport, BuildsStatements, MakerOf};
 
 /// A name in braces, with the one that it is exported by where `as` stands.
 #[tactic(auto, unfolding(swc_ecma_parser_module_reader::specs::Exports::export_specifier, swc_ecma_parser_module_reader::specs::Exports::renamed_export, swc_ecma_parser_module_reader::specs::Exports::plain_export))]
-fn export_specifier<P: Source, T: BuildsExport>(
+fn export_specifier<P: Cursor, T: BuildsExport>(
     t: &MakerOf<T>,
     p: &mut P,
 ) -> PResult<T::ExportSpecifier>
@@ -49,7 +49,7 @@ fn export_specifier<P: Source, T: BuildsExport>(
 
 /// Names in braces, up to `}`; a comma may stand behind the last.
 #[tactic(auto, using(swc_ecma_parser_module_reader::proofs::Loops::specifiers_stop, swc_ecma_parser_module_reader::proofs::Loops::specifiers_more, swc_ecma_parser_module_reader::proofs::Loops::specifiers_last, swc_ecma_parser_module_reader::proofs::Loops::specifiers_err, swc_ecma_parser_module_reader::proofs::Falls::export_specifier_shorter, crate::proofs::Steps::exports_shorter, std::proofs::lemmas::List::map_push))]
-fn named_exports<P: Source, T: BuildsExport>(
+fn named_exports<P: Cursor, T: BuildsExport>(
     t: &MakerOf<T>,
     p: &mut P,
 ) -> PResult<Vec<T::ExportSpecifier>>
@@ -71,7 +71,7 @@ fn named_exports<P: Source, T: BuildsExport>(
 
 /// Names in braces.
 #[tactic(auto, unfolding(swc_ecma_parser_module_reader::specs::Imports::specifiers))]
-fn specifiers<P: Source, T: BuildsExport>(
+fn specifiers<P: Cursor, T: BuildsExport>(
     t: &MakerOf<T>,
     p: &mut P,
 ) -> PResult<Vec<T::ExportSpecifier>>
@@ -85,7 +85,7 @@ fn specifiers<P: Source, T: BuildsExport>(
 
 /// `as name`, behind `*`.
 #[tactic(auto, unfolding(swc_ecma_parser_module_reader::specs::Exports::export_namespace))]
-fn export_namespace<P: Source, T: BuildsExport>(
+fn export_namespace<P: Cursor, T: BuildsExport>(
     t: &MakerOf<T>,
     p: &mut P,
     start: Span,
@@ -101,7 +101,7 @@ fn export_namespace<P: Source, T: BuildsExport>(
 
 /// Names of another module, from the word `from` on.
 #[tactic(auto, unfolding(swc_ecma_parser_module_reader::specs::Exports::names_from))]
-fn names_from<P: Source, T: BuildsStatements + BuildsExport>(
+fn names_from<P: Cursor, T: BuildsStatements + BuildsExport>(
     t: &MakerOf<T>,
     p: &mut P,
     depth: usize,
@@ -121,7 +121,7 @@ fn names_from<P: Source, T: BuildsStatements + BuildsExport>(
 }
 
 /// Records that a name of another module stands where no module is named.
-fn foreign<P: Source>(alloc: Global, p: &mut P, text: &str, span: Span) -> PResult<()>
+fn foreign<P: Cursor>(alloc: Global, p: &mut P, text: &str, span: Span) -> PResult<()>
     ensures { Gives (rules.told (own.fault kinds.ExportExpectFrom span ∷ []) (P.seen p.old)) result (P.seen p.new) }
 {
     let text = grown(p, Atom::new(alloc, text))?;
@@ -130,7 +130,7 @@ fn foreign<P: Source>(alloc: Global, p: &mut P, text: &str, span: Span) -> PResu
 }
 
 /// Records that a name is none of the module itself, where it is none.
-fn misnamed<P: Source, T: BuildsExport>(
+fn misnamed<P: Cursor, T: BuildsExport>(
     t: &MakerOf<T>,
     p: &mut P,
     specifier: &T::ExportSpecifier,
@@ -155,7 +155,7 @@ fn misnamed<P: Source, T: BuildsExport>(
 }
 
 /// Records which of these are no names of the module itself.
-fn all_misnamed<P: Source, T: BuildsExport>(
+fn all_misnamed<P: Cursor, T: BuildsExport>(
     t: &MakerOf<T>,
     p: &mut P,
     specifiers: &[T::ExportSpecifier],
@@ -170,7 +170,7 @@ fn all_misnamed<P: Source, T: BuildsExport>(
 
 /// Names of the module itself. What is no such name is recorded before the end.
 #[tactic(auto, unfolding(swc_ecma_parser_module_reader::specs::Exports::own_names))]
-fn own_names<P: Source, T: BuildsExport>(
+fn own_names<P: Cursor, T: BuildsExport>(
     t: &MakerOf<T>,
     p: &mut P,
     start: Span,
@@ -185,7 +185,7 @@ fn own_names<P: Source, T: BuildsExport>(
 }
 
 /// Names of another module or of this one.
-fn named<P: Source, T: BuildsStatements + BuildsExport>(
+fn named<P: Cursor, T: BuildsStatements + BuildsExport>(
     t: &MakerOf<T>,
     p: &mut P,
     depth: usize,
@@ -204,7 +204,7 @@ fn named<P: Source, T: BuildsStatements + BuildsExport>(
 
 /// An export of names in braces.
 #[tactic(auto, unfolding(swc_ecma_parser_module_reader::specs::Exports::export_names))]
-pub fn export_names<P: Source, T: BuildsStatements + BuildsExport>(
+pub fn export_names<P: Cursor, T: BuildsStatements + BuildsExport>(
     t: &MakerOf<T>,
     p: &mut P,
     depth: usize,
@@ -231,7 +231,7 @@ fn joined<T: BuildsExport>(
 
 /// Behind a default or a namespace of another module: with the setting names in braces, else the module.
 #[tactic(auto, unfolding(swc_ecma_parser_module_reader::specs::Exports::more_names, swc_ecma_parser_module_reader::specs::Exports::export_names))]
-fn more_names<P: Source, T: BuildsStatements + BuildsExport>(
+fn more_names<P: Cursor, T: BuildsStatements + BuildsExport>(
     t: &MakerOf<T>,
     p: &mut P,
     depth: usize,
@@ -251,7 +251,7 @@ fn more_names<P: Source, T: BuildsStatements + BuildsExport>(
 
 /// A namespace from the word `as` on, with what stands before its star; the words behind `export` begin at `first`.
 #[tactic(auto, unfolding(swc_ecma_parser_module_reader::specs::Exports::namespace_names), using(std::proofs::lemmas::List::map_push))]
-fn namespace_names<P: Source, T: BuildsStatements + BuildsExport>(
+fn namespace_names<P: Cursor, T: BuildsStatements + BuildsExport>(
     t: &MakerOf<T>,
     p: &mut P,
     depth: usize,
@@ -269,7 +269,7 @@ fn namespace_names<P: Source, T: BuildsStatements + BuildsExport>(
 
 /// An export of all names, from the word `from` on.
 #[tactic(auto, unfolding(swc_ecma_parser_module_reader::specs::Exports::export_all))]
-fn export_all<P: Source, T: BuildsStatements + BuildsExport>(
+fn export_all<P: Cursor, T: BuildsStatements + BuildsExport>(
     t: &MakerOf<T>,
     p: &mut P,
     depth: usize,
@@ -286,7 +286,7 @@ fn export_all<P: Source, T: BuildsStatements + BuildsExport>(
 
 /// An export from `*` on.
 #[tactic(auto, unfolding(swc_ecma_parser_module_reader::specs::Exports::export_star))]
-pub fn export_star<P: Source, T: BuildsStatements + BuildsExport>(
+pub fn export_star<P: Cursor, T: BuildsStatements + BuildsExport>(
     t: &MakerOf<T>,
     p: &mut P,
     depth: usize,
@@ -304,7 +304,7 @@ pub fn export_star<P: Source, T: BuildsStatements + BuildsExport>(
 
 /// Whether a comma and a namespace stand here.
 #[tactic(auto, unfolding(swc_ecma_parser_module_reader::specs::Exports::is_namespace_next))]
-fn is_namespace_next<P: Source>(p: &P) -> bool
+fn is_namespace_next<P: Cursor>(p: &P) -> bool
     ensures { result ≡ exports.is_namespace_next (P.seen p.now).at }
 {
     p.sees(TokenKind::Comma) && p.next_sees(TokenKind::Mul)
@@ -312,7 +312,7 @@ fn is_namespace_next<P: Source>(p: &P) -> bool
 
 /// From behind the default of another module on, which begins at `first`.
 #[tactic(auto, unfolding(swc_ecma_parser_module_reader::specs::Exports::behind_default))]
-fn behind_default<P: Source, T: BuildsStatements + BuildsExport>(
+fn behind_default<P: Cursor, T: BuildsStatements + BuildsExport>(
     t: &MakerOf<T>,
     p: &mut P,
     depth: usize,
@@ -335,7 +335,7 @@ fn behind_default<P: Source, T: BuildsStatements + BuildsExport>(
 
 /// Whether the default of another module stands here under a name.
 #[tactic(auto, unfolding(swc_ecma_parser_module_reader::specs::Exports::is_name_from))]
-pub fn is_name_from<P: Source>(p: &P) -> bool
+pub fn is_name_from<P: Cursor>(p: &P) -> bool
     ensures { result ≡ exports.is_name_from (P.seen p.now).code (P.seen p.now).at }
 {
     p.export_default_from() && p.name_at() && !p.sees(TokenKind::Await)
@@ -343,7 +343,7 @@ pub fn is_name_from<P: Source>(p: &P) -> bool
 
 /// An export of the default of another module, from its name on.
 #[tactic(auto, unfolding(swc_ecma_parser_module_reader::specs::Exports::name_from))]
-pub fn name_from<P: Source, T: BuildsStatements + BuildsExport>(
+pub fn name_from<P: Cursor, T: BuildsStatements + BuildsExport>(
     t: &MakerOf<T>,
     p: &mut P,
     depth: usize,
@@ -358,7 +358,7 @@ pub fn name_from<P: Source, T: BuildsStatements + BuildsExport>(
 
 /// Whether the default of another module is exported by default, where this stands behind the word.
 #[tactic(auto, unfolding(swc_ecma_parser_module_reader::specs::Exports::is_default_from))]
-pub fn is_default_from<P: Source>(p: &P) -> bool
+pub fn is_default_from<P: Cursor>(p: &P) -> bool
     ensures { result ≡ exports.is_default_from (P.seen p.now).code (P.seen p.now).at }
 {
     p.export_default_from()
@@ -369,7 +369,7 @@ pub fn is_default_from<P: Source>(p: &P) -> bool
 
 /// An export of the default of another module as the default, from behind the word on, which stands at `first`.
 #[tactic(auto, unfolding(swc_ecma_parser_module_reader::specs::Exports::default_from))]
-pub fn default_from<P: Source, T: BuildsStatements + BuildsExport>(
+pub fn default_from<P: Cursor, T: BuildsStatements + BuildsExport>(
     t: &MakerOf<T>,
     p: &mut P,
     depth: usize,

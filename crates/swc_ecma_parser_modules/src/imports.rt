@@ -10,17 +10,17 @@ ghost use Rattle.swc_ecma_parser_reader.specs.State.{Gives, GivesAs, loop, pure}
 use crate::parts::{Name, attributes, made_name, module_name, source, string};
 use std::alloc::AllocError;
 use swc_ecma_parser_common::{Boxed, Span};
+use swc_ecma_parser_cursor::{Cursor, Wanted, is_name};
 use swc_ecma_parser_error::{PResult, SyntaxError};
-use swc_ecma_parser_inner::steps::{grown, pushed, since};
 use swc_ecma_parser_input::Context;
 use swc_ecma_parser_model::{Ident, ImportPhase, Str};
-use swc_ecma_parser_source::{Source, Wanted, is_name};
+use swc_ecma_parser_shared::steps::{grown, pushed, since};
 use swc_ecma_parser_token::TokenKind;
 use swc_ecma_parser_trees::{BuildsImport, BuildsStatements, MakerOf};
 
 /// A name in braces, with the one that it is exported by where `as` stands.
 #[tactic(auto, unfolding(swc_ecma_parser_module_reader::specs::Imports::import_specifier, swc_ecma_parser_module_reader::specs::Imports::other_name))]
-fn import_specifier<P: Source, T: BuildsImport>(
+fn import_specifier<P: Cursor, T: BuildsImport>(
     t: &MakerOf<T>,
     p: &mut P,
 ) -> PResult<T::ImportSpecifier>
@@ -39,7 +39,7 @@ fn import_specifier<P: Source, T: BuildsImport>(
 }
 
 /// A name in braces without `as`: neither a reserved word nor a string.
-fn same_name<P: Source, T: BuildsImport>(
+fn same_name<P: Cursor, T: BuildsImport>(
     t: &MakerOf<T>,
     p: &mut P,
     start: Span,
@@ -64,7 +64,7 @@ fn same_name<P: Source, T: BuildsImport>(
 
 /// Names in braces, up to `}`; a comma may stand behind the last.
 #[tactic(auto, using(swc_ecma_parser_module_reader::proofs::Loops::specifiers_stop, swc_ecma_parser_module_reader::proofs::Loops::specifiers_more, swc_ecma_parser_module_reader::proofs::Loops::specifiers_last, swc_ecma_parser_module_reader::proofs::Loops::specifiers_err, swc_ecma_parser_module_reader::proofs::Falls::import_specifier_shorter, crate::proofs::Steps::imports_shorter, std::proofs::lemmas::List::map_push))]
-fn named_imports<P: Source, T: BuildsImport>(
+fn named_imports<P: Cursor, T: BuildsImport>(
     t: &MakerOf<T>,
     p: &mut P,
 ) -> PResult<Vec<T::ImportSpecifier>>
@@ -97,7 +97,7 @@ fn outside_functions(flags: Context) -> Context
 
 /// Such a name.
 #[tactic(auto, unfolding(swc_ecma_parser_module_reader::specs::Imports::binding_name))]
-fn binding_name<P: Source>(p: &mut P) -> PResult<Ident>
+fn binding_name<P: Cursor>(p: &mut P) -> PResult<Ident>
     ensures { Gives (imports.binding_name (P.seen p.old)) result (P.seen p.new) }
 {
     let outer = p.flags();
@@ -109,7 +109,7 @@ fn binding_name<P: Source>(p: &mut P) -> PResult<Ident>
 
 /// `* as name`.
 #[tactic(auto, unfolding(swc_ecma_parser_module_reader::specs::Imports::import_namespace))]
-fn import_namespace<P: Source, T: BuildsImport>(
+fn import_namespace<P: Cursor, T: BuildsImport>(
     t: &MakerOf<T>,
     p: &mut P,
 ) -> PResult<Vec<T::ImportSpecifier>>
@@ -128,7 +128,7 @@ fn import_namespace<P: Source, T: BuildsImport>(
 
 /// All names, or names in braces.
 #[tactic(auto, unfolding(swc_ecma_parser_module_reader::specs::Imports::bindings, swc_ecma_parser_module_reader::specs::Imports::specifiers))]
-fn bindings<P: Source, T: BuildsImport>(
+fn bindings<P: Cursor, T: BuildsImport>(
     t: &MakerOf<T>,
     p: &mut P,
 ) -> PResult<Vec<T::ImportSpecifier>>
@@ -145,7 +145,7 @@ fn bindings<P: Source, T: BuildsImport>(
 
 /// What stands behind a default binding; a comma may stand there with nothing behind it.
 #[tactic(auto, unfolding(swc_ecma_parser_module_reader::specs::Imports::more_bindings))]
-fn more_bindings<P: Source, T: BuildsImport>(
+fn more_bindings<P: Cursor, T: BuildsImport>(
     t: &MakerOf<T>,
     p: &mut P,
 ) -> PResult<Vec<T::ImportSpecifier>>
@@ -175,7 +175,7 @@ fn with_first<T: BuildsImport>(
 
 /// A default binding, from behind its name on.
 #[tactic(auto, unfolding(swc_ecma_parser_module_reader::specs::Imports::default_binding))]
-fn default_binding<P: Source, T: BuildsImport>(
+fn default_binding<P: Cursor, T: BuildsImport>(
     t: &MakerOf<T>,
     p: &mut P,
     local: Ident,
@@ -190,7 +190,7 @@ fn default_binding<P: Source, T: BuildsImport>(
 
 /// What is imported.
 #[tactic(auto, unfolding(swc_ecma_parser_module_reader::specs::Imports::import_clause))]
-fn import_clause<P: Source, T: BuildsImport>(
+fn import_clause<P: Cursor, T: BuildsImport>(
     t: &MakerOf<T>,
     p: &mut P,
 ) -> PResult<Vec<T::ImportSpecifier>>
@@ -205,7 +205,7 @@ fn import_clause<P: Source, T: BuildsImport>(
 
 /// An import, from behind the string on.
 #[tactic(auto, unfolding(swc_ecma_parser_module_reader::specs::Imports::imported))]
-fn imported<P: Source, T: BuildsStatements + BuildsImport>(
+fn imported<P: Cursor, T: BuildsStatements + BuildsImport>(
     t: &MakerOf<T>,
     p: &mut P,
     depth: usize,
@@ -224,7 +224,7 @@ fn imported<P: Source, T: BuildsStatements + BuildsImport>(
 
 /// An import, from what is imported on.
 #[tactic(auto, unfolding(swc_ecma_parser_module_reader::specs::Imports::import_from, swc_ecma_parser_module_reader::specs::Imports::imported))]
-fn import_from<P: Source, T: BuildsStatements + BuildsImport>(
+fn import_from<P: Cursor, T: BuildsStatements + BuildsImport>(
     t: &MakerOf<T>,
     p: &mut P,
     depth: usize,
@@ -240,7 +240,7 @@ fn import_from<P: Source, T: BuildsStatements + BuildsImport>(
 
 /// Whether what stands here makes a phase of the word before it.
 #[tactic(auto, unfolding(swc_ecma_parser_grammar::specs::language::Imports::follows_phase))]
-fn follows_phase<P: Source>(p: &P) -> bool
+fn follows_phase<P: Cursor>(p: &P) -> bool
     ensures { result ≡ grammar.follows_phase (P.seen p.now).code (P.seen p.now).at }
 {
     p.sees(TokenKind::Mul)
@@ -262,7 +262,7 @@ fn phase_of(text: &str) -> ImportPhase
 
 /// An import, from the word `source` or `defer` on: a phase, or a name for the default.
 #[tactic(auto, unfolding(swc_ecma_parser_module_reader::specs::Imports::import_phased, swc_ecma_parser_module_reader::specs::Imports::imported))]
-fn import_phased<P: Source, T: BuildsStatements + BuildsImport>(
+fn import_phased<P: Cursor, T: BuildsStatements + BuildsImport>(
     t: &MakerOf<T>,
     p: &mut P,
     depth: usize,
@@ -281,7 +281,7 @@ fn import_phased<P: Source, T: BuildsStatements + BuildsImport>(
 
 /// Whether one of these two words stands here.
 #[tactic(auto, unfolding(swc_ecma_parser_module_reader::specs::Imports::is_phase_word))]
-fn is_phase_word<P: Source>(p: &P) -> bool
+fn is_phase_word<P: Cursor>(p: &P) -> bool
     ensures { result ≡ imports.is_phase_word (P.seen p.now).at }
 {
     p.word_at("source") || p.word_at("defer")
@@ -289,7 +289,7 @@ fn is_phase_word<P: Source>(p: &P) -> bool
 
 /// An import, whose attributes may take so many levels.
 #[tactic(auto, unfolding(swc_ecma_parser_module_reader::specs::Imports::import_decl, swc_ecma_parser_module_reader::specs::Imports::imported))]
-pub fn import_decl<P: Source, T: BuildsStatements + BuildsImport>(
+pub fn import_decl<P: Cursor, T: BuildsStatements + BuildsImport>(
     t: &MakerOf<T>,
     p: &mut P,
     depth: usize,

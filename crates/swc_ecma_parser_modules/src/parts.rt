@@ -9,11 +9,11 @@ ghost use Rattle.swc_ecma_parser_reader.specs.State.{GivesAs};
 ghost use Rattle.swc_ecma_parser_trees.specs.Parts.{part_of};
 
 use std::alloc::{AllocError, Global};
-use swc_ecma_parser_core::grammar::object_alone;
+use swc_ecma_parser_cursor::{Cursor, Literal, Wanted};
 use swc_ecma_parser_error::PResult;
-use swc_ecma_parser_inner::keys::word_property;
+use swc_ecma_parser_knot::knot::object_alone;
 use swc_ecma_parser_model::{Ident, Str};
-use swc_ecma_parser_source::{Literal, Source, Wanted};
+use swc_ecma_parser_shared::keys::word_property;
 use swc_ecma_parser_token::TokenKind;
 use swc_ecma_parser_trees::{BuildsImport, BuildsItem, BuildsStatements, MakerOf};
 
@@ -36,7 +36,7 @@ pub fn made_name<T: BuildsItem>(alloc: Global, name: Name) -> Result<T::ModuleNa
 
 /// A string that must stand here.
 #[tactic(auto, unfolding(swc_ecma_parser_module_reader::specs::Imports::str))]
-pub fn string<P: Source>(p: &mut P) -> PResult<Str>
+pub fn string<P: Cursor>(p: &mut P) -> PResult<Str>
     ensures { GivesAs str_of (imports.str (P.seen p.old)) result (P.seen p.new) }
 {
     if !p.sees(TokenKind::Str) {
@@ -55,7 +55,7 @@ pub fn string<P: Source>(p: &mut P) -> PResult<Str>
 
 /// From the word `from` on: where the other module is.
 #[tactic(auto, unfolding(swc_ecma_parser_module_reader::specs::Imports::source))]
-pub fn source<P: Source>(p: &mut P) -> PResult<Str>
+pub fn source<P: Cursor>(p: &mut P) -> PResult<Str>
     ensures { GivesAs str_of (imports.source (P.seen p.old)) result (P.seen p.new) }
 {
     p.expect_word("from")?;
@@ -64,7 +64,7 @@ pub fn source<P: Source>(p: &mut P) -> PResult<Str>
 
 /// A name by which a module exports something.
 #[tactic(auto, unfolding(swc_ecma_parser_module_reader::specs::Imports::module_name))]
-pub fn module_name<P: Source>(p: &mut P) -> PResult<Name>
+pub fn module_name<P: Cursor>(p: &mut P) -> PResult<Name>
     ensures { GivesAs name_of (imports.module_name (P.seen p.old)) result (P.seen p.new) }
 {
     if p.sees(TokenKind::Str) {
@@ -75,7 +75,7 @@ pub fn module_name<P: Source>(p: &mut P) -> PResult<Name>
 
 /// Whether attributes of an import stand here.
 #[tactic(auto, unfolding(swc_ecma_parser_grammar::specs::language::ModuleParts::begins_attributes))]
-fn begins_attributes<P: Source>(p: &P) -> bool
+fn begins_attributes<P: Cursor>(p: &P) -> bool
     ensures { result ≡ parts.begins_attributes (P.seen p.now).code (P.seen p.now).at }
 {
     p.import_attributes() && !p.had_line_break() && (p.sees(TokenKind::With) || p.word_at("assert"))
@@ -94,7 +94,7 @@ fn present<A>(found: Option<A>) -> A
 
 /// The attributes of another module, whose object may take so many levels, or none.
 #[tactic(auto, unfolding(swc_ecma_parser_module_reader::specs::Imports::attributes))]
-pub fn attributes<P: Source, T: BuildsStatements + BuildsImport>(
+pub fn attributes<P: Cursor, T: BuildsStatements + BuildsImport>(
     t: &MakerOf<T>,
     p: &mut P,
     depth: usize,

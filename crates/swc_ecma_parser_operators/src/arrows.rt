@@ -1,6 +1,6 @@
 //! What stands in parentheses, behind `async` too, and arrow functions that begin there: ECMA-262, sections 13.2.9, 15.3 and 15.9.
 
-ghost use Rattle.swc_ecma_parser_inner.specs.Nests.{Nests};
+ghost use Rattle.swc_ecma_parser_shared.specs.Nests.{Nests};
 ghost use Rattle.swc_ecma_parser_reader.specs.Arrows as arrows;
 ghost use Rattle.swc_ecma_parser_reader.specs.AsyncArrows as async_arrows;
 ghost use Rattle.swc_ecma_parser_reader.specs.Reader as rules;
@@ -8,16 +8,16 @@ ghost use Rattle.swc_ecma_parser_reader.specs.State.{GivesAs};
 
 use crate::assignment::continued;
 use swc_ecma_parser_arrows::arrows::arrow_from;
+use swc_ecma_parser_cursor::Cursor;
 use swc_ecma_parser_error::PResult;
 use swc_ecma_parser_grammar::Position;
-use swc_ecma_parser_groups::arguments::{argument_parameters, async_called, either_arguments};
-use swc_ecma_parser_groups::closed::closed_group;
-use swc_ecma_parser_groups::group::parenthesized;
-use swc_ecma_parser_groups::parameters::parameters_of;
-use swc_ecma_parser_inner::cover::{Cover, Reading};
-use swc_ecma_parser_inner::grammar::{Grammar, Part};
-use swc_ecma_parser_left::left::ident_expr;
-use swc_ecma_parser_source::Source;
+use swc_ecma_parser_left_sides::left::ident_expr;
+use swc_ecma_parser_parentheses::arguments::{argument_parameters, async_called, either_arguments};
+use swc_ecma_parser_parentheses::closed::closed_group;
+use swc_ecma_parser_parentheses::group::parenthesized;
+use swc_ecma_parser_parentheses::parameters::parameters_of;
+use swc_ecma_parser_shared::cover::{Cover, Reading};
+use swc_ecma_parser_shared::grammar::{Grammar, Part};
 use swc_ecma_parser_token::TokenKind;
 use swc_ecma_parser_trees::{
     BuildsCall, BuildsExpr, BuildsMethod, BuildsOperator, BuildsPattern, MakerOf,
@@ -27,7 +27,7 @@ use swc_ecma_parser_trees::{
 #[tactic(auto, unfolding(swc_ecma_parser_reader::specs::Arrows::grouped))]
 #[inline(never)]
 pub(crate) fn grouped<
-    P: Source,
+    P: Cursor,
     T: BuildsExpr + BuildsCall + BuildsMethod + BuildsOperator + BuildsPattern,
     S: Fn(&MakerOf<T>, &mut P, usize, Position) -> PResult<T::Stmt>,
     E: Fn(&MakerOf<T>, &mut P, usize, Reading) -> PResult<Cover<T::Expr>>,
@@ -51,7 +51,7 @@ pub(crate) fn grouped<
 #[tactic(auto, unfolding(swc_ecma_parser_reader::specs::AsyncArrows::async_grouped))]
 #[inline(never)]
 pub(crate) fn async_grouped<
-    P: Source,
+    P: Cursor,
     T: BuildsExpr + BuildsCall + BuildsMethod + BuildsOperator + BuildsPattern,
     S: Fn(&MakerOf<T>, &mut P, usize, Position) -> PResult<T::Stmt>,
     E: Fn(&MakerOf<T>, &mut P, usize, Reading) -> PResult<Cover<T::Expr>>,

@@ -1,8 +1,8 @@
 //! Assignment expressions, and arrays and objects that may become patterns: ECMA-262, section 13.15.
 
 ghost use Rattle.std.specs.Prelude.{◌≡◌, true};
-ghost use Rattle.swc_ecma_parser_inner.specs.Covers.{cover_of};
-ghost use Rattle.swc_ecma_parser_inner.specs.Nests.{Nests};
+ghost use Rattle.swc_ecma_parser_shared.specs.Covers.{cover_of};
+ghost use Rattle.swc_ecma_parser_shared.specs.Nests.{Nests};
 ghost use Rattle.swc_ecma_parser_reader.specs.AwaitWords as words;
 ghost use Rattle.swc_ecma_parser_reader.specs.Expressions as exprs;
 ghost use Rattle.swc_ecma_parser_reader.specs.Expressions.{is_literal};
@@ -14,17 +14,17 @@ use crate::operator::{assigns_here, behind_operators, plain_expr, postfixed, seq
 use swc_ecma_parser_arrows::arrows::{arrow_of_one, only_parameter};
 use swc_ecma_parser_arrows::awaits::awaited;
 use swc_ecma_parser_common::Span;
+use swc_ecma_parser_cursor::{Cursor, Wanted};
 use swc_ecma_parser_error::PResult;
 use swc_ecma_parser_grammar::{Class, Position};
-use swc_ecma_parser_inner::cover::{Cover, Reading, close, done, nested, target};
-use swc_ecma_parser_inner::grammar::{Grammar, Part};
-use swc_ecma_parser_inner::operators::{Operands, binary_from, operator_here};
-use swc_ecma_parser_inner::steps::{grown, since};
-use swc_ecma_parser_left::left::left_from;
+use swc_ecma_parser_left_sides::left::left_from;
 use swc_ecma_parser_literals::array::array;
 use swc_ecma_parser_literals::object::object;
 use swc_ecma_parser_model::AssignOp;
-use swc_ecma_parser_source::{Source, Wanted};
+use swc_ecma_parser_shared::cover::{Cover, Reading, close, done, nested, target};
+use swc_ecma_parser_shared::grammar::{Grammar, Part};
+use swc_ecma_parser_shared::operators::{Operands, binary_from, operator_here};
+use swc_ecma_parser_shared::steps::{grown, since};
 use swc_ecma_parser_token::TokenKind;
 use swc_ecma_parser_trees::{
     BuildsCall, BuildsExpr, BuildsMethod, BuildsOperator, BuildsPattern, MakerOf,
@@ -32,7 +32,7 @@ use swc_ecma_parser_trees::{
 
 /// Whether anything but `=` goes on with an array or object here.
 #[tactic(auto, unfolding(swc_ecma_parser_reader::specs::Expressions::goes_on))]
-fn goes_on<P: Source>(p: &P) -> bool
+fn goes_on<P: Cursor>(p: &P) -> bool
     ensures { result ≡ exprs.goes_on (P.seen p.now) }
 {
     p.continues_left_side()
@@ -44,7 +44,7 @@ fn goes_on<P: Source>(p: &P) -> bool
 /// What goes on with an array or object, or with what stands in parentheses, that was read from a place on.
 #[tactic(auto, unfolding(swc_ecma_parser_reader::specs::Expressions::continued, swc_ecma_parser_reader::specs::Expressions::postfixed))]
 pub(crate) fn continued<
-    P: Source,
+    P: Cursor,
     T: BuildsCall + BuildsOperator,
     S: Fn(&MakerOf<T>, &mut P, usize, Position) -> PResult<T::Stmt>,
     E: Fn(&MakerOf<T>, &mut P, usize, Reading) -> PResult<Cover<T::Expr>>,
@@ -63,7 +63,7 @@ pub(crate) fn continued<
 #[tactic(auto, unfolding(swc_ecma_parser_reader::specs::Expressions::closed))]
 #[inline(never)]
 fn closed<
-    P: Source,
+    P: Cursor,
     T: BuildsCall + BuildsOperator,
     S: Fn(&MakerOf<T>, &mut P, usize, Position) -> PResult<T::Stmt>,
     E: Fn(&MakerOf<T>, &mut P, usize, Reading) -> PResult<Cover<T::Expr>>,
@@ -86,7 +86,7 @@ fn closed<
 #[tactic(auto, unfolding(swc_ecma_parser_reader::specs::Expressions::assigned_pattern, swc_ecma_parser_reader::specs::Expressions::assigned_to))]
 #[inline(never)]
 fn assigned_pattern<
-    P: Source,
+    P: Cursor,
     T: BuildsOperator + BuildsPattern,
     S: Fn(&MakerOf<T>, &mut P, usize, Position) -> PResult<T::Stmt>,
     E: Fn(&MakerOf<T>, &mut P, usize, Reading) -> PResult<Cover<T::Expr>>,
@@ -116,7 +116,7 @@ fn assigned_pattern<
 /// What stands behind an array or object, which is left open where nothing goes on with it.
 #[tactic(auto, unfolding(swc_ecma_parser_reader::specs::Expressions::behind_literal))]
 fn behind_literal<
-    P: Source,
+    P: Cursor,
     T: BuildsCall + BuildsOperator + BuildsPattern,
     S: Fn(&MakerOf<T>, &mut P, usize, Position) -> PResult<T::Stmt>,
     E: Fn(&MakerOf<T>, &mut P, usize, Reading) -> PResult<Cover<T::Expr>>,
@@ -145,7 +145,7 @@ fn behind_literal<
 #[tactic(auto, unfolding(swc_ecma_parser_reader::specs::Expressions::open_literal))]
 #[inline(never)]
 fn open_literal<
-    P: Source,
+    P: Cursor,
     T: BuildsCall + BuildsMethod + BuildsOperator + BuildsPattern,
     S: Fn(&MakerOf<T>, &mut P, usize, Position) -> PResult<T::Stmt>,
     E: Fn(&MakerOf<T>, &mut P, usize, Reading) -> PResult<Cover<T::Expr>>,
@@ -166,7 +166,7 @@ fn open_literal<
 /// An assignment expression that may still become a pattern.
 #[tactic(auto, unfolding(swc_ecma_parser_reader::specs::Expressions::cover_expr, swc_ecma_parser_reader::specs::Expressions::done_expr))]
 pub fn cover_expr<
-    P: Source,
+    P: Cursor,
     T: BuildsExpr + BuildsCall + BuildsMethod + BuildsOperator + BuildsPattern,
     S: Fn(&MakerOf<T>, &mut P, usize, Position) -> PResult<T::Stmt>,
     E: Fn(&MakerOf<T>, &mut P, usize, Reading) -> PResult<Cover<T::Expr>>,
@@ -184,7 +184,7 @@ pub fn cover_expr<
 /// An assignment expression: section 13.15.
 #[tactic(auto, unfolding(swc_ecma_parser_reader::specs::Expressions::assignment_expr))]
 pub(crate) fn assignment_expr<
-    P: Source,
+    P: Cursor,
     T: BuildsExpr + BuildsCall + BuildsMethod + BuildsOperator + BuildsPattern,
     S: Fn(&MakerOf<T>, &mut P, usize, Position) -> PResult<T::Stmt>,
     E: Fn(&MakerOf<T>, &mut P, usize, Reading) -> PResult<Cover<T::Expr>>,
@@ -201,7 +201,7 @@ pub(crate) fn assignment_expr<
 #[tactic(auto, unfolding(swc_ecma_parser_reader::specs::Heads::head_expr, swc_ecma_parser_reader::specs::Heads::sequenced))]
 #[inline(never)]
 pub fn head_expr<
-    P: Source,
+    P: Cursor,
     T: BuildsExpr + BuildsCall + BuildsMethod + BuildsOperator + BuildsPattern,
     S: Fn(&MakerOf<T>, &mut P, usize, Position) -> PResult<T::Stmt>,
     E: Fn(&MakerOf<T>, &mut P, usize, Reading) -> PResult<Cover<T::Expr>>,
@@ -223,7 +223,7 @@ pub fn head_expr<
 #[tactic(auto, unfolding(swc_ecma_parser_reader::specs::Heads::head_behind_async, swc_ecma_parser_reader::specs::Heads::async_arrow_from, swc_ecma_parser_reader::specs::Heads::sequenced, swc_ecma_parser_reader::specs::Expressions::close))]
 #[inline(never)]
 pub fn head_behind_async<
-    P: Source,
+    P: Cursor,
     T: BuildsExpr + BuildsCall + BuildsMethod + BuildsOperator + BuildsPattern,
     S: Fn(&MakerOf<T>, &mut P, usize, Position) -> PResult<T::Stmt>,
     E: Fn(&MakerOf<T>, &mut P, usize, Reading) -> PResult<Cover<T::Expr>>,
@@ -247,7 +247,7 @@ pub fn head_behind_async<
 #[tactic(auto, unfolding(swc_ecma_parser_reader::specs::AwaitWords::awaited_expr, swc_ecma_parser_reader::specs::AwaitWords::awaited_operators, swc_ecma_parser_reader::specs::AwaitWords::awaited_binary))]
 #[inline(never)]
 pub fn expr_behind_await<
-    P: Source,
+    P: Cursor,
     T: BuildsExpr + BuildsCall + BuildsMethod + BuildsOperator + BuildsPattern,
     S: Fn(&MakerOf<T>, &mut P, usize, Position) -> PResult<T::Stmt>,
     E: Fn(&MakerOf<T>, &mut P, usize, Reading) -> PResult<Cover<T::Expr>>,

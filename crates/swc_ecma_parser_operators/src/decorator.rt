@@ -3,7 +3,7 @@
 ghost use Rattle.std.specs.Prelude.{◌≡◌};
 ghost use Rattle.swc_ecma_parser_grammar.specs.Looks.{sees};
 ghost use Rattle.swc_ecma_parser_grammar.specs.language.Goals.{expression};
-ghost use Rattle.swc_ecma_parser_inner.specs.Nests.{Nests};
+ghost use Rattle.swc_ecma_parser_shared.specs.Nests.{Nests};
 ghost use Rattle.swc_ecma_parser_reader.specs.Decorators as decorators;
 ghost use Rattle.swc_ecma_parser_reader.specs.Expressions as exprs;
 ghost use Rattle.swc_ecma_parser_reader.specs.Reader as rules;
@@ -12,27 +12,27 @@ ghost use Rattle.swc_ecma_parser_token.specs.declared.kind.TokenKind.TheVariants
 
 use crate::operator::expr_level;
 use swc_ecma_parser_common::Span;
+use swc_ecma_parser_cursor::{Cursor, Wanted};
 use swc_ecma_parser_error::PResult;
 use swc_ecma_parser_grammar::{Class, Position};
-use swc_ecma_parser_inner::cover::{Cover, Reading};
-use swc_ecma_parser_inner::grammar::{Grammar, Part};
-use swc_ecma_parser_inner::steps::{grown, with_in};
-use swc_ecma_parser_left::left::{accessed, called};
-use swc_ecma_parser_source::{Source, Wanted};
+use swc_ecma_parser_left_sides::left::{accessed, called};
+use swc_ecma_parser_shared::cover::{Cover, Reading};
+use swc_ecma_parser_shared::grammar::{Grammar, Part};
+use swc_ecma_parser_shared::steps::{grown, with_in};
 use swc_ecma_parser_token::TokenKind;
 use swc_ecma_parser_trees::{
     BuildsCall, BuildsExpr, BuildsMethod, BuildsOperator, BuildsPattern, MakerOf,
 };
 
 /// Whether an access by `.` begins here.
-fn begins_access<P: Source>(p: &P) -> bool
+fn begins_access<P: Cursor>(p: &P) -> bool
     ensures { result ≡ sees kind.Dot (P.seen p.now).at }
 {
     p.sees(TokenKind::Dot)
 }
 
 /// Whether arguments begin here.
-fn begins_arguments<P: Source>(p: &P) -> bool
+fn begins_arguments<P: Cursor>(p: &P) -> bool
     ensures { result ≡ sees kind.LParen (P.seen p.now).at }
 {
     p.sees(TokenKind::LParen)
@@ -41,7 +41,7 @@ fn begins_arguments<P: Source>(p: &P) -> bool
 /// What goes on with a name: accesses by `.`, and arguments.
 #[tactic(auto, unfolding(swc_ecma_parser_reader::specs::Decorators::chain_from), using(swc_ecma_parser_reader::proofs::decorators::Loops::chain_done, swc_ecma_parser_reader::proofs::decorators::Loops::chain_accessed, swc_ecma_parser_reader::proofs::decorators::Loops::chain_access_err, swc_ecma_parser_reader::proofs::decorators::Loops::chain_called, swc_ecma_parser_reader::proofs::decorators::Loops::chain_call_err, swc_ecma_parser_reader::proofs::expressions::Loops::accessed_shorter, swc_ecma_parser_reader::proofs::expressions::Loops::called_shorter))]
 fn chain_from<
-    P: Source,
+    P: Cursor,
     T: BuildsCall,
     S: Fn(&MakerOf<T>, &mut P, usize, Position) -> PResult<T::Stmt>,
     E: Fn(&MakerOf<T>, &mut P, usize, Reading) -> PResult<Cover<T::Expr>>,
@@ -65,7 +65,7 @@ fn chain_from<
 /// A name, and what goes on with it.
 #[tactic(auto, unfolding(swc_ecma_parser_reader::specs::Decorators::chain))]
 fn chain<
-    P: Source,
+    P: Cursor,
     T: BuildsExpr + BuildsCall,
     S: Fn(&MakerOf<T>, &mut P, usize, Position) -> PResult<T::Stmt>,
     E: Fn(&MakerOf<T>, &mut P, usize, Reading) -> PResult<Cover<T::Expr>>,
@@ -83,7 +83,7 @@ fn chain<
 /// Arguments behind an expression in parentheses, which they call.
 #[tactic(auto, unfolding(swc_ecma_parser_reader::specs::Decorators::behind_group))]
 fn behind_group<
-    P: Source,
+    P: Cursor,
     T: BuildsCall,
     S: Fn(&MakerOf<T>, &mut P, usize, Position) -> PResult<T::Stmt>,
     E: Fn(&MakerOf<T>, &mut P, usize, Reading) -> PResult<Cover<T::Expr>>,
@@ -101,7 +101,7 @@ fn behind_group<
 /// An expression in parentheses, which the tree does not keep, and its arguments.
 #[tactic(auto, unfolding(swc_ecma_parser_reader::specs::Decorators::group))]
 fn group<
-    P: Source,
+    P: Cursor,
     T: BuildsExpr + BuildsCall + BuildsMethod + BuildsOperator + BuildsPattern,
     S: Fn(&MakerOf<T>, &mut P, usize, Position) -> PResult<T::Stmt>,
     E: Fn(&MakerOf<T>, &mut P, usize, Reading) -> PResult<Cover<T::Expr>>,
@@ -123,7 +123,7 @@ fn group<
 /// What stands behind `@`: a name with what goes on with it, or an expression in parentheses.
 #[tactic(auto, unfolding(swc_ecma_parser_reader::specs::Decorators::decorated))]
 pub fn decorated_level<
-    P: Source,
+    P: Cursor,
     T: BuildsExpr + BuildsCall + BuildsMethod + BuildsOperator + BuildsPattern,
     S: Fn(&MakerOf<T>, &mut P, usize, Position) -> PResult<T::Stmt>,
     E: Fn(&MakerOf<T>, &mut P, usize, Reading) -> PResult<Cover<T::Expr>>,

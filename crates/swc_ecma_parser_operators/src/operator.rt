@@ -3,7 +3,7 @@
 ghost use Rattle.std.specs.Prelude.{◌≡◌, ◌&&◌, IfOk, map};
 ghost use Rattle.swc_ecma_parser_error.specs.Kind.{kind_of};
 ghost use Rattle.swc_ecma_parser_grammar.specs.language.Continues.{continues_conditional};
-ghost use Rattle.swc_ecma_parser_inner.specs.Nests.{Nests};
+ghost use Rattle.swc_ecma_parser_shared.specs.Nests.{Nests};
 ghost use Rattle.swc_ecma_parser_reader.specs.Classes.{class_of};
 ghost use Rattle.swc_ecma_parser_reader.specs.Expressions as exprs;
 ghost use Rattle.swc_ecma_parser_reader.specs.Reader as rules;
@@ -16,15 +16,15 @@ use swc_ecma_parser_arrows::arrows::{async_named_arrow, named_arrow};
 use swc_ecma_parser_arrows::awaits::await_expr;
 use swc_ecma_parser_arrows::yields::{begins_yield, yield_expr};
 use swc_ecma_parser_common::Span;
+use swc_ecma_parser_cursor::{Cursor, Wanted, assign_operator, unary_operator, update_operator};
 use swc_ecma_parser_error::{PResult, SyntaxError};
 use swc_ecma_parser_grammar::{Class, Position};
-use swc_ecma_parser_inner::cover::{Cover, Reading, inside, nested};
-use swc_ecma_parser_inner::grammar::{Grammar, Part};
-use swc_ecma_parser_inner::operators::{Operands, binary_from};
-use swc_ecma_parser_inner::steps::{grown, pushed, since};
-use swc_ecma_parser_left::left::{left, left_expr};
+use swc_ecma_parser_left_sides::left::{left, left_expr};
 use swc_ecma_parser_model::{AssignOp, UnaryOp, UpdateOp};
-use swc_ecma_parser_source::{Source, Wanted, assign_operator, unary_operator, update_operator};
+use swc_ecma_parser_shared::cover::{Cover, Reading, inside, nested};
+use swc_ecma_parser_shared::grammar::{Grammar, Part};
+use swc_ecma_parser_shared::operators::{Operands, binary_from};
+use swc_ecma_parser_shared::steps::{grown, pushed, since};
 use swc_ecma_parser_token::TokenKind;
 use swc_ecma_parser_trees::{
     BuildsCall, BuildsExpr, BuildsMethod, BuildsOperator, BuildsPattern, MakerOf,
@@ -34,7 +34,7 @@ use swc_ecma_parser_trees::{
 #[tactic(auto, unfolding(swc_ecma_parser_reader::specs::Expressions::prefixed))]
 #[inline(never)]
 fn prefixed<
-    P: Source,
+    P: Cursor,
     T: BuildsOperator,
     S: Fn(&MakerOf<T>, &mut P, usize, Position) -> PResult<T::Stmt>,
     E: Fn(&MakerOf<T>, &mut P, usize, Reading) -> PResult<Cover<T::Expr>>,
@@ -52,7 +52,7 @@ fn prefixed<
 
 /// Refuses what `++` and `--` do not stand at.
 #[tactic(auto, unfolding(swc_ecma_parser_reader::specs::Expressions::simple))]
-fn simple<P: Source, T: BuildsOperator>(p: &mut P, x: &T::Expr) -> PResult<()>
+fn simple<P: Cursor, T: BuildsOperator>(p: &mut P, x: &T::Expr) -> PResult<()>
     ensures { Gives (exprs.simple (T.expr_of x.now) (P.seen p.old)) result (P.seen p.new) }
 {
     if T::is_simple_target(x) {
@@ -65,7 +65,7 @@ fn simple<P: Source, T: BuildsOperator>(p: &mut P, x: &T::Expr) -> PResult<()>
 #[tactic(auto, unfolding(swc_ecma_parser_reader::specs::Expressions::update_before))]
 #[inline(never)]
 fn update_before<
-    P: Source,
+    P: Cursor,
     T: BuildsOperator,
     S: Fn(&MakerOf<T>, &mut P, usize, Position) -> PResult<T::Stmt>,
     E: Fn(&MakerOf<T>, &mut P, usize, Reading) -> PResult<Cover<T::Expr>>,
@@ -85,7 +85,7 @@ fn update_before<
 /// `++` or `--` behind its operand.
 #[tactic(auto, unfolding(swc_ecma_parser_reader::specs::Expressions::update_behind))]
 #[inline(never)]
-fn update_behind<P: Source, T: BuildsOperator>(
+fn update_behind<P: Cursor, T: BuildsOperator>(
     alloc: Global,
     p: &mut P,
     start: Span,
@@ -102,7 +102,7 @@ fn update_behind<P: Source, T: BuildsOperator>(
 
 /// The operator that stands here, on the line of what was read.
 #[tactic(auto, unfolding(swc_ecma_parser_reader::specs::Expressions::postfix_at))]
-fn postfix_here<P: Source>(p: &P) -> Option<UpdateOp>
+fn postfix_here<P: Cursor>(p: &P) -> Option<UpdateOp>
     ensures { result ≡ exprs.postfix_at (P.seen p.now).at }
 {
     if p.had_line_break() {
@@ -112,7 +112,7 @@ fn postfix_here<P: Source>(p: &P) -> Option<UpdateOp>
 }
 
 /// `++` or `--`, if it stands on the line of an operand that was read from a place on.
-pub(crate) fn postfixed<P: Source, T: BuildsOperator>(
+pub(crate) fn postfixed<P: Cursor, T: BuildsOperator>(
     alloc: Global,
     p: &mut P,
     start: Span,
@@ -129,7 +129,7 @@ pub(crate) fn postfixed<P: Source, T: BuildsOperator>(
 /// An operand, and `++` or `--` behind it on its line.
 #[tactic(auto, unfolding(swc_ecma_parser_reader::specs::Expressions::postfix))]
 fn postfix<
-    P: Source,
+    P: Cursor,
     T: BuildsExpr + BuildsCall + BuildsMethod + BuildsOperator + BuildsPattern,
     S: Fn(&MakerOf<T>, &mut P, usize, Position) -> PResult<T::Stmt>,
     E: Fn(&MakerOf<T>, &mut P, usize, Reading) -> PResult<Cover<T::Expr>>,
@@ -147,7 +147,7 @@ fn postfix<
 #[tactic(auto, unfolding(swc_ecma_parser_reader::specs::Expressions::unary_expr))]
 #[inline(never)]
 fn unary_expr<
-    P: Source,
+    P: Cursor,
     T: BuildsExpr + BuildsCall + BuildsMethod + BuildsOperator + BuildsPattern,
     S: Fn(&MakerOf<T>, &mut P, usize, Position) -> PResult<T::Stmt>,
     E: Fn(&MakerOf<T>, &mut P, usize, Reading) -> PResult<Cover<T::Expr>>,
@@ -171,7 +171,7 @@ fn unary_expr<
 /// Operands and operators that bind at least so tightly: sections 13.6 to 13.13.
 #[tactic(auto, unfolding(swc_ecma_parser_reader::specs::Expressions::binary_expr))]
 fn binary_expr<
-    P: Source,
+    P: Cursor,
     T: BuildsExpr + BuildsCall + BuildsMethod + BuildsOperator + BuildsPattern,
     S: Fn(&MakerOf<T>, &mut P, usize, Position) -> PResult<T::Stmt>,
     E: Fn(&MakerOf<T>, &mut P, usize, Reading) -> PResult<Cover<T::Expr>>,
@@ -187,7 +187,7 @@ fn binary_expr<
 
 /// Whether an assignment operator stands here.
 #[tactic(auto, unfolding(swc_ecma_parser_grammar::specs::language::Continues::continues_conditional))]
-pub(crate) fn assigns_here<P: Source>(p: &P) -> bool
+pub(crate) fn assigns_here<P: Cursor>(p: &P) -> bool
     ensures { result ≡ continues_conditional (P.seen p.now).at }
 {
     assign_operator(p.kind()).is_some()
@@ -197,7 +197,7 @@ pub(crate) fn assigns_here<P: Source>(p: &P) -> bool
 #[tactic(auto, unfolding(swc_ecma_parser_reader::specs::Expressions::conditional, swc_ecma_parser_reader::specs::Expressions::unassigned))]
 #[inline(never)]
 fn conditional<
-    P: Source,
+    P: Cursor,
     T: BuildsOperator,
     S: Fn(&MakerOf<T>, &mut P, usize, Position) -> PResult<T::Stmt>,
     E: Fn(&MakerOf<T>, &mut P, usize, Reading) -> PResult<Cover<T::Expr>>,
@@ -231,7 +231,7 @@ fn unassignable(op: AssignOp) -> SyntaxError
 #[tactic(auto, unfolding(swc_ecma_parser_reader::specs::Expressions::assigned, swc_ecma_parser_reader::specs::Expressions::assigned_to))]
 #[inline(never)]
 fn assigned<
-    P: Source,
+    P: Cursor,
     T: BuildsOperator,
     S: Fn(&MakerOf<T>, &mut P, usize, Position) -> PResult<T::Stmt>,
     E: Fn(&MakerOf<T>, &mut P, usize, Reading) -> PResult<Cover<T::Expr>>,
@@ -259,7 +259,7 @@ fn assigned<
 /// Whether what was read, and the token that stands here, begin an arrow function; `is_async` where it was read from `async` and
 /// `(` on.
 #[tactic(auto, unfolding(swc_ecma_parser_reader::specs::Expressions::heads_arrow), using(crate::proofs::Heads::is_head_by))]
-fn heads_arrow<P: Source, T: BuildsCall>(p: &P, is_async: bool, x: &T::Expr) -> bool
+fn heads_arrow<P: Cursor, T: BuildsCall>(p: &P, is_async: bool, x: &T::Expr) -> bool
     ensures { result ≡ exprs.heads_arrow is_async (T.expr_of x.now) (P.seen p.now) }
 {
     (T::is_ident(x) || T::is_paren(x) || is_async && T::is_async_call(x))
@@ -271,7 +271,7 @@ fn heads_arrow<P: Source, T: BuildsCall>(p: &P, is_async: bool, x: &T::Expr) -> 
 #[tactic(auto, unfolding(swc_ecma_parser_reader::specs::Expressions::behind_operators, swc_ecma_parser_reader::specs::Expressions::unheaded))]
 #[inline(never)]
 pub(crate) fn behind_operators<
-    P: Source,
+    P: Cursor,
     T: BuildsCall + BuildsOperator,
     S: Fn(&MakerOf<T>, &mut P, usize, Position) -> PResult<T::Stmt>,
     E: Fn(&MakerOf<T>, &mut P, usize, Reading) -> PResult<Cover<T::Expr>>,
@@ -303,7 +303,7 @@ pub(crate) fn behind_operators<
 #[tactic(auto, unfolding(swc_ecma_parser_reader::specs::Expressions::operators_expr))]
 #[inline(never)]
 fn operators_expr<
-    P: Source,
+    P: Cursor,
     T: BuildsExpr + BuildsCall + BuildsMethod + BuildsOperator + BuildsPattern,
     S: Fn(&MakerOf<T>, &mut P, usize, Position) -> PResult<T::Stmt>,
     E: Fn(&MakerOf<T>, &mut P, usize, Reading) -> PResult<Cover<T::Expr>>,
@@ -321,7 +321,7 @@ fn operators_expr<
 /// `yield` and arrow functions, which are no operands, or operands and operators.
 #[tactic(auto, unfolding(swc_ecma_parser_reader::specs::Expressions::plain_expr, swc_ecma_parser_reader::specs::Arrows::begins_named_arrow))]
 pub(crate) fn plain_expr<
-    P: Source,
+    P: Cursor,
     T: BuildsExpr + BuildsCall + BuildsMethod + BuildsOperator + BuildsPattern,
     S: Fn(&MakerOf<T>, &mut P, usize, Position) -> PResult<T::Stmt>,
     E: Fn(&MakerOf<T>, &mut P, usize, Reading) -> PResult<Cover<T::Expr>>,
@@ -352,7 +352,7 @@ pub(crate) fn plain_expr<
 #[tactic(auto, unfolding(swc_ecma_parser_reader::specs::Expressions::sequence_from), using(swc_ecma_parser_reader::proofs::expressions::Loops::sequence_done, swc_ecma_parser_reader::proofs::expressions::Loops::sequence_more, swc_ecma_parser_reader::proofs::expressions::Loops::sequence_err, swc_ecma_parser_reader::proofs::expressions::Loops::assignment_shorter, swc_ecma_parser_reader::proofs::expressions::Loops::sequence_shorter, std::proofs::lemmas::List::map_push))]
 #[inline(never)]
 pub(crate) fn sequence_from<
-    P: Source,
+    P: Cursor,
     T: BuildsExpr + BuildsCall + BuildsMethod + BuildsOperator + BuildsPattern,
     S: Fn(&MakerOf<T>, &mut P, usize, Position) -> PResult<T::Stmt>,
     E: Fn(&MakerOf<T>, &mut P, usize, Reading) -> PResult<Cover<T::Expr>>,
@@ -379,7 +379,7 @@ pub(crate) fn sequence_from<
 #[tactic(auto, unfolding(swc_ecma_parser_reader::specs::Expressions::expression_expr))]
 #[inline(never)]
 fn expression_expr<
-    P: Source,
+    P: Cursor,
     T: BuildsExpr + BuildsCall + BuildsMethod + BuildsOperator + BuildsPattern,
     S: Fn(&MakerOf<T>, &mut P, usize, Position) -> PResult<T::Stmt>,
     E: Fn(&MakerOf<T>, &mut P, usize, Reading) -> PResult<Cover<T::Expr>>,
@@ -399,7 +399,7 @@ fn expression_expr<
 /// An expression of a class.
 #[tactic(auto, unfolding(swc_ecma_parser_reader::specs::Expressions::expr_level))]
 pub fn expr_level<
-    P: Source,
+    P: Cursor,
     T: BuildsExpr + BuildsCall + BuildsMethod + BuildsOperator + BuildsPattern,
     S: Fn(&MakerOf<T>, &mut P, usize, Position) -> PResult<T::Stmt>,
     E: Fn(&MakerOf<T>, &mut P, usize, Reading) -> PResult<Cover<T::Expr>>,

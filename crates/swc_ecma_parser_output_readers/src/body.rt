@@ -8,12 +8,12 @@ ghost use Rattle.swc_ecma_parser_reader.specs.State as reader;
 ghost use Rattle.swc_ecma_parser_reader.specs.State.{GivesAs};
 
 use crate::like::{StmtLikeParser, stmt_like};
+use swc_ecma_parser_cursor::Cursor;
 use swc_ecma_parser_error::PResult;
 use swc_ecma_parser_grammar::Position;
-use swc_ecma_parser_inner::steps::pushed;
 use swc_ecma_parser_input::Context;
 use swc_ecma_parser_outputs::{FromStmt, IsDirective};
-use swc_ecma_parser_source::Source;
+use swc_ecma_parser_shared::steps::pushed;
 use swc_ecma_parser_token::TokenKind;
 use swc_ecma_parser_trees::{BuildsStatements, MakerOf};
 
@@ -28,7 +28,7 @@ pub enum BodyEnd {
 
 /// Whether a body ends here.
 #[tactic(auto, unfolding(swc_ecma_parser_reader::specs::Reader::closes, swc_ecma_parser_reader::specs::Reader::at_end))]
-fn ends<P: Source>(p: &P, end: BodyEnd) -> bool
+fn ends<P: Cursor>(p: &P, end: BodyEnd) -> bool
     ensures { result ≡ ends_at end (P.seen p.now).at }
 {
     match end {
@@ -38,7 +38,7 @@ fn ends<P: Source>(p: &P, end: BodyEnd) -> bool
 }
 
 /// Turns strict what follows a directive that says so, and says whether the next can be a directive too.
-fn direct<P: Source, Y: IsDirective>(p: &mut P, directives: bool, item: &Y) -> bool
+fn direct<P: Cursor, Y: IsDirective>(p: &mut P, directives: bool, item: &Y) -> bool
     ensures state { P.seen p.new ≡ reader.coded (directed (P.seen p.old).code directives (Y.held item.now)) (P.seen p.old) }
     ensures next { result ≡ directs_on directives (Y.held item.now) }
 {

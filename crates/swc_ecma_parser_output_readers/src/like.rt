@@ -6,16 +6,16 @@ ghost use Rattle.swc_ecma_parser_module_reader.specs.Modules as modules;
 ghost use Rattle.swc_ecma_parser_output_readers.specs.Items as items;
 ghost use Rattle.swc_ecma_parser_reader.specs.State.{GivesAs};
 
+use swc_ecma_parser_cursor::Cursor;
 use swc_ecma_parser_error::PResult;
 use swc_ecma_parser_grammar::Position;
 use swc_ecma_parser_outputs::FromStmt;
 use swc_ecma_parser_scripts::script::whole_stmt;
-use swc_ecma_parser_source::Source;
 use swc_ecma_parser_token::TokenKind;
 use swc_ecma_parser_trees::{BuildsStatements, MakerOf, Trees};
 
 /// A source from which a `Y` can be read in the place of a statement of the tree `T`.
-pub trait StmtLikeParser<T: Trees, Y: FromStmt<T>>: Source {
+pub trait StmtLikeParser<T: Trees, Y: FromStmt<T>>: Cursor {
     ghost use Rattle.std.specs.Prelude.{ℕ, ◌<◌, Ok, length};
     ghost use Rattle.swc_ecma_parser_grammar.specs.declared.position.Position.{Position};
     ghost use Rattle.swc_ecma_parser_model.specs.Tree.{Tree};
@@ -39,7 +39,7 @@ pub trait StmtLikeParser<T: Trees, Y: FromStmt<T>>: Source {
 
 /// Whether `import` stands here and begins no expression.
 #[tactic(auto, unfolding(swc_ecma_parser_module_reader::specs::Modules::begins_import, swc_ecma_parser_grammar::specs::Follows::begins_import_expression))]
-fn begins_import<P: Source>(p: &P) -> bool
+fn begins_import<P: Cursor>(p: &P) -> bool
     ensures { result ≡ modules.begins_import (P.seen p.now).at }
 {
     p.sees(TokenKind::Import) && !(p.next_sees(TokenKind::LParen) || p.next_sees(TokenKind::Dot))
@@ -47,14 +47,14 @@ fn begins_import<P: Source>(p: &P) -> bool
 
 /// Whether what stands here is an import or export, or has decorators before it.
 #[tactic(auto, unfolding(swc_ecma_parser_module_reader::specs::Programs::begins_module, swc_ecma_parser_module_reader::specs::Modules::begins_import, swc_ecma_parser_module_reader::specs::Decorated::begins_decorators, swc_ecma_parser_grammar::specs::Follows::begins_import_expression))]
-fn begins_item<P: Source>(p: &P) -> bool
+fn begins_item<P: Cursor>(p: &P) -> bool
     ensures { result ≡ items.begins_item (P.seen p.now).code (P.seen p.now).at }
 {
     begins_import(p) || p.sees(TokenKind::Export) || (p.decorators() && p.sees(TokenKind::At))
 }
 
 /// What was made, where want of memory is the only fault; it is noted that memory ran out.
-fn made<P: Source, A>(p: &mut P, made: PResult<A>) -> PResult<A>
+fn made<P: Cursor, A>(p: &mut P, made: PResult<A>) -> PResult<A>
     ensures made { IfOk result (λ a. made ≡ Ok a) }
     ensures state { IfOk result (λ a. P.seen p.new ≡ P.seen p.old) }
     ensures err { IfErr result IsOutOfMemory }

@@ -5,9 +5,9 @@ use Rattle.swc_ecma_parser_model.specs.Tree.{Tree}
 use Rattle.swc_ecma_parser_reader.specs.State.{State, Outcome, too_deep}
 use Rattle.swc_ecma_parser_reader.proofs.Sound.{pattern_code, element_code}
 use Rattle.swc_ecma_parser_reader.proofs.patterns.Loops.{pattern_lowest, element_lowest}
-use Rattle.swc_ecma_parser_inner.specs.declared.grammar.Part.{Part}
-use Rattle.swc_ecma_parser_inner.specs.declared.grammar.Part.TheVariants as part
-use Rattle.swc_ecma_parser_inner.specs.Patterns.{read_pat}
+use Rattle.swc_ecma_parser_shared.specs.declared.grammar.Part.{Part}
+use Rattle.swc_ecma_parser_shared.specs.declared.grammar.Part.TheVariants as part
+use Rattle.swc_ecma_parser_shared.specs.Patterns.{read_pat}
 
 pub read_pat_lowest : (n : ℕ) (asked : Part) (s : State) (e : Fault × State) → n ≡ 0 → ◌≡◌ {A = Outcome Tree} (too_deep s) (Err e) → read_pat n asked s ≡ Err e
 read_pat_lowest n part.Pattern s e h k = pattern_lowest n s h ∙ k

@@ -1,29 +1,29 @@
 //! Object patterns of bindings: ECMA-262, section 14.3.3.
 
 ghost use Rattle.std.specs.Prelude.{map};
-ghost use Rattle.swc_ecma_parser_inner.specs.Keys.{key_of};
-ghost use Rattle.swc_ecma_parser_inner.specs.Nests.{Nests};
+ghost use Rattle.swc_ecma_parser_shared.specs.Keys.{key_of};
+ghost use Rattle.swc_ecma_parser_shared.specs.Nests.{Nests};
 ghost use Rattle.swc_ecma_parser_reader.specs.Patterns as patterns;
 ghost use Rattle.swc_ecma_parser_reader.specs.Reader as rules;
 ghost use Rattle.swc_ecma_parser_reader.specs.State.{GivesAs};
 
 use crate::pat::inner_pat;
 use swc_ecma_parser_common::Span;
+use swc_ecma_parser_cursor::{Cursor, Wanted, may_bind_await};
 use swc_ecma_parser_error::PResult;
 use swc_ecma_parser_grammar::{Class, Position};
-use swc_ecma_parser_inner::cover::{Cover, Reading, inside};
-use swc_ecma_parser_inner::grammar::{Grammar, Part};
-use swc_ecma_parser_inner::keys::{Key, made_key, property_key};
-use swc_ecma_parser_inner::steps::{as_name, grown, pushed, since};
 use swc_ecma_parser_model::Ident;
-use swc_ecma_parser_source::{Source, Wanted, may_bind_await};
+use swc_ecma_parser_shared::cover::{Cover, Reading, inside};
+use swc_ecma_parser_shared::grammar::{Grammar, Part};
+use swc_ecma_parser_shared::keys::{Key, made_key, property_key};
+use swc_ecma_parser_shared::steps::{as_name, grown, pushed, since};
 use swc_ecma_parser_token::TokenKind;
 use swc_ecma_parser_trees::{BuildsObjectPat, MakerOf, Trees};
 
 /// The rest of an object, which is a name.
 #[tactic(auto, unfolding(swc_ecma_parser_reader::specs::Patterns::rest_name))]
 fn rest_name<
-    P: Source,
+    P: Cursor,
     T: Trees,
     S: Fn(&MakerOf<T>, &mut P, usize, Position) -> PResult<T::Stmt>,
     E: Fn(&MakerOf<T>, &mut P, usize, Reading) -> PResult<Cover<T::Expr>>,
@@ -41,7 +41,7 @@ fn rest_name<
 /// `...` and the rest of an object.
 #[tactic(auto, unfolding(swc_ecma_parser_reader::specs::Patterns::rest_property))]
 fn rest_property<
-    P: Source,
+    P: Cursor,
     T: BuildsObjectPat,
     S: Fn(&MakerOf<T>, &mut P, usize, Position) -> PResult<T::Stmt>,
     E: Fn(&MakerOf<T>, &mut P, usize, Reading) -> PResult<Cover<T::Expr>>,
@@ -60,7 +60,7 @@ fn rest_property<
 /// A key and its pattern, from `:` on.
 #[tactic(auto, unfolding(swc_ecma_parser_reader::specs::Patterns::key_value))]
 fn key_value<
-    P: Source,
+    P: Cursor,
     T: BuildsObjectPat,
     S: Fn(&MakerOf<T>, &mut P, usize, Position) -> PResult<T::Stmt>,
     E: Fn(&MakerOf<T>, &mut P, usize, Reading) -> PResult<Cover<T::Expr>>,
@@ -85,7 +85,7 @@ fn key_value<
 /// A name that is its own key and its default, from `=` on.
 #[tactic(auto, unfolding(swc_ecma_parser_reader::specs::Patterns::initialized_name))]
 fn initialized_name<
-    P: Source,
+    P: Cursor,
     T: BuildsObjectPat,
     S: Fn(&MakerOf<T>, &mut P, usize, Position) -> PResult<T::Stmt>,
     E: Fn(&MakerOf<T>, &mut P, usize, Reading) -> PResult<Cover<T::Expr>>,
@@ -103,7 +103,7 @@ fn initialized_name<
 /// A word that is its own key, with its default if one stands there: a name.
 #[tactic(auto, unfolding(swc_ecma_parser_reader::specs::Patterns::named, swc_ecma_parser_reader::specs::Patterns::bare_name, swc_ecma_parser_reader::specs::State::as_name))]
 fn named<
-    P: Source,
+    P: Cursor,
     T: BuildsObjectPat,
     S: Fn(&MakerOf<T>, &mut P, usize, Position) -> PResult<T::Stmt>,
     E: Fn(&MakerOf<T>, &mut P, usize, Reading) -> PResult<Cover<T::Expr>>,
@@ -123,7 +123,7 @@ fn named<
 
 /// A key with no pattern behind it, which is a name.
 fn bare_key<
-    P: Source,
+    P: Cursor,
     T: BuildsObjectPat,
     S: Fn(&MakerOf<T>, &mut P, usize, Position) -> PResult<T::Stmt>,
     E: Fn(&MakerOf<T>, &mut P, usize, Reading) -> PResult<Cover<T::Expr>>,
@@ -147,7 +147,7 @@ fn bare_key<
 /// What stands behind a key.
 #[tactic(auto, unfolding(swc_ecma_parser_reader::specs::Patterns::behind_key))]
 fn behind_key<
-    P: Source,
+    P: Cursor,
     T: BuildsObjectPat,
     S: Fn(&MakerOf<T>, &mut P, usize, Position) -> PResult<T::Stmt>,
     E: Fn(&MakerOf<T>, &mut P, usize, Reading) -> PResult<Cover<T::Expr>>,
@@ -171,7 +171,7 @@ fn behind_key<
 /// A property.
 #[tactic(auto, unfolding(swc_ecma_parser_reader::specs::Patterns::property))]
 fn property<
-    P: Source,
+    P: Cursor,
     T: BuildsObjectPat,
     S: Fn(&MakerOf<T>, &mut P, usize, Position) -> PResult<T::Stmt>,
     E: Fn(&MakerOf<T>, &mut P, usize, Reading) -> PResult<Cover<T::Expr>>,
@@ -188,7 +188,7 @@ fn property<
 /// Properties, from `{` on. Nothing stands behind the rest.
 #[tactic(auto, unfolding(swc_ecma_parser_reader::specs::Patterns::properties), using(swc_ecma_parser_reader::proofs::patterns::Loops::properties_done, swc_ecma_parser_reader::proofs::patterns::Loops::properties_rest, swc_ecma_parser_reader::proofs::patterns::Loops::properties_last, swc_ecma_parser_reader::proofs::patterns::Loops::properties_more, swc_ecma_parser_reader::proofs::patterns::Loops::property_shorter, swc_ecma_parser_reader::proofs::patterns::Loops::properties_shorter, std::proofs::lemmas::List::map_push))]
 fn properties<
-    P: Source,
+    P: Cursor,
     T: BuildsObjectPat,
     S: Fn(&MakerOf<T>, &mut P, usize, Position) -> PResult<T::Stmt>,
     E: Fn(&MakerOf<T>, &mut P, usize, Reading) -> PResult<Cover<T::Expr>>,
@@ -222,7 +222,7 @@ fn properties<
 #[tactic(auto, unfolding(swc_ecma_parser_reader::specs::Patterns::object))]
 #[inline(never)]
 pub(crate) fn object_pat<
-    P: Source,
+    P: Cursor,
     T: BuildsObjectPat,
     S: Fn(&MakerOf<T>, &mut P, usize, Position) -> PResult<T::Stmt>,
     E: Fn(&MakerOf<T>, &mut P, usize, Reading) -> PResult<Cover<T::Expr>>,

@@ -1,24 +1,24 @@
 //! The parameters of functions: ECMA-262, section 15.1.
 
 ghost use Rattle.std.specs.Prelude.{map};
-ghost use Rattle.swc_ecma_parser_inner.specs.Nests.{Nests};
+ghost use Rattle.swc_ecma_parser_shared.specs.Nests.{Nests};
 ghost use Rattle.swc_ecma_parser_reader.specs.Reader as rules;
 ghost use Rattle.swc_ecma_parser_reader.specs.State.{GivesAs};
 
 use crate::pat::{inner_pat, rest};
+use swc_ecma_parser_cursor::Cursor;
 use swc_ecma_parser_error::PResult;
 use swc_ecma_parser_grammar::Position;
-use swc_ecma_parser_inner::cover::{Cover, Reading};
-use swc_ecma_parser_inner::grammar::{Grammar, Part};
-use swc_ecma_parser_inner::steps::pushed;
-use swc_ecma_parser_source::Source;
+use swc_ecma_parser_shared::cover::{Cover, Reading};
+use swc_ecma_parser_shared::grammar::{Grammar, Part};
+use swc_ecma_parser_shared::steps::pushed;
 use swc_ecma_parser_token::TokenKind;
 use swc_ecma_parser_trees::{BuildsPattern, MakerOf};
 
 /// The patterns of parameters, from `(` to `)`. Nothing stands behind the rest.
 #[tactic(auto, unfolding(swc_ecma_parser_reader::specs::Patterns::parameter_list), using(swc_ecma_parser_reader::proofs::patterns::Loops::parameters_done, swc_ecma_parser_reader::proofs::patterns::Loops::parameters_last, swc_ecma_parser_reader::proofs::patterns::Loops::parameters_more, std::proofs::lemmas::List::map_push))]
 pub fn parameters<
-    P: Source,
+    P: Cursor,
     T: BuildsPattern,
     S: Fn(&MakerOf<T>, &mut P, usize, Position) -> PResult<T::Stmt>,
     E: Fn(&MakerOf<T>, &mut P, usize, Reading) -> PResult<Cover<T::Expr>>,

@@ -2,8 +2,8 @@
 
 ghost use Rattle.std.specs.Prelude.{map};
 ghost use Rattle.swc_ecma_parser_grammar.specs.language.Contexts as language;
-ghost use Rattle.swc_ecma_parser_inner.specs.Nests.{Nests};
-ghost use Rattle.swc_ecma_parser_inner.specs.Patterns.{read_pat};
+ghost use Rattle.swc_ecma_parser_shared.specs.Nests.{Nests};
+ghost use Rattle.swc_ecma_parser_shared.specs.Patterns.{read_pat};
 ghost use Rattle.swc_ecma_parser_reader.specs.Patterns as patterns;
 ghost use Rattle.swc_ecma_parser_reader.specs.Reader as rules;
 ghost use Rattle.swc_ecma_parser_reader.specs.State as reader;
@@ -13,18 +13,18 @@ ghost use Rattle.swc_ecma_parser_trees.specs.Parts.{part_of};
 use crate::object_pat::object_pat;
 use std::alloc::Global;
 use swc_ecma_parser_common::Span;
+use swc_ecma_parser_cursor::{Cursor, Wanted};
 use swc_ecma_parser_error::PResult;
 use swc_ecma_parser_grammar::{Class, Position};
-use swc_ecma_parser_inner::cover::{Cover, Reading, inside};
-use swc_ecma_parser_inner::grammar::{Grammar, Part};
-use swc_ecma_parser_inner::steps::{grown, pushed, since, with_in};
-use swc_ecma_parser_source::{Source, Wanted};
+use swc_ecma_parser_shared::cover::{Cover, Reading, inside};
+use swc_ecma_parser_shared::grammar::{Grammar, Part};
+use swc_ecma_parser_shared::steps::{grown, pushed, since, with_in};
 use swc_ecma_parser_token::TokenKind;
 use swc_ecma_parser_trees::{BuildsObjectPat, BuildsPat, BuildsPattern, MakerOf, Trees};
 
 /// A name that is bound.
 #[tactic(auto, unfolding(swc_ecma_parser_reader::specs::Patterns::binding))]
-fn binding<P: Source, T: BuildsPat>(alloc: Global, p: &mut P) -> PResult<T::Pat>
+fn binding<P: Cursor, T: BuildsPat>(alloc: Global, p: &mut P) -> PResult<T::Pat>
     ensures { GivesAs T.pat_of (patterns.binding (P.seen p.old)) result (P.seen p.new) }
 {
     let name = p.name(Wanted::Name)?;
@@ -33,7 +33,7 @@ fn binding<P: Source, T: BuildsPat>(alloc: Global, p: &mut P) -> PResult<T::Pat>
 
 /// A pattern one level further in, where `in` is an operator.
 pub fn inner_pat<
-    P: Source,
+    P: Cursor,
     T: Trees,
     S: Fn(&MakerOf<T>, &mut P, usize, Position) -> PResult<T::Stmt>,
     E: Fn(&MakerOf<T>, &mut P, usize, Reading) -> PResult<Cover<T::Expr>>,
@@ -52,7 +52,7 @@ pub fn inner_pat<
 /// The rest of an array or of parameters.
 #[tactic(auto, unfolding(swc_ecma_parser_reader::specs::Patterns::rest))]
 pub(crate) fn rest<
-    P: Source,
+    P: Cursor,
     T: BuildsPattern,
     S: Fn(&MakerOf<T>, &mut P, usize, Position) -> PResult<T::Stmt>,
     E: Fn(&MakerOf<T>, &mut P, usize, Reading) -> PResult<Cover<T::Expr>>,
@@ -71,7 +71,7 @@ pub(crate) fn rest<
 /// Elements, from `[` on. A comma with nothing before it makes a hole, and nothing stands behind the rest.
 #[tactic(auto, unfolding(swc_ecma_parser_reader::specs::Patterns::elements), using(swc_ecma_parser_reader::proofs::patterns::Loops::elements_done, swc_ecma_parser_reader::proofs::patterns::Loops::elements_hole, swc_ecma_parser_reader::proofs::patterns::Loops::elements_last, swc_ecma_parser_reader::proofs::patterns::Loops::elements_more, swc_ecma_parser_reader::proofs::expressions::Loops::hole_shorter, std::proofs::lemmas::List::map_push))]
 fn elements<
-    P: Source,
+    P: Cursor,
     T: BuildsPattern,
     S: Fn(&MakerOf<T>, &mut P, usize, Position) -> PResult<T::Stmt>,
     E: Fn(&MakerOf<T>, &mut P, usize, Reading) -> PResult<Cover<T::Expr>>,
@@ -111,7 +111,7 @@ fn elements<
 #[tactic(auto, unfolding(swc_ecma_parser_reader::specs::Patterns::array))]
 #[inline(never)]
 fn array_pat<
-    P: Source,
+    P: Cursor,
     T: BuildsPattern,
     S: Fn(&MakerOf<T>, &mut P, usize, Position) -> PResult<T::Stmt>,
     E: Fn(&MakerOf<T>, &mut P, usize, Reading) -> PResult<Cover<T::Expr>>,
@@ -129,7 +129,7 @@ fn array_pat<
 /// A pattern without default.
 #[tactic(auto, unfolding(swc_ecma_parser_reader::specs::Patterns::pattern_level))]
 pub fn pattern_level<
-    P: Source,
+    P: Cursor,
     T: BuildsPat + BuildsPattern + BuildsObjectPat,
     S: Fn(&MakerOf<T>, &mut P, usize, Position) -> PResult<T::Stmt>,
     E: Fn(&MakerOf<T>, &mut P, usize, Reading) -> PResult<Cover<T::Expr>>,
@@ -150,7 +150,7 @@ pub fn pattern_level<
 /// A pattern with its default, from `=` on.
 #[tactic(auto, unfolding(swc_ecma_parser_reader::specs::Patterns::initialized))]
 fn initialized<
-    P: Source,
+    P: Cursor,
     T: BuildsPattern,
     S: Fn(&MakerOf<T>, &mut P, usize, Position) -> PResult<T::Stmt>,
     E: Fn(&MakerOf<T>, &mut P, usize, Reading) -> PResult<Cover<T::Expr>>,
@@ -168,7 +168,7 @@ fn initialized<
 /// A pattern with its default, if one stands there.
 #[tactic(auto, unfolding(swc_ecma_parser_reader::specs::Patterns::element_level))]
 pub fn element_level<
-    P: Source,
+    P: Cursor,
     T: BuildsPat + BuildsPattern + BuildsObjectPat,
     S: Fn(&MakerOf<T>, &mut P, usize, Position) -> PResult<T::Stmt>,
     E: Fn(&MakerOf<T>, &mut P, usize, Reading) -> PResult<Cover<T::Expr>>,

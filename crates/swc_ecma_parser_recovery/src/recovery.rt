@@ -5,7 +5,7 @@ ghost use Rattle.swc_ecma_parser_error.specs.Kind as kinds;
 ghost use Rattle.swc_ecma_parser_error.specs.Kind.{kind_of};
 ghost use Rattle.swc_ecma_parser_grammar.specs.language.Contexts.{with_in};
 ghost use Rattle.swc_ecma_parser_grammar.specs.language.Goals.{expression};
-ghost use Rattle.swc_ecma_parser_inner.specs.Nests.{Nests};
+ghost use Rattle.swc_ecma_parser_shared.specs.Nests.{Nests};
 ghost use Rattle.swc_ecma_parser_reader.proofs.Recovered.{set_back};
 ghost use Rattle.swc_ecma_parser_reader.specs.Reader as rules;
 ghost use Rattle.swc_ecma_parser_reader.specs.Recovery as recovery;
@@ -13,13 +13,13 @@ ghost use Rattle.swc_ecma_parser_reader.specs.State as reader;
 ghost use Rattle.swc_ecma_parser_reader.specs.State.{Gives};
 ghost use Rattle.swc_ecma_parser_recovery.specs.Dropped.{dropped_in, ended};
 
+use swc_ecma_parser_cursor::{Around, Cursor};
 use swc_ecma_parser_error::{Error, PResult, SyntaxError};
 use swc_ecma_parser_grammar::{Class, Position};
-use swc_ecma_parser_inner::cover::{Cover, Reading, inside};
-use swc_ecma_parser_inner::ends::can_end;
-use swc_ecma_parser_inner::grammar::{Grammar, Part};
 use swc_ecma_parser_input::Context;
-use swc_ecma_parser_source::{Around, Source};
+use swc_ecma_parser_shared::cover::{Cover, Reading, inside};
+use swc_ecma_parser_shared::ends::can_end;
+use swc_ecma_parser_shared::grammar::{Grammar, Part};
 use swc_ecma_parser_token::TokenKind;
 use swc_ecma_parser_trees::{MakerOf, Trees};
 
@@ -31,14 +31,14 @@ fn says_out_of_memory(kind: &SyntaxError) -> bool
 }
 
 /// Whether a refusal stays one where what is refused is dropped: something stood too deep, or memory ran out.
-pub fn stays_refused<P: Source>(p: &P, error: &Error) -> bool
+pub fn stays_refused<P: Cursor>(p: &P, error: &Error) -> bool
     ensures { result ≡ (is_some (P.seen p.now).scope.mark || reader.says_out_of_memory (kind_of error.now.kind)) }
 {
     p.is_marked() || says_out_of_memory(&error.kind)
 }
 
 /// Puts back what stood around what is dropped.
-fn put_back<P: Source>(p: &mut P, around: Around, outer: Context)
+fn put_back<P: Cursor>(p: &mut P, around: Around, outer: Context)
     requires { outer.module ≡ (P.seen p.old).code.flags.module }
     ensures { P.seen p.new ≡ set_back (P.seen p.old) around.labels.items around.found_module_item outer }
 {
@@ -48,7 +48,7 @@ fn put_back<P: Source>(p: &mut P, around: Around, outer: Context)
 
 /// Drops what was read, and so its refusal, but one for want of memory or depth, and puts back what stood around it.
 #[tactic(auto, using(crate::proofs::Dropped::refused_module_stays))]
-pub fn dropped<P: Source, X: Drop>(
+pub fn dropped<P: Cursor, X: Drop>(
     p: &mut P,
     around: Around,
     outer: Context,
@@ -70,7 +70,7 @@ pub fn dropped<P: Source, X: Drop>(
 /// Reads an expression and drops it.
 #[tactic(auto, unfolding(swc_ecma_parser_reader::specs::Expressions::inside), using(crate::proofs::Dropped::expr_passes, crate::proofs::Dropped::module_behind_answer))]
 fn attempted<
-    P: Source,
+    P: Cursor,
     T: Trees,
     S: Fn(&MakerOf<T>, &mut P, usize, Position) -> PResult<T::Stmt>,
     E: Fn(&MakerOf<T>, &mut P, usize, Reading) -> PResult<Cover<T::Expr>>,
@@ -87,7 +87,7 @@ fn attempted<
 
 /// Takes tokens up to an end, which is read, or up to an error token behind one of them.
 #[tactic(auto, unfolding(swc_ecma_parser_reader::specs::Recovery::up_to_end), using(crate::proofs::UpToEnd::end_semicolon, crate::proofs::UpToEnd::end_here, crate::proofs::UpToEnd::end_refused, crate::proofs::UpToEnd::end_before_error, crate::proofs::UpToEnd::end_more, crate::proofs::UpToEnd::any_shorter))]
-fn up_to_end<P: Source>(p: &mut P) -> PResult<()>
+fn up_to_end<P: Cursor>(p: &mut P) -> PResult<()>
     ensures { Gives (recovery.up_to_end (P.seen p.old)) result (P.seen p.new) }
 {
     'tokens: loop {
@@ -107,7 +107,7 @@ fn up_to_end<P: Source>(p: &mut P) -> PResult<()>
 /// The end of a declaration. Where it is missing, an expression and what follows it up to an end is dropped with a fault.
 #[tactic(auto, unfolding(swc_ecma_parser_reader::specs::Recovery::declaration_end, swc_ecma_parser_reader::specs::Recovery::no_end))]
 pub fn declaration_end<
-    P: Source,
+    P: Cursor,
     T: Trees,
     S: Fn(&MakerOf<T>, &mut P, usize, Position) -> PResult<T::Stmt>,
     E: Fn(&MakerOf<T>, &mut P, usize, Reading) -> PResult<Cover<T::Expr>>,

@@ -6,11 +6,11 @@ ghost use Rattle.swc_ecma_parser_reader.specs.Reader as rules;
 ghost use Rattle.swc_ecma_parser_reader.specs.State.{Gives, GivesAs};
 
 use swc_ecma_parser_bodies::body::direct;
-use swc_ecma_parser_core::grammar::stmt;
+use swc_ecma_parser_cursor::Cursor;
 use swc_ecma_parser_error::{PResult, SyntaxError};
 use swc_ecma_parser_grammar::Position;
-use swc_ecma_parser_inner::steps::{pushed, since, whole_start};
-use swc_ecma_parser_source::Source;
+use swc_ecma_parser_knot::knot::stmt;
+use swc_ecma_parser_shared::steps::{pushed, since, whole_start};
 use swc_ecma_parser_token::TokenKind;
 use swc_ecma_parser_trees::{BuildsScript, BuildsStatements, MakerOf};
 
@@ -22,7 +22,7 @@ const TOP_ITEM: Position = Position {
 
 /// Whether the list has ended.
 #[tactic(auto, unfolding(swc_ecma_parser_reader::specs::Reader::at_end))]
-fn at_end<P: Source>(p: &P) -> bool
+fn at_end<P: Cursor>(p: &P) -> bool
     ensures { result ≡ rules.at_end (P.seen p.now).at }
 {
     p.sees(TokenKind::End)
@@ -30,7 +30,7 @@ fn at_end<P: Source>(p: &P) -> bool
 
 /// What a statement of the top level begins with: `await` makes a program a module, and is a fault in code that cannot be one's.
 #[tactic(auto, unfolding(swc_ecma_parser_reader::specs::Reader::top_await, swc_ecma_parser_reader::specs::Reader::top_await_fault))]
-fn top_await<P: Source>(p: &mut P, at: Position) -> PResult<()>
+fn top_await<P: Cursor>(p: &mut P, at: Position) -> PResult<()>
     ensures { Gives (rules.top_await at (P.seen p.old)) result (P.seen p.new) }
 {
     if !at.top_level || !p.sees(TokenKind::Await) {
@@ -46,7 +46,7 @@ fn top_await<P: Source>(p: &mut P, at: Position) -> PResult<()>
 
 /// A statement that stands in no other, which may nest so many levels deep.
 #[tactic(auto, unfolding(swc_ecma_parser_reader::specs::Reader::whole_stmt))]
-pub fn whole_stmt<P: Source, T: BuildsStatements>(
+pub fn whole_stmt<P: Cursor, T: BuildsStatements>(
     t: &MakerOf<T>,
     p: &mut P,
     limit: usize,
@@ -60,7 +60,7 @@ pub fn whole_stmt<P: Source, T: BuildsStatements>(
 
 /// The statements of a script, the first of which can be directives.
 #[tactic(auto, unfolding(swc_ecma_parser_reader::specs::Reader::items), using(swc_ecma_parser_reader::proofs::Loops::items_stop, swc_ecma_parser_reader::proofs::Loops::items_err, swc_ecma_parser_bodies::proofs::Items::body_more, swc_ecma_parser_bodies::proofs::Items::body_next, swc_ecma_parser_reader::proofs::Loops::whole_shorter, std::proofs::lemmas::List::map_push))]
-fn items<P: Source, T: BuildsStatements>(
+fn items<P: Cursor, T: BuildsStatements>(
     t: &MakerOf<T>,
     p: &mut P,
     limit: usize,
@@ -80,7 +80,7 @@ fn items<P: Source, T: BuildsStatements>(
 
 /// A script, whose items may stand so many levels deep.
 #[tactic(auto, unfolding(swc_ecma_parser_reader::specs::Reader::script_body, swc_ecma_parser_grammar::specs::Looks::whole_span))]
-pub fn script_body<P: Source, T: BuildsStatements + BuildsScript>(
+pub fn script_body<P: Cursor, T: BuildsStatements + BuildsScript>(
     t: &MakerOf<T>,
     p: &mut P,
     limit: usize,

@@ -2,9 +2,9 @@
 #![tactic(auto)]
 
 mod call;
+mod cursor;
 mod entry;
 mod looks;
-mod source;
 mod state;
 mod steps;
 

@@ -9,8 +9,8 @@ ghost use Rattle.swc_ecma_parser_input.specs.Place as place;
 ghost use Rattle.swc_ecma_parser_state.specs.Taken as taken;
 
 use crate::state::{Call, Origin};
+use swc_ecma_parser_cursor::{Cursor, follows_let, is_identifier, is_name};
 use swc_ecma_parser_input::Tokens;
-use swc_ecma_parser_source::{Source, follows_let, is_identifier, is_name};
 use swc_ecma_parser_token::{Token, TokenAndSpan, TokenKind};
 
 impl<O: Origin, I: Tokens> Call<O, I> {

@@ -11,19 +11,19 @@ ghost use Rattle.swc_ecma_parser_reader.specs.State as reader;
 ghost use Rattle.swc_ecma_parser_reader.specs.State.{Gives};
 ghost use Rattle.swc_ecma_parser_reader.specs.declared.mark.Mark.TheVariants as mark;
 ghost use Rattle.swc_ecma_parser_state.specs.FirstError as first;
-ghost use Rattle.swc_ecma_parser_source.specs.Literals.{literal_tree};
+ghost use Rattle.swc_ecma_parser_cursor.specs.Literals.{literal_tree};
 ghost use Rattle.swc_ecma_parser_state.specs.Taken as taken;
-ghost use Rattle.swc_ecma_parser_source.specs.Wanted.{wanted_kind};
+ghost use Rattle.swc_ecma_parser_cursor.specs.Wanted.{wanted_kind};
 ghost use Rattle.swc_ecma_parser_token.specs.Text.{word_text};
 
 use crate::call::no_memory;
 use crate::state::{Call, Origin};
 use swc_ecma_parser_common::{Atom, Span};
+use swc_ecma_parser_cursor::{Cursor, Literal, Wanted, missing};
 use swc_ecma_parser_error::{Error, PResult, SyntaxError};
 use swc_ecma_parser_input::Tokens;
 use swc_ecma_parser_model::{BigInt, Bool, Null, Number, Str};
 use swc_ecma_parser_reader::Mark;
-use swc_ecma_parser_source::{Literal, Source, Wanted, missing};
 use swc_ecma_parser_token::{Token, TokenAndSpan, Word};
 
 impl<O: Origin, I: Tokens> Call<O, I> {

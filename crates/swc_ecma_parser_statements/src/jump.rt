@@ -8,16 +8,16 @@ ghost use Rattle.swc_ecma_parser_statements.specs.Labels.{label_of};
 
 use std::alloc::Global;
 use swc_ecma_parser_common::Span;
+use swc_ecma_parser_cursor::{Cursor, Wanted};
 use swc_ecma_parser_error::{PResult, SyntaxError};
-use swc_ecma_parser_inner::ends::ends_at;
-use swc_ecma_parser_inner::steps::{grown, since};
 use swc_ecma_parser_model::Ident;
-use swc_ecma_parser_source::{Source, Wanted};
+use swc_ecma_parser_shared::ends::ends_at;
+use swc_ecma_parser_shared::steps::{grown, since};
 use swc_ecma_parser_trees::BuildsControl;
 
 /// A label, where the statement does not end.
 #[tactic(auto, unfolding(swc_ecma_parser_reader::specs::Reader::target))]
-fn target<P: Source>(p: &mut P) -> PResult<Option<Ident>>
+fn target<P: Cursor>(p: &mut P) -> PResult<Option<Ident>>
     ensures { GivesAs label_of (rules.target (P.seen p.old)) result (P.seen p.new) }
 {
     if ends_at(p) {
@@ -28,7 +28,7 @@ fn target<P: Source>(p: &mut P) -> PResult<Option<Ident>>
 }
 
 /// Whether a label stands around; none is asked for where none is named.
-fn stands_around<P: Source>(p: &P, label: &Option<Ident>) -> bool
+fn stands_around<P: Cursor>(p: &P, label: &Option<Ident>) -> bool
     ensures { result ≡ own.stands_around (P.seen p.now).scope.labels (label_of label.now) }
 {
     match label {
@@ -39,7 +39,7 @@ fn stands_around<P: Source>(p: &P, label: &Option<Ident>) -> bool
 
 /// Records that no such label stands around, or that there is nothing to break.
 #[tactic(auto, unfolding(swc_ecma_parser_reader::specs::Reader::unbroken))]
-fn unbroken<P: Source>(p: &mut P, label: &Option<Ident>, span: Span) -> PResult<()>
+fn unbroken<P: Cursor>(p: &mut P, label: &Option<Ident>, span: Span) -> PResult<()>
     ensures { Gives (rules.unbroken (label_of label.now) span (P.seen p.old)) result (P.seen p.new) }
 {
     if !stands_around(p, label) {
@@ -53,7 +53,7 @@ fn unbroken<P: Source>(p: &mut P, label: &Option<Ident>, span: Span) -> PResult<
 /// A `break` statement.
 #[tactic(auto, unfolding(swc_ecma_parser_reader::specs::Reader::break_stmt))]
 #[inline(never)]
-pub fn break_stmt<P: Source, T: BuildsControl>(alloc: Global, p: &mut P) -> PResult<T::Stmt>
+pub fn break_stmt<P: Cursor, T: BuildsControl>(alloc: Global, p: &mut P) -> PResult<T::Stmt>
     ensures { GivesAs T.stmt_of (rules.break_stmt (P.seen p.old)) result (P.seen p.new) }
 {
     let start = p.span();
@@ -67,7 +67,7 @@ pub fn break_stmt<P: Source, T: BuildsControl>(alloc: Global, p: &mut P) -> PRes
 
 /// Records that there is nothing to continue, or that no such label stands around.
 #[tactic(auto, unfolding(swc_ecma_parser_reader::specs::Reader::uncontinued))]
-fn uncontinued<P: Source>(p: &mut P, label: &Option<Ident>, span: Span) -> PResult<()>
+fn uncontinued<P: Cursor>(p: &mut P, label: &Option<Ident>, span: Span) -> PResult<()>
     ensures { Gives (rules.uncontinued (label_of label.now) span (P.seen p.old)) result (P.seen p.new) }
 {
     if !p.flags().is_continue_allowed {
@@ -81,7 +81,7 @@ fn uncontinued<P: Source>(p: &mut P, label: &Option<Ident>, span: Span) -> PResu
 /// A `continue` statement.
 #[tactic(auto, unfolding(swc_ecma_parser_reader::specs::Reader::continue_stmt))]
 #[inline(never)]
-pub fn continue_stmt<P: Source, T: BuildsControl>(alloc: Global, p: &mut P) -> PResult<T::Stmt>
+pub fn continue_stmt<P: Cursor, T: BuildsControl>(alloc: Global, p: &mut P) -> PResult<T::Stmt>
     ensures { GivesAs T.stmt_of (rules.continue_stmt (P.seen p.old)) result (P.seen p.new) }
 {
     let start = p.span();

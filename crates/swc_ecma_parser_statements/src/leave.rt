@@ -4,25 +4,25 @@ ghost use Rattle.std.specs.Prelude.{◌≡◌, ◌≢◌, Err};
 ghost use Rattle.swc_ecma_parser_error.specs.Kind as kinds;
 ghost use Rattle.swc_ecma_parser_error.specs.Kind.{fault_of, kind_of};
 ghost use Rattle.swc_ecma_parser_grammar.specs.language.Goals.{expression};
-ghost use Rattle.swc_ecma_parser_inner.specs.Nests.{Nests};
+ghost use Rattle.swc_ecma_parser_shared.specs.Nests.{Nests};
 ghost use Rattle.swc_ecma_parser_reader.specs.Reader as rules;
 ghost use Rattle.swc_ecma_parser_reader.specs.State.{Gives, GivesAs};
 ghost use Rattle.swc_ecma_parser_trees.specs.Parts.{part_of};
 
 use swc_ecma_parser_common::Span;
+use swc_ecma_parser_cursor::{Cursor, Wanted};
 use swc_ecma_parser_error::{Error, PResult, SyntaxError};
 use swc_ecma_parser_grammar::{Class, Position};
-use swc_ecma_parser_inner::cover::{Cover, Reading, inside};
-use swc_ecma_parser_inner::ends::ends_at;
-use swc_ecma_parser_inner::grammar::{Grammar, Part};
-use swc_ecma_parser_inner::steps::{grown, since};
-use swc_ecma_parser_source::{Source, Wanted};
+use swc_ecma_parser_shared::cover::{Cover, Reading, inside};
+use swc_ecma_parser_shared::ends::ends_at;
+use swc_ecma_parser_shared::grammar::{Grammar, Part};
+use swc_ecma_parser_shared::steps::{grown, since};
 use swc_ecma_parser_token::TokenKind;
 use swc_ecma_parser_trees::{BuildsControl, MakerOf, Trees};
 
 /// Records that no function stands around a `return`, up to what was read last; a setting asks for none.
 #[tactic(auto, unfolding(swc_ecma_parser_reader::specs::Reader::misplaced))]
-fn misplaced<P: Source>(p: &mut P, start: Span) -> PResult<()>
+fn misplaced<P: Cursor>(p: &mut P, start: Span) -> PResult<()>
     ensures { Gives (rules.misplaced start (P.seen p.old)) result (P.seen p.new) }
 {
     if !p.flags().in_function && !p.allow_return_outside_function() {
@@ -33,7 +33,7 @@ fn misplaced<P: Source>(p: &mut P, start: Span) -> PResult<()>
 }
 
 /// The refusal of what stands behind `return`, with the fault of its own recorded. One for want of memory or depth stays as it is.
-fn refused<P: Source>(p: &mut P, start: Span, error: Error) -> Error
+fn refused<P: Cursor>(p: &mut P, start: Span, error: Error) -> Error
     ensures memory { kind_of result.kind ≢ kinds.OutOfMemory → kind_of error.kind ≢ kinds.OutOfMemory }
     ensures gives { kind_of result.kind ≢ kinds.OutOfMemory
         → rules.after_return start (Err (fault_of error, P.seen p.old)) ≡ Err (fault_of result, P.seen p.new) }
@@ -50,7 +50,7 @@ fn refused<P: Source>(p: &mut P, start: Span, error: Error) -> Error
 /// What a `return` answers, if the statement does not end here.
 #[tactic(auto, unfolding(swc_ecma_parser_reader::specs::Reader::operand, swc_ecma_parser_reader::specs::Expressions::inside))]
 fn operand<
-    P: Source,
+    P: Cursor,
     T: Trees,
     S: Fn(&MakerOf<T>, &mut P, usize, Position) -> PResult<T::Stmt>,
     E: Fn(&MakerOf<T>, &mut P, usize, Reading) -> PResult<Cover<T::Expr>>,
@@ -69,7 +69,7 @@ fn operand<
 /// A `return` from behind its word.
 #[tactic(auto, unfolding(swc_ecma_parser_reader::specs::Reader::returned))]
 fn returned<
-    P: Source,
+    P: Cursor,
     T: BuildsControl,
     S: Fn(&MakerOf<T>, &mut P, usize, Position) -> PResult<T::Stmt>,
     E: Fn(&MakerOf<T>, &mut P, usize, Reading) -> PResult<Cover<T::Expr>>,
@@ -88,7 +88,7 @@ fn returned<
 #[tactic(auto, unfolding(swc_ecma_parser_reader::specs::Reader::return_stmt))]
 #[inline(never)]
 pub fn return_stmt<
-    P: Source,
+    P: Cursor,
     T: BuildsControl,
     S: Fn(&MakerOf<T>, &mut P, usize, Position) -> PResult<T::Stmt>,
     E: Fn(&MakerOf<T>, &mut P, usize, Reading) -> PResult<Cover<T::Expr>>,
@@ -112,7 +112,7 @@ pub fn return_stmt<
 #[tactic(auto, unfolding(swc_ecma_parser_reader::specs::Reader::throw, swc_ecma_parser_reader::specs::Reader::thrown, swc_ecma_parser_reader::specs::Expressions::inside, swc_ecma_parser_grammar::specs::Looks::spanned))]
 #[inline(never)]
 pub fn throw<
-    P: Source,
+    P: Cursor,
     T: BuildsControl,
     S: Fn(&MakerOf<T>, &mut P, usize, Position) -> PResult<T::Stmt>,
     E: Fn(&MakerOf<T>, &mut P, usize, Reading) -> PResult<Cover<T::Expr>>,

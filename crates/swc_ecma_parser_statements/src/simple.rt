@@ -3,19 +3,19 @@
 ghost use Rattle.std.specs.Prelude.{◌≡◌};
 ghost use Rattle.swc_ecma_parser_grammar.specs.Follows as follows;
 ghost use Rattle.swc_ecma_parser_grammar.specs.language.Goals.{expression};
-ghost use Rattle.swc_ecma_parser_inner.specs.Nests.{Nests};
+ghost use Rattle.swc_ecma_parser_shared.specs.Nests.{Nests};
 ghost use Rattle.swc_ecma_parser_reader.specs.Reader as rules;
 ghost use Rattle.swc_ecma_parser_reader.specs.State.{Gives, GivesAs};
 
 use crate::statement_end::stmt_end;
 use std::alloc::Global;
 use swc_ecma_parser_common::{Atom, Boxed};
+use swc_ecma_parser_cursor::{Cursor, Wanted};
 use swc_ecma_parser_error::{PResult, SyntaxError};
 use swc_ecma_parser_grammar::{Class, Position};
-use swc_ecma_parser_inner::cover::{Cover, Reading, nested};
-use swc_ecma_parser_inner::grammar::{Grammar, Part};
-use swc_ecma_parser_inner::steps::{grown, since, with_in};
-use swc_ecma_parser_source::{Source, Wanted};
+use swc_ecma_parser_shared::cover::{Cover, Reading, nested};
+use swc_ecma_parser_shared::grammar::{Grammar, Part};
+use swc_ecma_parser_shared::steps::{grown, since, with_in};
 use swc_ecma_parser_token::TokenKind;
 use swc_ecma_parser_trees::{BuildsOperator, BuildsStmt, MakerOf, Trees};
 
@@ -27,7 +27,7 @@ pub const SUB_STATEMENT: Position = Position {
 
 /// `;`
 #[tactic(auto, unfolding(swc_ecma_parser_reader::specs::Reader::empty, swc_ecma_parser_grammar::specs::Looks::spanned))]
-pub fn empty<P: Source, T: BuildsStmt>(alloc: Global, p: &mut P) -> PResult<T::Stmt>
+pub fn empty<P: Cursor, T: BuildsStmt>(alloc: Global, p: &mut P) -> PResult<T::Stmt>
     ensures { GivesAs T.stmt_of (rules.empty (P.seen p.old)) result (P.seen p.new) }
 {
     let start = p.span();
@@ -38,7 +38,7 @@ pub fn empty<P: Source, T: BuildsStmt>(alloc: Global, p: &mut P) -> PResult<T::S
 
 /// `debugger`
 #[tactic(auto, unfolding(swc_ecma_parser_reader::specs::Reader::debugger, swc_ecma_parser_grammar::specs::Looks::spanned))]
-pub fn debugger<P: Source, T: BuildsStmt>(alloc: Global, p: &mut P) -> PResult<T::Stmt>
+pub fn debugger<P: Cursor, T: BuildsStmt>(alloc: Global, p: &mut P) -> PResult<T::Stmt>
     ensures { GivesAs T.stmt_of (rules.debugger (P.seen p.old)) result (P.seen p.new) }
 {
     let start = p.span();
@@ -50,7 +50,7 @@ pub fn debugger<P: Source, T: BuildsStmt>(alloc: Global, p: &mut P) -> PResult<T
 
 /// Adds the fault that the bare name `interface` is in module code.
 #[tactic(auto, unfolding(swc_ecma_parser_reader::specs::Reader::note_statement))]
-pub(crate) fn note_statement<P: Source, T: Trees>(
+pub(crate) fn note_statement<P: Cursor, T: Trees>(
     alloc: Global,
     p: &mut P,
     x: &T::Expr,
@@ -67,7 +67,7 @@ pub(crate) fn note_statement<P: Source, T: Trees>(
 
 /// Refuses a bare name before `:`, which is a label and no expression.
 #[tactic(auto, unfolding(swc_ecma_parser_reader::specs::Reader::no_label))]
-pub(crate) fn no_label<P: Source, T: Trees>(p: &mut P, x: &T::Expr) -> PResult<()>
+pub(crate) fn no_label<P: Cursor, T: Trees>(p: &mut P, x: &T::Expr) -> PResult<()>
     ensures { Gives (rules.no_label (T.expr_of x.now) (P.seen p.old)) result (P.seen p.new) }
 {
     if T::is_ident(x) && p.sees(TokenKind::Colon) {
@@ -79,7 +79,7 @@ pub(crate) fn no_label<P: Source, T: Trees>(p: &mut P, x: &T::Expr) -> PResult<(
 /// An expression statement.
 #[tactic(auto, unfolding(swc_ecma_parser_reader::specs::Reader::expr_stmt, swc_ecma_parser_grammar::specs::Looks::spanned))]
 fn expr_stmt<
-    P: Source,
+    P: Cursor,
     T: BuildsStmt + BuildsOperator,
     S: Fn(&MakerOf<T>, &mut P, usize, Position) -> PResult<T::Stmt>,
     E: Fn(&MakerOf<T>, &mut P, usize, Reading) -> PResult<Cover<T::Expr>>,
@@ -104,7 +104,7 @@ fn expr_stmt<
 #[tactic(auto, unfolding(swc_ecma_parser_reader::specs::Reader::expr_stmt_at))]
 #[inline(never)]
 pub fn expr_stmt_at<
-    P: Source,
+    P: Cursor,
     T: BuildsStmt + BuildsOperator,
     S: Fn(&MakerOf<T>, &mut P, usize, Position) -> PResult<T::Stmt>,
     E: Fn(&MakerOf<T>, &mut P, usize, Reading) -> PResult<Cover<T::Expr>>,
@@ -121,7 +121,7 @@ pub fn expr_stmt_at<
 
 /// An end that nothing demands.
 #[tactic(auto, unfolding(swc_ecma_parser_reader::specs::Reader::optional_end))]
-pub fn optional_end<P: Source>(p: &mut P) -> PResult<()>
+pub fn optional_end<P: Cursor>(p: &mut P) -> PResult<()>
     ensures { Gives (rules.optional_end (P.seen p.old)) result (P.seen p.new) }
 {
     if p.sees(TokenKind::Semi) {
@@ -132,7 +132,7 @@ pub fn optional_end<P: Source>(p: &mut P) -> PResult<()>
 
 /// Whether `import(` or `import.` stands here.
 #[tactic(auto, unfolding(swc_ecma_parser_grammar::specs::Follows::begins_import_expression))]
-fn begins_import_expression<P: Source>(p: &P) -> bool
+fn begins_import_expression<P: Cursor>(p: &P) -> bool
     ensures { result ≡ follows.begins_import_expression (P.seen p.now).at }
 {
     p.sees(TokenKind::Import) && (p.next_sees(TokenKind::LParen) || p.next_sees(TokenKind::Dot))
@@ -142,7 +142,7 @@ fn begins_import_expression<P: Source>(p: &P) -> bool
 #[tactic(auto, unfolding(swc_ecma_parser_reader::specs::Reader::import_stmt_at))]
 #[inline(never)]
 pub fn import_stmt_at<
-    P: Source,
+    P: Cursor,
     T: BuildsStmt + BuildsOperator,
     S: Fn(&MakerOf<T>, &mut P, usize, Position) -> PResult<T::Stmt>,
     E: Fn(&MakerOf<T>, &mut P, usize, Reading) -> PResult<Cover<T::Expr>>,

@@ -1,21 +1,21 @@
 //! The end of an expression statement, and the operators behind a fault where it is missing.
 
 ghost use Rattle.std.specs.Prelude.{◌≡◌};
-ghost use Rattle.swc_ecma_parser_inner.specs.Nests.{Nests};
+ghost use Rattle.swc_ecma_parser_shared.specs.Nests.{Nests};
 ghost use Rattle.swc_ecma_parser_reader.specs.Reader as rules;
 ghost use Rattle.swc_ecma_parser_reader.specs.Recovery as recovery;
 ghost use Rattle.swc_ecma_parser_reader.specs.State.{GivesAs};
 
 use swc_ecma_parser_common::Span;
+use swc_ecma_parser_cursor::{Cursor, Wanted, binary_operator};
 use swc_ecma_parser_error::{PResult, SyntaxError};
 use swc_ecma_parser_grammar::Position;
-use swc_ecma_parser_inner::cover::{Cover, Reading};
-use swc_ecma_parser_inner::ends::can_end;
-use swc_ecma_parser_inner::grammar::{Grammar, Part};
-use swc_ecma_parser_inner::operators::{Operands, binary_from};
-use swc_ecma_parser_inner::steps::with_in;
 use swc_ecma_parser_model::BinaryOp;
-use swc_ecma_parser_source::{Source, Wanted, binary_operator};
+use swc_ecma_parser_shared::cover::{Cover, Reading};
+use swc_ecma_parser_shared::ends::can_end;
+use swc_ecma_parser_shared::grammar::{Grammar, Part};
+use swc_ecma_parser_shared::operators::{Operands, binary_from};
+use swc_ecma_parser_shared::steps::with_in;
 use swc_ecma_parser_trees::{BuildsOperator, MakerOf};
 
 /// Whether an operator between two operands is written with signs, and not with a word.
@@ -31,7 +31,7 @@ fn is_sign(op: Option<BinaryOp>) -> bool
 
 /// Whether such an operator stands in the place of the end of a statement.
 #[tactic(auto, unfolding(swc_ecma_parser_reader::specs::Recovery::lacks_end))]
-fn lacks_end<P: Source>(p: &P) -> bool
+fn lacks_end<P: Cursor>(p: &P) -> bool
     ensures { result ≡ recovery.lacks_end (P.seen p.now).at }
 {
     is_sign(binary_operator(p.kind())) && !can_end(p)
@@ -40,7 +40,7 @@ fn lacks_end<P: Source>(p: &P) -> bool
 /// The end of an expression statement. Where it is missing before an operator, the expression goes on behind a fault.
 #[tactic(auto, unfolding(swc_ecma_parser_reader::specs::Recovery::stmt_end, swc_ecma_parser_reader::specs::Recovery::operators_on))]
 pub(crate) fn stmt_end<
-    P: Source,
+    P: Cursor,
     T: BuildsOperator,
     S: Fn(&MakerOf<T>, &mut P, usize, Position) -> PResult<T::Stmt>,
     E: Fn(&MakerOf<T>, &mut P, usize, Reading) -> PResult<Cover<T::Expr>>,

@@ -3,7 +3,7 @@
 ghost use Rattle.std.specs.Prelude.{◌≡◌, ◌&&◌, true, false, map};
 ghost use Rattle.swc_ecma_parser_grammar.specs.Looks as looks;
 ghost use Rattle.swc_ecma_parser_grammar.specs.scaffold.Using as resources;
-ghost use Rattle.swc_ecma_parser_inner.specs.Nests.{Nests};
+ghost use Rattle.swc_ecma_parser_shared.specs.Nests.{Nests};
 ghost use Rattle.swc_ecma_parser_model.specs.declared.leaves.VarDeclKind.TheVariants as decl;
 ghost use Rattle.swc_ecma_parser_reader.specs.AwaitWords as words;
 ghost use Rattle.swc_ecma_parser_reader.specs.Reader as rules;
@@ -14,20 +14,20 @@ use crate::simple::{no_label, note_statement};
 use crate::statement_end::stmt_end;
 use crate::variables::declarators;
 use swc_ecma_parser_common::Span;
+use swc_ecma_parser_cursor::{Cursor, Wanted};
 use swc_ecma_parser_error::{PResult, SyntaxError};
 use swc_ecma_parser_grammar::Position;
-use swc_ecma_parser_inner::cover::{Cover, Reading};
-use swc_ecma_parser_inner::grammar::{Grammar, Part};
-use swc_ecma_parser_inner::steps::{grown, since, with_in};
 use swc_ecma_parser_model::VarDeclKind;
-use swc_ecma_parser_source::{Source, Wanted};
+use swc_ecma_parser_shared::cover::{Cover, Reading};
+use swc_ecma_parser_shared::grammar::{Grammar, Part};
+use swc_ecma_parser_shared::steps::{grown, since, with_in};
 use swc_ecma_parser_token::TokenKind;
 use swc_ecma_parser_trees::{
     BuildsOperator, BuildsPattern, BuildsStmt, BuildsVarDecl, BuildsVariables, MakerOf,
 };
 
 /// Records what is said of one of the variables: it is no plain name, or it is given nothing.
-fn misused<P: Source, T: BuildsVariables>(
+fn misused<P: Cursor, T: BuildsVariables>(
     p: &mut P,
     span: Span,
     declarator: &T::Declarator,
@@ -44,7 +44,7 @@ fn misused<P: Source, T: BuildsVariables>(
 }
 
 /// The same of each of them.
-fn each_misused<P: Source, T: BuildsVariables>(
+fn each_misused<P: Cursor, T: BuildsVariables>(
     p: &mut P,
     span: Span,
     found: &[T::Declarator],
@@ -59,7 +59,7 @@ fn each_misused<P: Source, T: BuildsVariables>(
 
 /// Records what is said of a declaration: the setting does not allow it, and what is said of its variables.
 #[tactic(auto, unfolding(swc_ecma_parser_reader::specs::Reader::misusing))]
-fn misusing<P: Source, T: BuildsVariables>(
+fn misusing<P: Cursor, T: BuildsVariables>(
     p: &mut P,
     span: Span,
     found: &[T::Declarator],
@@ -75,7 +75,7 @@ fn misusing<P: Source, T: BuildsVariables>(
 /// A declaration from the word on, where it declares. What is said of it is recorded before its end.
 #[tactic(auto, unfolding(swc_ecma_parser_reader::specs::Reader::using_from))]
 fn using_from<
-    P: Source,
+    P: Cursor,
     T: BuildsPattern + BuildsVarDecl,
     S: Fn(&MakerOf<T>, &mut P, usize, Position) -> PResult<T::Stmt>,
     E: Fn(&MakerOf<T>, &mut P, usize, Reading) -> PResult<Cover<T::Expr>>,
@@ -101,7 +101,7 @@ fn using_from<
 #[tactic(auto, unfolding(swc_ecma_parser_reader::specs::Reader::using_stmt))]
 #[inline(never)]
 pub fn using_stmt<
-    P: Source,
+    P: Cursor,
     T: BuildsPattern + BuildsVarDecl,
     S: Fn(&MakerOf<T>, &mut P, usize, Position) -> PResult<T::Stmt>,
     E: Fn(&MakerOf<T>, &mut P, usize, Reading) -> PResult<Cover<T::Expr>>,
@@ -116,7 +116,7 @@ pub fn using_stmt<
 
 /// Whether `await` stands here before `using` on its line, where a declaration may stand.
 #[tactic(auto, unfolding(swc_ecma_parser_reader::specs::AwaitWords::begins_await_using))]
-fn may_declare<P: Source>(p: &P, at: Position) -> bool
+fn may_declare<P: Cursor>(p: &P, at: Position) -> bool
     ensures { result ≡ words.begins_await_using at (P.seen p.now).at }
 {
     (at.include_decl || at.top_level)
@@ -127,7 +127,7 @@ fn may_declare<P: Source>(p: &P, at: Position) -> bool
 
 /// The same, where what stands further in can be read in so many levels.
 #[tactic(auto, using(swc_ecma_parser_reader::proofs::AwaitWords::shut, swc_ecma_parser_reader::proofs::AwaitWords::opened))]
-pub fn begins_await_using<P: Source>(p: &P, depth: usize, at: Position) -> bool
+pub fn begins_await_using<P: Cursor>(p: &P, depth: usize, at: Position) -> bool
     ensures { result ≡ (rules.nests depth && words.begins_await_using at (P.seen p.now).at) }
 {
     if depth == 0 {
@@ -140,7 +140,7 @@ pub fn begins_await_using<P: Source>(p: &P, depth: usize, at: Position) -> bool
 #[tactic(auto, unfolding(swc_ecma_parser_reader::specs::AwaitWords::stmt_behind_await, swc_ecma_parser_reader::specs::AwaitWords::expr_stmt_behind))]
 #[inline(never)]
 pub fn await_stmt<
-    P: Source,
+    P: Cursor,
     T: BuildsPattern + BuildsStmt + BuildsOperator + BuildsVarDecl,
     S: Fn(&MakerOf<T>, &mut P, usize, Position) -> PResult<T::Stmt>,
     E: Fn(&MakerOf<T>, &mut P, usize, Reading) -> PResult<Cover<T::Expr>>,

@@ -2,32 +2,32 @@
 
 ghost use Rattle.std.specs.Prelude.{◌≡◌, ◌&&◌, map};
 ghost use Rattle.swc_ecma_parser_grammar.specs.Variables as variables;
-ghost use Rattle.swc_ecma_parser_inner.specs.Nests.{Nests};
+ghost use Rattle.swc_ecma_parser_shared.specs.Nests.{Nests};
 ghost use Rattle.swc_ecma_parser_reader.specs.Reader as rules;
 ghost use Rattle.swc_ecma_parser_reader.specs.State.{GivesAs};
 
 use swc_ecma_parser_common::Span;
+use swc_ecma_parser_cursor::{Cursor, Wanted};
 use swc_ecma_parser_error::{PResult, SyntaxError};
 use swc_ecma_parser_grammar::{Class, Position};
-use swc_ecma_parser_inner::cover::{Cover, Reading, nested};
-use swc_ecma_parser_inner::grammar::{Grammar, Part};
-use swc_ecma_parser_inner::steps::{grown, pushed, since, with_in};
 use swc_ecma_parser_model::VarDeclKind;
 use swc_ecma_parser_patterns::pat::inner_pat;
 use swc_ecma_parser_recovery::recovery::declaration_end;
-use swc_ecma_parser_source::{Source, Wanted};
+use swc_ecma_parser_shared::cover::{Cover, Reading, nested};
+use swc_ecma_parser_shared::grammar::{Grammar, Part};
+use swc_ecma_parser_shared::steps::{grown, pushed, since, with_in};
 use swc_ecma_parser_token::TokenKind;
 use swc_ecma_parser_trees::{BuildsPattern, BuildsVariables, MakerOf};
 
 /// Whether the code is strict, and a declaration one of `const`.
-fn is_strict_const<P: Source>(p: &P, word: VarDeclKind) -> bool
+fn is_strict_const<P: Cursor>(p: &P, word: VarDeclKind) -> bool
     ensures { result ≡ (variables.is_const word && (P.seen p.now).code.flags.strict) }
 {
     matches!(word, VarDeclKind::Const) && p.flags().strict
 }
 
 /// Whether a variable may go without initializer before what stands here.
-fn needs_no_initializer<P: Source, T: BuildsPattern>(
+fn needs_no_initializer<P: Cursor, T: BuildsPattern>(
     p: &P,
     in_head: bool,
     word: VarDeclKind,
@@ -42,7 +42,7 @@ fn needs_no_initializer<P: Source, T: BuildsPattern>(
 /// A declarator, in the head of a loop or not.
 #[tactic(auto, unfolding(swc_ecma_parser_reader::specs::Reader::declarator, swc_ecma_parser_reader::specs::Reader::initialized))]
 fn declarator<
-    P: Source,
+    P: Cursor,
     T: BuildsPattern + BuildsVariables,
     S: Fn(&MakerOf<T>, &mut P, usize, Position) -> PResult<T::Stmt>,
     E: Fn(&MakerOf<T>, &mut P, usize, Reading) -> PResult<Cover<T::Expr>>,
@@ -77,14 +77,14 @@ fn declarator<
 
 /// Whether no declarator begins here: before `;` and at the end of the list.
 #[tactic(auto, unfolding(swc_ecma_parser_reader::specs::Reader::ends_declarators))]
-fn ends_declarators<P: Source>(p: &P) -> bool
+fn ends_declarators<P: Cursor>(p: &P) -> bool
     ensures { result ≡ rules.ends_declarators (P.seen p.now).at }
 {
     p.sees(TokenKind::Semi) || p.sees(TokenKind::End)
 }
 
 /// Where a declarator is missing: at the comma before it, or behind the word that begins the declaration.
-fn missing_at<P: Source, T: BuildsVariables>(p: &P, found: &[T::Declarator]) -> Span
+fn missing_at<P: Cursor, T: BuildsVariables>(p: &P, found: &[T::Declarator]) -> Span
     ensures { result ≡ rules.missing_at (map T.declarator_of found.now) (P.seen p.now).at }
 {
     let last = p.last_span();
@@ -101,7 +101,7 @@ fn missing_at<P: Source, T: BuildsVariables>(p: &P, found: &[T::Declarator]) -> 
 #[tactic(auto, unfolding(swc_ecma_parser_reader::specs::Reader::declarators), using(swc_ecma_parser_reader::proofs::Loops::declarators_done, swc_ecma_parser_reader::proofs::Loops::declarators_err, swc_ecma_parser_reader::proofs::Loops::declarators_miss, swc_ecma_parser_reader::proofs::Loops::declarators_miss_err, swc_ecma_parser_reader::proofs::Loops::declarators_more, swc_ecma_parser_reader::proofs::Loops::declarators_shorter, std::proofs::lemmas::List::map_push))]
 #[inline(never)]
 pub fn declarators<
-    P: Source,
+    P: Cursor,
     T: BuildsPattern + BuildsVariables,
     S: Fn(&MakerOf<T>, &mut P, usize, Position) -> PResult<T::Stmt>,
     E: Fn(&MakerOf<T>, &mut P, usize, Reading) -> PResult<Cover<T::Expr>>,
@@ -136,7 +136,7 @@ pub fn declarators<
 #[tactic(auto, unfolding(swc_ecma_parser_reader::specs::Reader::variables, swc_ecma_parser_grammar::specs::Looks::spanned))]
 #[inline(never)]
 pub fn variables<
-    P: Source,
+    P: Cursor,
     T: BuildsPattern + BuildsVariables,
     S: Fn(&MakerOf<T>, &mut P, usize, Position) -> PResult<T::Stmt>,
     E: Fn(&MakerOf<T>, &mut P, usize, Reading) -> PResult<Cover<T::Expr>>,
@@ -160,7 +160,7 @@ pub fn variables<
 #[tactic(auto, unfolding(swc_ecma_parser_reader::specs::Reader::const_stmt))]
 #[inline(never)]
 pub fn const_stmt<
-    P: Source,
+    P: Cursor,
     T: BuildsPattern + BuildsVariables,
     S: Fn(&MakerOf<T>, &mut P, usize, Position) -> PResult<T::Stmt>,
     E: Fn(&MakerOf<T>, &mut P, usize, Reading) -> PResult<Cover<T::Expr>>,

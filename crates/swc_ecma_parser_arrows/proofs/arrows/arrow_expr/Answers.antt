@@ -4,7 +4,7 @@ use Rattle.swc_ecma_parser_error.specs.Kind.{Fault, fault_of}
 use Rattle.swc_ecma_parser_input.specs.declared.context.Context.{Context}
 use Rattle.swc_ecma_parser_model.specs.Tree.{Tree}
 use Rattle.swc_ecma_parser_grammar.specs.language.Goals.{assignment}
-use Rattle.swc_ecma_parser_source.specs.Around.{left_body}
+use Rattle.swc_ecma_parser_cursor.specs.Around.{left_body}
 use Rattle.swc_ecma_parser_reader.specs.State.{State, Reader, coded}
 use Rattle.swc_ecma_parser_reader.specs.Reader.{expr}
 use Rattle.swc_ecma_parser_reader.proofs.Sound.{expr_code}
@@ -17,37 +17,37 @@ arrow_flags a f = record f { in_function = true; in_static_block = false; is_bre
 
 pub returns-in_err-body-clause-gives : goal.returns-in_err-body-clause-gives
 returns-in_err-body-clause-gives g c =
-    let s = g.P.Source.seen c.args.p.now in
-    let u = g.P.Source.seen c.enter_body-around.new.self in
+    let s = g.P.Cursor.seen c.args.p.now in
+    let u = g.P.Cursor.seen c.enter_body-around.new.self in
     let p = err_from_is_err_and c.from_residual.result c.from_residual.ensures.1 in
-    let e : Fault × State = (fault_of c.in_err-body.field-0.0, g.P.Source.seen c.nested.new.p) in
+    let e : Fault × State = (fault_of c.in_err-body.field-0.0, g.P.Cursor.seen c.nested.new.p) in
     let change = arrow_flags c.args.is_async in
     let body : Reader Tree = expr c.args.g.now.depth assignment in
-    let b = reached change c.flags-outer.result c.in_arrow.result s (g.P.Source.seen c.set_flags.new.self) u c.flags-outer.ensures c.in_arrow.ensures c.set_flags.ensures c.enter_body-around.ensures.state in
+    let b = reached change c.flags-outer.result c.in_arrow.result s (g.P.Cursor.seen c.set_flags.new.self) u c.flags-outer.ensures c.in_arrow.ensures c.set_flags.ensures c.enter_body-around.ensures.state in
     rw (p.1, p.2) (λ h. body_err change body s e (subst (λ w. body w ≡ Err e) b (c.in_err-body.ensures h)))
 
 pub set_flags-requires-2 : goal.set_flags-requires-2
 set_flags-requires-2 g c =
-    let s = g.P.Source.seen c.args.p.now in
-    let u = g.P.Source.seen c.enter_body-around.new.self in
-    let t = g.P.Source.seen c.nested.new.p in
+    let s = g.P.Cursor.seen c.args.p.now in
+    let u = g.P.Cursor.seen c.enter_body-around.new.self in
+    let t = g.P.Cursor.seen c.nested.new.p in
     let x = g.T.Trees.expr_of c.in_ok-body.body in
     let change = arrow_flags c.args.is_async in
     let body : Reader Tree = expr c.args.g.now.depth assignment in
-    let b = reached change c.flags-outer.result c.in_arrow.result s (g.P.Source.seen c.set_flags.new.self) u c.flags-outer.ensures c.in_arrow.ensures c.set_flags.ensures c.enter_body-around.ensures.state in
+    let b = reached change c.flags-outer.result c.in_arrow.result s (g.P.Cursor.seen c.set_flags.new.self) u c.flags-outer.ensures c.in_arrow.ensures c.set_flags.ensures c.enter_body-around.ensures.state in
     let h = subst (λ w. body w ≡ Ok (x, t)) b c.in_ok-body.ensures in
     ap (λ f. f.«module») c.flags-outer.ensures ∙ ap (λ k. k.flags.«module») (sym (expr_code c.args.g.now.depth assignment (entered change s) x t h)) ∙ ap (λ w. w.code.flags.«module») (sym c.leave_body.ensures)
 
 pub returns-clause-gives : goal.returns-clause-gives
 returns-clause-gives g c =
-    let s = g.P.Source.seen c.args.p.now in
-    let u = g.P.Source.seen c.enter_body-around.new.self in
-    let t = g.P.Source.seen c.nested.new.p in
+    let s = g.P.Cursor.seen c.args.p.now in
+    let u = g.P.Cursor.seen c.enter_body-around.new.self in
+    let t = g.P.Cursor.seen c.nested.new.p in
     let x = g.T.Trees.expr_of c.in_ok-body.body in
     let a = c.enter_body-around.result in
     let change = arrow_flags c.args.is_async in
     let body : Reader Tree = expr c.args.g.now.depth assignment in
-    let b = reached change c.flags-outer.result c.in_arrow.result s (g.P.Source.seen c.set_flags.new.self) u c.flags-outer.ensures c.in_arrow.ensures c.set_flags.ensures c.enter_body-around.ensures.state in
+    let b = reached change c.flags-outer.result c.in_arrow.result s (g.P.Cursor.seen c.set_flags.new.self) u c.flags-outer.ensures c.in_arrow.ensures c.set_flags.ensures c.enter_body-around.ensures.state in
     let h = subst (λ w. body w ≡ Ok (x, t)) b c.in_ok-body.ensures in
     body_given change body s x t h a (c.enter_body-around.ensures.labels ∙ ap (λ w. w.scope.labels) c.set_flags.ensures) (c.enter_body-around.ensures.found ∙ ap (λ w. w.notes.found_module_item) c.set_flags.ensures)
     ∙ ap (λ w. Ok (x, w)) (sym (c.set_flags-2.ensures ∙ ap (λ w. coded (record w.code { flags = c.flags-outer.result }) w) c.leave_body.ensures
@@ -55,4 +55,4 @@ returns-clause-gives g c =
 
 pub returns-clause-directive : goal.returns-clause-directive
 returns-clause-directive g c =
-    expr_no_block c.args.g.now.depth (g.P.Source.seen c.enter_body-around.new.self) (g.T.Trees.expr_of c.in_ok-body.body) (g.P.Source.seen c.nested.new.p) c.in_ok-body.ensures false
+    expr_no_block c.args.g.now.depth (g.P.Cursor.seen c.enter_body-around.new.self) (g.T.Trees.expr_of c.in_ok-body.body) (g.P.Cursor.seen c.nested.new.p) c.in_ok-body.ensures false

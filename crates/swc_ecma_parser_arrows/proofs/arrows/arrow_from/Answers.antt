@@ -19,12 +19,12 @@ use Rattle.swc_ecma_parser_arrows.proofs.arrows.arrow_from.Goals as goal
 pub returns-in_err-misdirected : goal.returns-in_err-misdirected
 returns-in_err-misdirected g c =
     let q = err_from_is_err_and c.from_residual-in_err-misdirected.result c.from_residual-in_err-misdirected.ensures.1 in
-    let s = g.P.Source.seen c.args.p.now in
-    let m = g.P.Source.seen c.skip.new.self in
-    let u = g.P.Source.seen c.arrow_body.new.p in
+    let s = g.P.Cursor.seen c.args.p.now in
+    let m = g.P.Cursor.seen c.skip.new.self in
+    let u = g.P.Cursor.seen c.arrow_body.new.p in
     let ps = map g.T.Trees.pat_of c.args.params.items in
     let body = body_of g.T.BuildsBlock.block_of g.T.Trees.expr_of c.in_ok-body.body in
-    let e : Fault × State = (fault_of c.in_err-misdirected.field-0.0, g.P.Source.seen c.misdirected.new.p) in
+    let e : Fault × State = (fault_of c.in_err-misdirected.field-0.0, g.P.Cursor.seen c.misdirected.new.p) in
     let skipped : m ≡ moved s = was_moved s m c.in_ok-skip.field-0 c.in_ok-skip.ensures in
     let plain : c.are_plain_patterns-is_plain.result ≡ are_plain_params (trees ps) = c.are_plain_patterns-is_plain.ensures ∙ ap (λ xs. are_plain_params (trees (map g.T.Trees.pat_of xs))) c.deref.ensures.value in
     let directs : misplaced_directive false body ≡ late c.strict_directive.result = c.in_ok-body.ensures.directive ∙ ap late (sym c.strict_directive.ensures) in
@@ -35,10 +35,10 @@ returns-in_err-misdirected g c =
 
 pub returns : goal.returns
 returns g c =
-    let s = g.P.Source.seen c.args.p.now in
-    let m = g.P.Source.seen c.skip.new.self in
-    let u = g.P.Source.seen c.arrow_body.new.p in
-    let v = g.P.Source.seen c.misdirected.new.p in
+    let s = g.P.Cursor.seen c.args.p.now in
+    let m = g.P.Cursor.seen c.skip.new.self in
+    let u = g.P.Cursor.seen c.arrow_body.new.p in
+    let v = g.P.Cursor.seen c.misdirected.new.p in
     let ps = map g.T.Trees.pat_of c.args.params.items in
     let body = body_of g.T.BuildsBlock.block_of g.T.Trees.expr_of c.in_ok-body.body in
     let skipped : m ≡ moved s = was_moved s m c.in_ok-skip.field-0 c.in_ok-skip.ensures in
@@ -50,7 +50,7 @@ returns g c =
     let made : Span → Tree = λ span. tree.arrow span (listed ps) body c.args.is_async in
     let whole : Span = record { lo = c.args.start.lo; hi = u.at.last.hi } in
     let found = arrow_found c.args.is_async c.args.g.now.depth c.args.start ps s m u body (sym c.had_line_break.ensures ∙ c.if-had_line_break.false) skipped c.in_ok-body.ensures.gives v told_so in
-    made_gives g.T.Trees.expr_of (arrows.arrow_from (expr c.args.g.now.depth) (function c.args.g.now.depth) c.args.is_async c.args.start ps s) (made whole) v (g.P.Source.seen c.grown.new.p) c.grown.result
+    made_gives g.T.Trees.expr_of (arrows.arrow_from (expr c.args.g.now.depth) (function c.args.g.now.depth) c.args.is_async c.args.start ps s) (made whole) v (g.P.Cursor.seen c.grown.new.p) c.grown.result
     c.made_arrow.result found
     (subst (λ z. IfOk c.made_arrow.result (λ y. g.T.Trees.expr_of y ≡ z)) (ap made c.since-span.ensures) c.made_arrow.ensures)
     c.grown.ensures.made c.grown.ensures.state c.grown.ensures.err

@@ -10,8 +10,8 @@ abbrev pub invariant-members : goal.invariant-members
 invariant-members g l =
     let heritage = rules.expr l.c.depth left_side in
     let member = rules.member l.c.depth in
-    members.members heritage member (g.P.Source.seen l.fn.p)
-    ≡ loop (members.members_turn heritage member) (record { found = map g.T.BuildsClass.member_of l.found.items; constructed = l.has_constructor }) (g.P.Source.seen l.p)
+    members.members heritage member (g.P.Cursor.seen l.fn.p)
+    ≡ loop (members.members_turn heritage member) (record { found = map g.T.BuildsClass.member_of l.found.items; constructed = l.has_constructor }) (g.P.Cursor.seen l.p)
 
 abbrev pub decreases-members : goal.decreases-members
-decreases-members g l = length (g.P.Source.seen l.p).at.left
+decreases-members g l = length (g.P.Cursor.seen l.p).at.left

@@ -9,5 +9,5 @@ pub returns-in_err-fault : goal.returns-in_err-fault
 returns-in_err-fault g c =
     let p = err_from_is_err_and c.from_residual-in_err-fault.result c.from_residual-in_err-fault.ensures.1 in
     let f = duplicate c.args.label.now.span in
-    let e : Fault × State = (fault_of c.in_err-fault.field-0.0, g.P.Source.seen c.fault.new.self) in
-    rw (p.1, p.2) (λ h. c.times.invariant ∙ told_err f (g.P.Source.seen c.times.p) c.times.left e c.times-test.true (subst (λ u. fault f u ≡ Err e) c.in_ok-text.ensures.state (c.in_err-fault.ensures h)))
+    let e : Fault × State = (fault_of c.in_err-fault.field-0.0, g.P.Cursor.seen c.fault.new.self) in
+    rw (p.1, p.2) (λ h. c.times.invariant ∙ told_err f (g.P.Cursor.seen c.times.p) c.times.left e c.times-test.true (subst (λ u. fault f u ≡ Err e) c.in_ok-text.ensures.state (c.in_err-fault.ensures h)))

@@ -6,7 +6,7 @@ use Rattle.swc_ecma_parser_control.proofs.label.duplicate.Given as goal
 -- what all of them come to is what the rest of them comes to
 abbrev pub invariant-times : goal.invariant-times
 invariant-times g l =
-    rules.told (replicate l.fn.times (duplicate l.label.span)) (g.P.Source.seen l.fn.p) ≡ rules.told (replicate l.left (duplicate l.label.span)) (g.P.Source.seen l.p)
+    rules.told (replicate l.fn.times (duplicate l.label.span)) (g.P.Cursor.seen l.fn.p) ≡ rules.told (replicate l.left (duplicate l.label.span)) (g.P.Cursor.seen l.p)
 
 abbrev pub decreases-times : goal.decreases-times
 decreases-times g l = l.left

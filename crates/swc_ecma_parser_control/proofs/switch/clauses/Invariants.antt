@@ -11,8 +11,8 @@ abbrev pub invariant-clauses : goal.invariant-clauses
 invariant-clauses g l =
     let stmt = rules.stmt l.g.depth nested_item in
     let expr = rules.expr l.g.depth expression in
-    rules.clauses stmt expr (g.P.Source.seen l.fn.p)
-    ≡ loop (rules.clauses_turn stmt expr) (record { found = map g.T.BuildsSwitch.case_of l.found.items; has_default = is_some l.previous }) (g.P.Source.seen l.p)
+    rules.clauses stmt expr (g.P.Cursor.seen l.fn.p)
+    ≡ loop (rules.clauses_turn stmt expr) (record { found = map g.T.BuildsSwitch.case_of l.found.items; has_default = is_some l.previous }) (g.P.Cursor.seen l.p)
 
 abbrev pub decreases-clauses : goal.decreases-clauses
-decreases-clauses g l = length (g.P.Source.seen l.p).at.left
+decreases-clauses g l = length (g.P.Cursor.seen l.p).at.left

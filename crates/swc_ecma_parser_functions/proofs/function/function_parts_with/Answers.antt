@@ -19,32 +19,32 @@ use Rattle.swc_ecma_parser_functions.proofs.function.function_parts_with.Goals a
 pub returns-in_err-misdirected : goal.returns-in_err-misdirected
 returns-in_err-misdirected g c =
     let p = err_from_is_err_and c.from_residual-in_err-misdirected.result c.from_residual-in_err-misdirected.ensures.1 in
-    let s = g.P.Source.seen c.args.p.now in
-    let t = g.P.Source.seen c.parameters_inside.new.p in
-    let u = g.P.Source.seen c.function_body.new.p in
+    let s = g.P.Cursor.seen c.args.p.now in
+    let t = g.P.Cursor.seen c.parameters_inside.new.p in
+    let u = g.P.Cursor.seen c.function_body.new.p in
     let ps = map g.T.Trees.pat_of c.in_ok-pats.pats.items in
     let body = g.T.BuildsBlock.block_of c.in_ok-block.field-0.block in
-    let e : Fault × State = (fault_of c.in_err-misdirected.field-0.0, g.P.Source.seen c.misdirected.new.p) in
+    let e : Fault × State = (fault_of c.in_err-misdirected.field-0.0, g.P.Cursor.seen c.misdirected.new.p) in
     let plain : c.are_plain.result ≡ are_plain_params (trees (map parameter ps)) = c.are_plain.ensures ∙ ap (λ xs. are_plain_params (trees (map g.T.BuildsFunction.param_of xs))) c.deref.ensures.value ∙ ap (λ xs. are_plain_params (trees xs)) c.in_ok-params.ensures.made in
     rw (p.1, p.2) (λ h. behind_err (stmt c.args.g.now.depth nested_item) (rules.parameters c.args.g.now.depth) (map g.T.BuildsFunction.decorator_of c.args.decorators.items) c.args.manner.is_async c.args.manner.is_generator c.args.start s e
     (parts_err c.args.manner.is_async c.args.manner.is_generator c.args.g.now.depth c.args.start s t u ps body c.in_ok-pats.ensures c.in_ok-block.ensures.gives e
     (subst (λ b. told (misplaced_directive b body) u ≡ Err e) plain
     (subst (λ w. told (misplaced_directive c.are_plain.result body) w ≡ Err e) c.in_ok-params.ensures.state
-    (told_late (λ o. o ≡ Err e) c.are_plain.result body c.in_ok-block.field-0.strict_directive (g.P.Source.seen c.as_params.new.p) c.in_ok-block.ensures.directive
+    (told_late (λ o. o ≡ Err e) c.are_plain.result body c.in_ok-block.field-0.strict_directive (g.P.Cursor.seen c.as_params.new.p) c.in_ok-block.ensures.directive
     (λ b. c.in_err-misdirected.ensures.plain b h) (λ b. c.in_err-misdirected.ensures.late b h))))))
 
 pub returns : goal.returns
 returns g c =
-    let s = g.P.Source.seen c.args.p.now in
-    let t = g.P.Source.seen c.parameters_inside.new.p in
-    let u = g.P.Source.seen c.function_body.new.p in
-    let v = g.P.Source.seen c.misdirected.new.p in
+    let s = g.P.Cursor.seen c.args.p.now in
+    let t = g.P.Cursor.seen c.parameters_inside.new.p in
+    let u = g.P.Cursor.seen c.function_body.new.p in
+    let v = g.P.Cursor.seen c.misdirected.new.p in
     let ps = map g.T.Trees.pat_of c.in_ok-pats.pats.items in
     let body = g.T.BuildsBlock.block_of c.in_ok-block.field-0.block in
     let plain : c.are_plain.result ≡ are_plain_params (trees (map parameter ps)) = c.are_plain.ensures ∙ ap (λ xs. are_plain_params (trees (map g.T.BuildsFunction.param_of xs))) c.deref.ensures.value ∙ ap (λ xs. are_plain_params (trees xs)) c.in_ok-params.ensures.made in
     let told_so : told (misplaced_directive (are_plain_params (trees (map parameter ps))) body) u ≡ Ok (tt, v) = subst (λ b. told (misplaced_directive b body) u ≡ Ok (tt, v)) plain
     (subst (λ w. told (misplaced_directive c.are_plain.result body) w ≡ Ok (tt, v)) c.in_ok-params.ensures.state
-    (told_late (λ o. o ≡ Ok (tt, v)) c.are_plain.result body c.in_ok-block.field-0.strict_directive (g.P.Source.seen c.as_params.new.p) c.in_ok-block.ensures.directive
+    (told_late (λ o. o ≡ Ok (tt, v)) c.are_plain.result body c.in_ok-block.field-0.strict_directive (g.P.Cursor.seen c.as_params.new.p) c.in_ok-block.ensures.directive
     c.in_ok-misdirected.ensures.plain c.in_ok-misdirected.ensures.late)) in
     let made : Span → Tree → Tree → Tree → Tree = λ span ds qs b. tree.function span ds qs b c.args.manner.is_async c.args.manner.is_generator in
     let ds = map g.T.BuildsFunction.decorator_of c.args.decorators.items in
@@ -54,7 +54,7 @@ returns g c =
     let same : made c.since-span.result (listed ds) qs body ≡ z =
     ap (λ span. made span (listed ds) qs body) c.since-span.ensures
     ∙ ap (λ xs. made whole (listed ds) (listed xs) body) c.in_ok-params.ensures.made in
-    made_gives g.T.BuildsFunction.function_of (function_parts_with (stmt c.args.g.now.depth nested_item) (rules.parameters c.args.g.now.depth) ds c.args.manner.is_async c.args.manner.is_generator c.args.start s) z v (g.P.Source.seen c.grown.new.p) c.grown.result
+    made_gives g.T.BuildsFunction.function_of (function_parts_with (stmt c.args.g.now.depth nested_item) (rules.parameters c.args.g.now.depth) ds c.args.manner.is_async c.args.manner.is_generator c.args.start s) z v (g.P.Cursor.seen c.grown.new.p) c.grown.result
     c.function-function.result
     (behind_found (stmt c.args.g.now.depth nested_item) (rules.parameters c.args.g.now.depth) ds c.args.manner.is_async c.args.manner.is_generator c.args.start s (made whole (listed []) (parameters ps) body) v
     (parts_found c.args.manner.is_async c.args.manner.is_generator c.args.g.now.depth c.args.start s t u ps body c.in_ok-pats.ensures c.in_ok-block.ensures.gives v told_so))

@@ -8,10 +8,10 @@ use Rattle.swc_ecma_parser_grammar.specs.language.Goals.{Class}
 use Rattle.swc_ecma_parser_reader.specs.State.{State, Outcome, Reader, wanted}
 use Rattle.swc_ecma_parser_reader.specs.Expressions as exprs
 use Rattle.swc_ecma_parser_reader.specs.Reader as rules
-use Rattle.swc_ecma_parser_inner.specs.Keys.{key_of}
-use Rattle.swc_ecma_parser_inner.specs.declared.keys.Key.{Key}
-use Rattle.swc_ecma_parser_inner.specs.declared.keys.Key.TheVariants as key
-use Rattle.swc_ecma_parser_inner.proofs.Refusals.{wanted_as}
+use Rattle.swc_ecma_parser_shared.specs.Keys.{key_of}
+use Rattle.swc_ecma_parser_shared.specs.declared.keys.Key.{Key}
+use Rattle.swc_ecma_parser_shared.specs.declared.keys.Key.TheVariants as key
+use Rattle.swc_ecma_parser_shared.proofs.Refusals.{wanted_as}
 use Rattle.swc_ecma_parser_literals.proofs.object.initialized_key.Goals as goal
 
 -- what is no name has no default
@@ -24,4 +24,4 @@ other_key view inner cover start s e (key.BigInt x) other h = wanted_as {A = Tre
 other_key view inner cover start s e (key.Computed b x) other h = wanted_as {A = Tree} {B = exprs.Cover} faults.Unexpected s e.0 e.1 h
 
 pub returns : goal.returns
-returns g c = λ h. other_key g.T.Trees.expr_of (rules.expr c.args.g.now.depth) (rules.cover c.args.g.now.depth) c.args.start (g.P.Source.seen c.args.p.now) _ c.args.key c.in_default.not-Word (c.wanted.ensures.tree h)
+returns g c = λ h. other_key g.T.Trees.expr_of (rules.expr c.args.g.now.depth) (rules.cover c.args.g.now.depth) c.args.start (g.P.Cursor.seen c.args.p.now) _ c.args.key c.in_default.not-Word (c.wanted.ensures.tree h)

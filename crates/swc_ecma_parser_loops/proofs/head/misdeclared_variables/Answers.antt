@@ -14,5 +14,5 @@ returns g c =
     let x = c.args.declared.now in
     let many : 1 < length x.found.items = grind (arith, common_steps) in
     let same = ap (λ xs. surplus (trees (map view (between 1 (length xs) xs)))) c.as_slice-found.ensures.value in
-    subst (λ fs. Gives (told fs (g.P.Source.seen c.args.p.now)) c.surplus.result (g.P.Source.seen c.surplus.new.p))
+    subst (λ fs. Gives (told fs (g.P.Cursor.seen c.args.p.now)) c.surplus.result (g.P.Cursor.seen c.surplus.new.p))
     (same ∙ sym (many_declared c.args.refused x.span x.word view x.found.items many)) c.surplus.ensures

@@ -8,7 +8,7 @@ use Rattle.swc_ecma_parser_members.proofs.decorators.all_decorators.Given as goa
 abbrev pub invariant-decorators : goal.invariant-decorators
 invariant-decorators g l =
     let turn = decorators_turn (decorated_in l.g.depth) in
-    loop turn [] (g.P.Source.seen l.fn.p) ≡ loop turn (map g.T.BuildsFunction.decorator_of l.found.items) (g.P.Source.seen l.p)
+    loop turn [] (g.P.Cursor.seen l.fn.p) ≡ loop turn (map g.T.BuildsFunction.decorator_of l.found.items) (g.P.Cursor.seen l.p)
 
 abbrev pub decreases-decorators : goal.decreases-decorators
-decreases-decorators g l = length (g.P.Source.seen l.p).at.left
+decreases-decorators g l = length (g.P.Cursor.seen l.p).at.left

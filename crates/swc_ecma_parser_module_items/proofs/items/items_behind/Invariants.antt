@@ -9,9 +9,9 @@ use Rattle.swc_ecma_parser_module_items.proofs.items.items_behind.Given as goal
 abbrev pub invariant-items : goal.invariant-items
 invariant-items g l = let item = module_item l.limit in
     (l.initial.directives ≡ rules.directs true (map g.T.BuildsItem.item_of l.initial.found.items)
-    → loop (rules.items_turn item rules.at_end true) (map g.T.BuildsItem.item_of l.initial.found.items) (g.P.Source.seen l.fn.p) ≡ loop (rules.items_turn item rules.at_end true) (map g.T.BuildsItem.item_of l.found.items) (g.P.Source.seen l.p))
-    × ((g.P.Source.seen l.fn.p).at.left ≡ [] → (g.P.Source.seen l.p).at.left ≡ [])
+    → loop (rules.items_turn item rules.at_end true) (map g.T.BuildsItem.item_of l.initial.found.items) (g.P.Cursor.seen l.fn.p) ≡ loop (rules.items_turn item rules.at_end true) (map g.T.BuildsItem.item_of l.found.items) (g.P.Cursor.seen l.p))
+    × ((g.P.Cursor.seen l.fn.p).at.left ≡ [] → (g.P.Cursor.seen l.p).at.left ≡ [])
     × (l.initial.directives ≡ rules.directs true (map g.T.BuildsItem.item_of l.initial.found.items) → l.directives ≡ rules.directs true (map g.T.BuildsItem.item_of l.found.items))
 
 abbrev pub decreases-items : goal.decreases-items
-decreases-items g l = length (g.P.Source.seen l.p).at.left
+decreases-items g l = length (g.P.Cursor.seen l.p).at.left

@@ -15,7 +15,7 @@ returns-in_err-first-clause-gives g c =
     let any : has_any v.found ≡ true = any_of v.found
     (sym (c.is_empty.ensures ∙ ap (λ n. n == 0) (c.args.list.found.ok.0 ∙ sym (length-map c.args.list.found.items g.T.BuildsFunction.decorator_of))) ∙ c.if-is_empty.false) in
     let p = err_from_is_err_and c.from_residual.result c.from_residual.ensures.1 in
-    rw (p.1, p.2) (λ h. led_refused c.args.limit v (g.P.Source.seen c.args.p.now) any _ (c.in_err-first.ensures h))
+    rw (p.1, p.2) (λ h. led_refused c.args.limit v (g.P.Cursor.seen c.args.p.now) any _ (c.in_err-first.ensures h))
 
 pub returns-clause-gives : goal.returns-clause-gives
 returns-clause-gives g c =
@@ -24,5 +24,5 @@ returns-clause-gives g c =
     (sym (c.is_empty.ensures ∙ ap (λ n. n == 0) (c.args.list.found.ok.0 ∙ sym (length-map c.args.list.found.items g.T.BuildsFunction.decorator_of))) ∙ c.if-is_empty.false) in
     let items : map g.T.BuildsItem.item_of c.pushed.new.items.items ≡ g.T.BuildsItem.item_of c.in_ok-first.first ∷ [] =
     ap (map g.T.BuildsItem.item_of) (c.in_ok-pushed.ensures.items ∙ ap (λ xs. xs ++ c.in_ok-first.first ∷ []) c.new-found.ensures.items) in
-    subst (λ o. GivesAs (λ found. map g.T.BuildsItem.item_of found.items) o c.items_behind.result (g.P.Source.seen c.items_behind.new.p))
-    (sym (led_read c.args.limit v (g.P.Source.seen c.args.p.now) any _ _ c.in_ok-first.ensures _ items _ c.in_ok-pushed.ensures.state)) (c.items_behind.ensures.gives (c.is_string_item-directives.ensures ∙ ap (directs true) (sym items)))
+    subst (λ o. GivesAs (λ found. map g.T.BuildsItem.item_of found.items) o c.items_behind.result (g.P.Cursor.seen c.items_behind.new.p))
+    (sym (led_read c.args.limit v (g.P.Cursor.seen c.args.p.now) any _ _ c.in_ok-first.ensures _ items _ c.in_ok-pushed.ensures.state)) (c.items_behind.ensures.gives (c.is_string_item-directives.ensures ∙ ap (directs true) (sym items)))

@@ -5,5 +5,5 @@ use Rattle.swc_ecma_parser_module_items.proofs.programs.items_from.Goals as goal
 
 pub returns-clause-outright : goal.returns-clause-outright
 returns-clause-outright g c = λ e _ l. c.joined.ensures.outright
-    (none_mapped g.T.BuildsItem.item_of c.in_ok-behind.behind.items (nothing_behind c.args.limit (g.P.Source.seen c.args.p.now) e
+    (none_mapped g.T.BuildsItem.item_of c.in_ok-behind.behind.items (nothing_behind c.args.limit (g.P.Cursor.seen c.args.p.now) e
     (leading_of g.T.BuildsFunction.decorator_of c.args.front.list) (ap (map g.T.BuildsFunction.decorator_of) l) _ _ c.in_ok-behind.ensures.gives))

@@ -18,16 +18,16 @@ pub returns-in_err-led-clause-gives : goal.returns-in_err-led-clause-gives
 returns-in_err-led-clause-gives g c =
     let p = err_from_is_err_and c.from_residual.result c.from_residual.ensures.1 in
     rw (p.1, p.2) (λ h. c.statements.invariant.0
-    ∙ front_err c.args.limit (map g.T.Trees.stmt_of c.statements.found.items) (g.P.Source.seen c.statements.p) (sym c.before_module.ensures ∙ c.statements-test.true) _ (c.in_err-led.ensures h))
+    ∙ front_err c.args.limit (map g.T.Trees.stmt_of c.statements.found.items) (g.P.Cursor.seen c.statements.p) (sym c.before_module.ensures ∙ c.statements-test.true) _ (c.in_err-led.ensures h))
 
 pub returns-in_err-led-clause-outright : goal.returns-in_err-led-clause-outright
-returns-in_err-led-clause-outright g c = λ h. none_begins (g.P.Source.seen c.statements.p).at (c.statements.invariant.1 h) (sym c.before_module.ensures ∙ c.statements-test.true)
+returns-in_err-led-clause-outright g c = λ h. none_begins (g.P.Cursor.seen c.statements.p).at (c.statements.invariant.1 h) (sym c.before_module.ensures ∙ c.statements-test.true)
 
 -- decorators of an import or export end them
 pub returns-in-Word-clause-gives : goal.returns-in-Word-clause-gives
 returns-in-Word-clause-gives g c =
-    let s = g.P.Source.seen c.statements.p in
-    let u = g.P.Source.seen c.front_item.new.p in
+    let s = g.P.Cursor.seen c.statements.p in
+    let u = g.P.Cursor.seen c.front_item.new.p in
     let list = leading_of g.T.BuildsFunction.decorator_of c.in-Word.list in
     let read : ◌≡◌ {A = Outcome Turn} (turn c.args.limit s) (Ok (Word list, u)) =
     c.in_ok-led.ensures ∙ ap (λ l. Ok (turn_of g.T.Trees.stmt_of g.T.BuildsFunction.decorator_of l, u)) c.in-Word.is in
@@ -36,13 +36,13 @@ returns-in-Word-clause-gives g c =
 -- a statement is read
 pub returns-in_err-pushed-in-Statement-clause-outright : goal.returns-in_err-pushed-in-Statement-clause-outright
 returns-in_err-pushed-in-Statement-clause-outright g c = λ h.
-    none_begins (g.P.Source.seen c.statements.p).at (c.statements.invariant.1 h) (sym c.before_module.ensures ∙ c.statements-test.true)
+    none_begins (g.P.Cursor.seen c.statements.p).at (c.statements.invariant.1 h) (sym c.before_module.ensures ∙ c.statements-test.true)
 
 pub statements-preserved : goal.statements-preserved
 statements-preserved g c =
     let d = c.args.limit in
-    let s = g.P.Source.seen c.statements.p in
-    let u = g.P.Source.seen c.front_item.new.p in
+    let s = g.P.Cursor.seen c.statements.p in
+    let u = g.P.Cursor.seen c.front_item.new.p in
     let found = map g.T.Trees.stmt_of c.statements.found.items in
     let read : ◌≡◌ {A = Outcome Turn} (turn d s) (Ok (Statement (g.T.Trees.stmt_of c.in-Statement.stmt), u)) =
     c.in_ok-led.ensures ∙ ap (λ l. Ok (turn_of g.T.Trees.stmt_of g.T.BuildsFunction.decorator_of l, u)) c.in-Statement.is in (
@@ -54,17 +54,17 @@ statements-preserved g c =
 
 pub statements-smaller : goal.statements-smaller
 statements-smaller g c =
-    let u = g.P.Source.seen c.front_item.new.p in
-    let read : ◌≡◌ {A = Outcome Turn} (turn c.args.limit (g.P.Source.seen c.statements.p)) (Ok (Statement (g.T.Trees.stmt_of c.in-Statement.stmt), u)) =
+    let u = g.P.Cursor.seen c.front_item.new.p in
+    let read : ◌≡◌ {A = Outcome Turn} (turn c.args.limit (g.P.Cursor.seen c.statements.p)) (Ok (Statement (g.T.Trees.stmt_of c.in-Statement.stmt), u)) =
     c.in_ok-led.ensures ∙ ap (λ l. Ok (turn_of g.T.Trees.stmt_of g.T.BuildsFunction.decorator_of l, u)) c.in-Statement.is in
-    rw (c.in_ok-pushed-in-Statement.ensures.state, c.direct-directives.ensures.state) (turn_shorter c.args.limit (g.P.Source.seen c.statements.p) _ u read)
+    rw (c.in_ok-pushed-in-Statement.ensures.state, c.direct-directives.ensures.state) (turn_shorter c.args.limit (g.P.Cursor.seen c.statements.p) _ u read)
 
 -- they end
 pub returns-clause-gives : goal.returns-clause-gives
 returns-clause-gives g c =
-    let s = g.P.Source.seen c.statements.p in
+    let s = g.P.Cursor.seen c.statements.p in
     let found = map g.T.Trees.stmt_of c.statements.found.items in
     let ends : ◌≡◌ {A = Outcome Front} (Ok (record { before = found; list = no_leading s }, s))
-    (Ok (record { before = found; list = leading_of g.T.BuildsFunction.decorator_of c.no_leading-list.result }, g.P.Source.seen c.no_leading-list.new.p)) =
+    (Ok (record { before = found; list = leading_of g.T.BuildsFunction.decorator_of c.no_leading-list.result }, g.P.Cursor.seen c.no_leading-list.new.p)) =
     rw (c.no_leading-list.ensures.none, c.no_leading-list.ensures.state) refl in
     c.statements.invariant.0 ∙ front_stop c.args.limit found s (sym c.before_module.ensures ∙ c.statements-test.false) ∙ ends

@@ -8,9 +8,9 @@ use Rattle.swc_ecma_parser_module_items.proofs.programs.statements.Given as goal
 -- by those before it
 abbrev pub invariant-statements : goal.invariant-statements
 invariant-statements g l =
-    (front l.limit (g.P.Source.seen l.fn.p) ≡ loop (front_turn l.limit) (map g.T.Trees.stmt_of l.found.items) (g.P.Source.seen l.p))
-    × ((g.P.Source.seen l.fn.p).at.left ≡ [] → (g.P.Source.seen l.p).at.left ≡ [])
+    (front l.limit (g.P.Cursor.seen l.fn.p) ≡ loop (front_turn l.limit) (map g.T.Trees.stmt_of l.found.items) (g.P.Cursor.seen l.p))
+    × ((g.P.Cursor.seen l.fn.p).at.left ≡ [] → (g.P.Cursor.seen l.p).at.left ≡ [])
     × (l.directives ≡ directs true (map g.T.Trees.stmt_of l.found.items))
 
 abbrev pub decreases-statements : goal.decreases-statements
-decreases-statements g l = length (g.P.Source.seen l.p).at.left
+decreases-statements g l = length (g.P.Cursor.seen l.p).at.left

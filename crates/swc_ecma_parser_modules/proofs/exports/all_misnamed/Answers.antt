@@ -9,14 +9,14 @@ pub returns-in_err-misnamed : goal.returns-in_err-misnamed
 returns-in_err-misnamed g c =
     let p = err_from_is_err_and c.from_residual.result c.from_residual.ensures.1 in
     let view = g.T.BuildsExport.export_specifier_of in
-    let s = g.P.Source.seen c.specifiers.p in
+    let s = g.P.Cursor.seen c.specifiers.p in
     rw (p.1, p.2) (λ h. c.specifiers.invariant ∙ ap (λ fs. told fs s) (each_from view c.args.specifiers.now c.specifiers.specifier-index c.specifier-item.result c.specifiers-test.true c.specifier-item.is)
     ∙ told_err (specifier_faults (view c.specifier-item.result)) _ s _ (c.in_err-misnamed.ensures h))
 
 pub specifiers-preserved : goal.specifiers-preserved
 specifiers-preserved g c =
     let view = g.T.BuildsExport.export_specifier_of in
-    let s = g.P.Source.seen c.specifiers.p in
+    let s = g.P.Cursor.seen c.specifiers.p in
     c.specifiers.invariant ∙ ap (λ fs. told fs s) (each_from view c.args.specifiers.now c.specifiers.specifier-index c.specifier-item.result c.specifiers-test.true c.specifier-item.is)
     ∙ told_ok (specifier_faults (view c.specifier-item.result)) _ s _ c.in_ok-misnamed.ensures
-    ∙ ap (λ fs. told fs (g.P.Source.seen c.misnamed.new.p)) (each_next view c.args.specifiers.now c.specifiers.specifier-index)
+    ∙ ap (λ fs. told fs (g.P.Cursor.seen c.misnamed.new.p)) (each_next view c.args.specifiers.now c.specifiers.specifier-index)

@@ -7,5 +7,5 @@ use Rattle.swc_ecma_parser_modules.proofs.exports.all_misnamed.Given as goal
 -- what all of them come to is what the rest of them comes to
 abbrev pub invariant-specifiers : goal.invariant-specifiers
 invariant-specifiers g l =
-    told (own.each_specifier (trees (map g.T.BuildsExport.export_specifier_of l.specifiers))) (g.P.Source.seen l.initial.p)
-    ≡ told (own.each_specifier (trees (map g.T.BuildsExport.export_specifier_of (drop l.specifier-index l.specifiers)))) (g.P.Source.seen l.p)
+    told (own.each_specifier (trees (map g.T.BuildsExport.export_specifier_of l.specifiers))) (g.P.Cursor.seen l.initial.p)
+    ≡ told (own.each_specifier (trees (map g.T.BuildsExport.export_specifier_of (drop l.specifier-index l.specifiers)))) (g.P.Cursor.seen l.p)

@@ -15,12 +15,12 @@ pub returns-in_err-specifier : goal.returns-in_err-specifier
 returns-in_err-specifier g c =
     let p = err_from_is_err_and c.from_residual.result c.from_residual.ensures.1 in
     rw (p.1, p.2) (λ h. c.specifiers.invariant
-    ∙ specifiers_err import_specifier (map g.T.BuildsImport.import_specifier_of c.specifiers.found.items) (g.P.Source.seen c.specifiers.p) _ (sym c.if-sees.ensures) (c.in_err-specifier.ensures h))
+    ∙ specifiers_err import_specifier (map g.T.BuildsImport.import_specifier_of c.specifiers.found.items) (g.P.Cursor.seen c.specifiers.p) _ (sym c.if-sees.ensures) (c.in_err-specifier.ensures h))
 
 pub specifiers-preserved : goal.specifiers-preserved
 specifiers-preserved g c =
-    let s = g.P.Source.seen c.specifiers.p in
-    let t = g.P.Source.seen c.import_specifier.new.p in
+    let s = g.P.Cursor.seen c.specifiers.p in
+    let t = g.P.Cursor.seen c.import_specifier.new.p in
     let found = map g.T.BuildsImport.import_specifier_of c.specifiers.found.items in
     let x = g.T.BuildsImport.import_specifier_of c.in_ok-specifier.specifier in
     let same = c.in_ok-pushed.ensures.state in
@@ -31,6 +31,6 @@ specifiers-preserved g c =
 
 pub specifiers-smaller : goal.specifiers-smaller
 specifiers-smaller g c =
-    let s = g.P.Source.seen c.specifiers.p in
-    let t = g.P.Source.seen c.import_specifier.new.p in
+    let s = g.P.Cursor.seen c.specifiers.p in
+    let t = g.P.Cursor.seen c.import_specifier.new.p in
     subst (λ u. length u.at.left < length s.at.left) (ap moved (sym c.in_ok-pushed.ensures.state) ∙ skipped _ _ c.in_ok-skip.ensures) (imports_shorter s _ t c.in_ok-specifier.ensures)

@@ -7,7 +7,7 @@ use Rattle.swc_ecma_parser_modules.proofs.imports.named_imports.Given as goal
 -- what the whole loop gives is what the rest of it gives
 abbrev pub invariant-specifiers : goal.invariant-specifiers
 invariant-specifiers g l =
-    loop (specifiers_turn import_specifier) [] (g.P.Source.seen l.fn.p) ≡ loop (specifiers_turn import_specifier) (map g.T.BuildsImport.import_specifier_of l.found.items) (g.P.Source.seen l.p)
+    loop (specifiers_turn import_specifier) [] (g.P.Cursor.seen l.fn.p) ≡ loop (specifiers_turn import_specifier) (map g.T.BuildsImport.import_specifier_of l.found.items) (g.P.Cursor.seen l.p)
 
 abbrev pub decreases-specifiers : goal.decreases-specifiers
-decreases-specifiers g l = length (g.P.Source.seen l.p).at.left
+decreases-specifiers g l = length (g.P.Cursor.seen l.p).at.left

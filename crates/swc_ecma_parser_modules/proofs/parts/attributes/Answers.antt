@@ -6,4 +6,4 @@ use Rattle.swc_ecma_parser_modules.proofs.parts.attributes.Goals as goal
 pub present-requires : goal.present-requires
 present-requires g c =
     c.attributes.ensures.found
-    ∙ object_alone_is c.args.depth (g.P.Source.seen c.skip.new.self) (g.T.Trees.expr_of c.in_ok-object.object) (g.P.Source.seen c.object_alone.new.p) c.in_ok-object.ensures
+    ∙ object_alone_is c.args.depth (g.P.Cursor.seen c.skip.new.self) (g.T.Trees.expr_of c.in_ok-object.object) (g.P.Cursor.seen c.object_alone.new.p) c.in_ok-object.ensures

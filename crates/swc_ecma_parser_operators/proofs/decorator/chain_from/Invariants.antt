@@ -9,7 +9,7 @@ abbrev pub invariant-chain : goal.invariant-chain
 invariant-chain g l =
     let expr = rules.expr l.g.depth in
     let cover = rules.cover l.g.depth in
-    decorators.chain_from expr cover l.start (g.T.Trees.expr_of l.fn.x) (g.P.Source.seen l.fn.p) ≡ loop (decorators.chain_turn expr cover l.start) (g.T.Trees.expr_of l.x) (g.P.Source.seen l.p)
+    decorators.chain_from expr cover l.start (g.T.Trees.expr_of l.fn.x) (g.P.Cursor.seen l.fn.p) ≡ loop (decorators.chain_turn expr cover l.start) (g.T.Trees.expr_of l.x) (g.P.Cursor.seen l.p)
 
 abbrev pub decreases-chain : goal.decreases-chain
-decreases-chain g l = length (g.P.Source.seen l.p).at.left
+decreases-chain g l = length (g.P.Cursor.seen l.p).at.left

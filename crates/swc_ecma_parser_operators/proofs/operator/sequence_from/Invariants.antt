@@ -10,7 +10,7 @@ invariant-sequence g l =
     let expr = rules.expr l.g.depth in
     let cover = rules.cover l.g.depth in
     let function = rules.function l.g.depth in
-    loop (exprs.sequence_turn expr cover function) (g.T.Trees.expr_of l.fn.x ∷ []) (g.P.Source.seen l.fn.p) ≡ loop (exprs.sequence_turn expr cover function) (map g.T.Trees.expr_of l.found.items) (g.P.Source.seen l.p)
+    loop (exprs.sequence_turn expr cover function) (g.T.Trees.expr_of l.fn.x ∷ []) (g.P.Cursor.seen l.fn.p) ≡ loop (exprs.sequence_turn expr cover function) (map g.T.Trees.expr_of l.found.items) (g.P.Cursor.seen l.p)
 
 abbrev pub decreases-sequence : goal.decreases-sequence
-decreases-sequence g l = length (g.P.Source.seen l.p).at.left
+decreases-sequence g l = length (g.P.Cursor.seen l.p).at.left

@@ -8,9 +8,9 @@ use Rattle.swc_ecma_parser_output_readers.proofs.body.block_body.Given as goal
 -- by those before it
 abbrev pub invariant-items : goal.invariant-items
 invariant-items g l = let item = g.P.StmtLikeParser.item l.limit l.at in
-    (rules.items item (ends_at l.end) l.directives (g.P.Source.seen l.fn.p) ≡ loop (rules.items_turn item (ends_at l.end) l.directives) (map g.Y.IsDirective.held l.found.items) (g.P.Source.seen l.p))
-    × ((g.P.Source.seen l.fn.p).at.left ≡ [] → (g.P.Source.seen l.p).at.left ≡ [])
+    (rules.items item (ends_at l.end) l.directives (g.P.Cursor.seen l.fn.p) ≡ loop (rules.items_turn item (ends_at l.end) l.directives) (map g.Y.IsDirective.held l.found.items) (g.P.Cursor.seen l.p))
+    × ((g.P.Cursor.seen l.fn.p).at.left ≡ [] → (g.P.Cursor.seen l.p).at.left ≡ [])
     × (l.next ≡ rules.directs l.directives (map g.Y.IsDirective.held l.found.items))
 
 abbrev pub decreases-items : goal.decreases-items
-decreases-items g l = length (g.P.Source.seen l.p).at.left
+decreases-items g l = length (g.P.Cursor.seen l.p).at.left

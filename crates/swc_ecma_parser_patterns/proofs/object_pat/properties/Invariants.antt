@@ -11,8 +11,8 @@ invariant-properties g l =
     let cover = rules.cover l.g.depth in
     let pattern = rules.pattern l.g.depth in
     let element = rules.element l.g.depth in
-    patterns.properties expr cover pattern element (g.P.Source.seen l.fn.p)
-    ≡ loop (patterns.object_turn expr cover pattern element) (map g.T.BuildsObjectPat.pat_prop_of l.found.items) (g.P.Source.seen l.p)
+    patterns.properties expr cover pattern element (g.P.Cursor.seen l.fn.p)
+    ≡ loop (patterns.object_turn expr cover pattern element) (map g.T.BuildsObjectPat.pat_prop_of l.found.items) (g.P.Cursor.seen l.p)
 
 abbrev pub decreases-properties : goal.decreases-properties
-decreases-properties g l = length (g.P.Source.seen l.p).at.left
+decreases-properties g l = length (g.P.Cursor.seen l.p).at.left

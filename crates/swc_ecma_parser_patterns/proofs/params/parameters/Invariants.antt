@@ -11,8 +11,8 @@ invariant-parameters g l =
     let cover = rules.cover l.g.depth in
     let pattern = rules.pattern l.g.depth in
     let element = rules.element l.g.depth in
-    rules.parameters l.g.depth (g.P.Source.seen l.fn.p)
-    ≡ loop (patterns.parameters_turn expr cover pattern element) (map g.T.Trees.pat_of l.found.items) (g.P.Source.seen l.p)
+    rules.parameters l.g.depth (g.P.Cursor.seen l.fn.p)
+    ≡ loop (patterns.parameters_turn expr cover pattern element) (map g.T.Trees.pat_of l.found.items) (g.P.Cursor.seen l.p)
 
 abbrev pub decreases-parameters : goal.decreases-parameters
-decreases-parameters g l = length (g.P.Source.seen l.p).at.left
+decreases-parameters g l = length (g.P.Cursor.seen l.p).at.left

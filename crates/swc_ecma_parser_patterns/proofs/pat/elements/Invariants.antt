@@ -12,8 +12,8 @@ invariant-elements g l =
     let cover = rules.cover l.g.depth in
     let pattern = rules.pattern l.g.depth in
     let element = rules.element l.g.depth in
-    patterns.elements expr cover pattern element (g.P.Source.seen l.fn.p)
-    ≡ loop (patterns.array_turn expr cover pattern element) (map (part_of g.T.Trees.pat_of) l.found.items) (g.P.Source.seen l.p)
+    patterns.elements expr cover pattern element (g.P.Cursor.seen l.fn.p)
+    ≡ loop (patterns.array_turn expr cover pattern element) (map (part_of g.T.Trees.pat_of) l.found.items) (g.P.Cursor.seen l.p)
 
 abbrev pub decreases-elements : goal.decreases-elements
-decreases-elements g l = length (g.P.Source.seen l.p).at.left
+decreases-elements g l = length (g.P.Cursor.seen l.p).at.left

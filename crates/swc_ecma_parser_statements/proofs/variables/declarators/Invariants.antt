@@ -8,8 +8,8 @@ abbrev pub invariant-declarators : goal.invariant-declarators
 invariant-declarators g l =
     let expr = rules.expr l.g.depth in
     let pat = rules.pattern l.g.depth in
-    rules.declarators expr pat l.in_head l.word (g.P.Source.seen l.fn.p)
-    ≡ loop (rules.declarators_turn expr pat l.in_head l.word) (map g.T.BuildsVariables.declarator_of l.found.items) (g.P.Source.seen l.p)
+    rules.declarators expr pat l.in_head l.word (g.P.Cursor.seen l.fn.p)
+    ≡ loop (rules.declarators_turn expr pat l.in_head l.word) (map g.T.BuildsVariables.declarator_of l.found.items) (g.P.Cursor.seen l.p)
 
 abbrev pub decreases-declarators : goal.decreases-declarators
-decreases-declarators g l = length (g.P.Source.seen l.p).at.left
+decreases-declarators g l = length (g.P.Cursor.seen l.p).at.left

@@ -1,6 +1,6 @@
 use Rattle.std.proofs.Common.{ap, ◌∙◌}
-use Rattle.swc_ecma_parser_forward.specs.Forward.{in_order}
-use Rattle.swc_ecma_parser_forward.proofs.Entries.{opened_in_order}
+use Rattle.swc_ecma_parser_span_order.specs.Forward.{in_order}
+use Rattle.swc_ecma_parser_span_order.proofs.Entries.{opened_in_order}
 use Rattle.swc_ecma_parser.proofs.parser.Parser.new_from_limited.Goals as goal
 
 pub returns-clause-in_order : goal.returns-clause-in_order

@@ -4,16 +4,16 @@ use Rattle.swc_ecma_parser_reader.specs.Entry.{unmarked}
 use Rattle.swc_ecma_parser_module_reader.proofs.Answers as modules
 use Rattle.swc_ecma_parser_exactness.proofs.Completed.{module_completes}
 use Rattle.swc_ecma_parser_exactness.proofs.Decided.{module_decided}
-use Rattle.swc_ecma_parser_forward.specs.Forward.{in_order}
-use Rattle.swc_ecma_parser_module_forward.proofs.Entries.{module_answers_forward}
-use Rattle.swc_ecma_parser_module_forward.proofs.Follows.{module_items_in_order}
+use Rattle.swc_ecma_parser_span_order.specs.Forward.{in_order}
+use Rattle.swc_ecma_parser_module_span_order.proofs.Entries.{module_answers_forward}
+use Rattle.swc_ecma_parser_module_span_order.proofs.Follows.{module_items_in_order}
 use Rattle.swc_ecma_parser_exactness.proofs.Walked.{module_walked}
 use Rattle.swc_ecma_parser_exactness.specs.Walked.{whole_module_walk}
 use Rattle.swc_ecma_parser_exactness.specs.Completes.{CompletesModule}
 use Rattle.swc_ecma_parser.specs.Parsing.{Parsing}
 use Rattle.swc_ecma_parser_reader.specs.State.{State}
 use Rattle.swc_ecma_parser_module_reader.specs.Entry.{IsEntered}
-use Rattle.swc_ecma_parser_forward.proofs.Leaves.{leaves_in_order}
+use Rattle.swc_ecma_parser_span_order.proofs.Leaves.{leaves_in_order}
 use Rattle.swc_ecma_parser.proofs.Kept.{kept_is, lasts, tells, scope_told, walked_told}
 use Rattle.swc_ecma_parser.proofs.parser.Parser.parse_module.Goals as goal
 

@@ -4,13 +4,13 @@ use Rattle.swc_ecma_parser_reader.specs.Entry.{unmarked}
 use Rattle.swc_ecma_parser_module_reader.proofs.ItemEntries as items
 use Rattle.swc_ecma_parser_exactness.proofs.Completed.{item_completes}
 use Rattle.swc_ecma_parser_exactness.proofs.Decided.{item_decided}
-use Rattle.swc_ecma_parser_module_forward.proofs.Entries.{item_answers_forward}
-use Rattle.swc_ecma_parser_module_forward.proofs.Follows.{item_in_order}
+use Rattle.swc_ecma_parser_module_span_order.proofs.Entries.{item_answers_forward}
+use Rattle.swc_ecma_parser_module_span_order.proofs.Follows.{item_in_order}
 use Rattle.swc_ecma_parser_exactness.proofs.Walked.{item_walked}
 use Rattle.swc_ecma_parser_module_reader.specs.ItemEntry.{item_walk}
 use Rattle.swc_ecma_parser_exactness.specs.Completes.{CompletesItem}
 use Rattle.swc_ecma_parser.specs.Parsing.{Parsing}
-use Rattle.swc_ecma_parser_forward.proofs.Leaves.{leaves_in_order}
+use Rattle.swc_ecma_parser_span_order.proofs.Leaves.{leaves_in_order}
 use Rattle.swc_ecma_parser.proofs.Kept.{kept_is, lasts, tells, scope_told, walked_told}
 use Rattle.swc_ecma_parser.proofs.parser.Parser.parse_module_item.Goals as goal
 

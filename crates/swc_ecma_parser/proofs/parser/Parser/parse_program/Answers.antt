@@ -5,13 +5,13 @@ use Rattle.swc_ecma_parser_module_reader.proofs.Programs as programs
 use Rattle.swc_ecma_parser_module_reader.proofs.ProgramAnswers as answers
 use Rattle.swc_ecma_parser_exactness.proofs.Completed.{program_completes}
 use Rattle.swc_ecma_parser_exactness.proofs.Decided.{program_decided}
-use Rattle.swc_ecma_parser_module_forward.proofs.Entries.{program_answers_forward}
-use Rattle.swc_ecma_parser_module_forward.proofs.Follows.{program_items_in_order}
+use Rattle.swc_ecma_parser_module_span_order.proofs.Entries.{program_answers_forward}
+use Rattle.swc_ecma_parser_module_span_order.proofs.Follows.{program_items_in_order}
 use Rattle.swc_ecma_parser_exactness.proofs.Walked.{program_walked}
 use Rattle.swc_ecma_parser_module_reader.specs.ProgramEntry.{program_walk}
 use Rattle.swc_ecma_parser_exactness.specs.Completes.{CompletesProgram}
 use Rattle.swc_ecma_parser.specs.Parsing.{Parsing}
-use Rattle.swc_ecma_parser_forward.proofs.Leaves.{leaves_in_order}
+use Rattle.swc_ecma_parser_span_order.proofs.Leaves.{leaves_in_order}
 use Rattle.swc_ecma_parser.proofs.Kept.{kept_is, lasts, tells, scope_told, walked_told}
 use Rattle.swc_ecma_parser.proofs.parser.Parser.parse_program.Goals as goal
 

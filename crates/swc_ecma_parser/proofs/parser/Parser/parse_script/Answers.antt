@@ -5,13 +5,13 @@ use Rattle.swc_ecma_parser_reader.proofs.Entries as entries
 use Rattle.swc_ecma_parser_reader.proofs.Keeps as keeps
 use Rattle.swc_ecma_parser_exactness.proofs.Completed.{script_completes}
 use Rattle.swc_ecma_parser_exactness.proofs.Decided.{script_decided}
-use Rattle.swc_ecma_parser_forward.proofs.Entries.{script_answers_forward}
-use Rattle.swc_ecma_parser_forward.proofs.Follows.{script_items_in_order}
+use Rattle.swc_ecma_parser_span_order.proofs.Entries.{script_answers_forward}
+use Rattle.swc_ecma_parser_span_order.proofs.Follows.{script_items_in_order}
 use Rattle.swc_ecma_parser_exactness.proofs.Walked.{script_walked}
 use Rattle.swc_ecma_parser_reader.specs.Entry.{script_walk}
 use Rattle.swc_ecma_parser_exactness.specs.Completes.{CompletesScript}
 use Rattle.swc_ecma_parser.specs.Parsing.{Parsing}
-use Rattle.swc_ecma_parser_forward.proofs.Leaves.{leaves_in_order}
+use Rattle.swc_ecma_parser_span_order.proofs.Leaves.{leaves_in_order}
 use Rattle.swc_ecma_parser.proofs.Kept.{kept_is, lasts, tells, scope_told, walked_told}
 use Rattle.swc_ecma_parser.proofs.parser.Parser.parse_script.Goals as goal
 

@@ -5,13 +5,13 @@ use Rattle.swc_ecma_parser_reader.proofs.Statements as statements
 use Rattle.swc_ecma_parser_reader.proofs.Keeps as keeps
 use Rattle.swc_ecma_parser_exactness.proofs.Completed.{statement_completes}
 use Rattle.swc_ecma_parser_exactness.proofs.Decided.{statement_decided}
-use Rattle.swc_ecma_parser_forward.proofs.Entries.{statement_answers_forward}
-use Rattle.swc_ecma_parser_forward.proofs.Follows.{statement_in_order}
+use Rattle.swc_ecma_parser_span_order.proofs.Entries.{statement_answers_forward}
+use Rattle.swc_ecma_parser_span_order.proofs.Follows.{statement_in_order}
 use Rattle.swc_ecma_parser_exactness.proofs.Walked.{statement_walked}
 use Rattle.swc_ecma_parser_reader.specs.Entry.{statement_walk}
 use Rattle.swc_ecma_parser_exactness.specs.Completes.{CompletesStatement}
 use Rattle.swc_ecma_parser.specs.Parsing.{Parsing}
-use Rattle.swc_ecma_parser_forward.proofs.Leaves.{leaves_in_order}
+use Rattle.swc_ecma_parser_span_order.proofs.Leaves.{leaves_in_order}
 use Rattle.swc_ecma_parser.proofs.Kept.{kept_is, lasts, tells, scope_told, walked_told}
 use Rattle.swc_ecma_parser.proofs.parser.Parser.parse_stmt.Goals as goal
 

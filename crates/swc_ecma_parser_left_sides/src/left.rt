@@ -1,0 +1,527 @@
+//! Primary and left-hand-side expressions: ECMA-262, sections 13.2 and 13.3.
+
+ghost use Rattle.std.specs.Prelude.{◌≡◌, ◌&&◌, IfOk};
+ghost use Rattle.swc_ecma_parser_grammar.specs.Looks.{sees};
+ghost use Rattle.swc_ecma_parser_shared.specs.Nests.{Nests};
+ghost use Rattle.swc_ecma_parser_left_sides.specs.Accesses.{property_of};
+ghost use Rattle.swc_ecma_parser_model.specs.Tree as tree;
+ghost use Rattle.swc_ecma_parser_reader.specs.Expressions as exprs;
+ghost use Rattle.swc_ecma_parser_reader.specs.Methods.{class_form};
+ghost use Rattle.swc_ecma_parser_reader.specs.Reader as rules;
+ghost use Rattle.swc_ecma_parser_reader.specs.State.{Gives, GivesAs};
+ghost use Rattle.swc_ecma_parser_cursor.specs.Literals.{literal_tree};
+ghost use Rattle.swc_ecma_parser_token.specs.declared.kind.TokenKind.TheVariants as kind;
+
+use crate::access::{Property, access, arguments, begins_access, brackets};
+use std::alloc::{AllocError, Global};
+use swc_ecma_parser_common::Span;
+use swc_ecma_parser_cursor::{Cursor, Literal, Wanted};
+use swc_ecma_parser_error::{PResult, SyntaxError};
+use swc_ecma_parser_functions::function::function_expr;
+use swc_ecma_parser_grammar::{Class, Position};
+use swc_ecma_parser_literals::array::array;
+use swc_ecma_parser_literals::object::object;
+use swc_ecma_parser_model::MetaPropKind;
+use swc_ecma_parser_shared::cover::{Cover, Reading, close, inside, nested};
+use swc_ecma_parser_shared::grammar::{Grammar, Part};
+use swc_ecma_parser_shared::keys::word_property;
+use swc_ecma_parser_shared::steps::{grown, since};
+use swc_ecma_parser_token::TokenKind;
+use swc_ecma_parser_trees::{
+    BuildsCall, BuildsExpr, BuildsMethod, BuildsOperator, BuildsPattern, MakerOf, Trees,
+};
+
+/// A name.
+#[tactic(auto, unfolding(swc_ecma_parser_reader::specs::Expressions::ident_expr))]
+#[inline(never)]
+pub fn ident_expr<P: Cursor, T: BuildsExpr>(alloc: Global, p: &mut P) -> PResult<T::Expr>
+    ensures { GivesAs T.expr_of (exprs.ident_expr (P.seen p.old)) result (P.seen p.new) }
+{
+    let name = p.reference(Wanted::Expression)?;
+    grown(p, T::ident(alloc, name))
+}
+
+/// `this`
+#[tactic(auto, unfolding(swc_ecma_parser_reader::specs::Expressions::this))]
+#[inline(never)]
+fn this<P: Cursor, T: BuildsOperator>(alloc: Global, p: &mut P) -> PResult<T::Expr>
+    ensures { GivesAs T.expr_of (exprs.this (P.seen p.old)) result (P.seen p.new) }
+{
+    let start = p.span();
+    p.skip()?;
+    let span = since(p, start);
+    grown(p, T::this(alloc, span))
+}
+
+/// `import.meta` from its word on, which makes a program a module: a fault in code that cannot be a module's.
+#[tactic(auto, unfolding(swc_ecma_parser_reader::specs::Expressions::import_meta, swc_ecma_parser_reader::specs::Expressions::meta_fault))]
+#[inline(never)]
+fn import_meta<P: Cursor, T: BuildsOperator>(
+    alloc: Global,
+    p: &mut P,
+    start: Span,
+) -> PResult<T::Expr>
+    ensures { GivesAs T.expr_of (exprs.import_meta start (P.seen p.old)) result (P.seen p.new) }
+{
+    if !p.word_at("meta") {
+        return Err(p.wanted(Wanted::Expression));
+    }
+    p.skip()?;
+    let span = since(p, start);
+    p.note_module_item();
+    if !p.flags().can_be_module {
+        p.fault(SyntaxError::ImportMetaInScript, span)?;
+    }
+    grown(p, T::meta_prop(alloc, span, MetaPropKind::ImportMeta))
+}
+
+/// The expression that a literal is.
+fn literal_expr<T: BuildsExpr>(alloc: Global, literal: Literal) -> Result<T::Expr, AllocError>
+    ensures { IfOk result (λ x. T.expr_of x ≡ literal_tree literal) }
+{
+    match literal {
+        Literal::Str(x) => T::str(alloc, x),
+        Literal::Num(x) => T::num(alloc, x),
+        Literal::BigInt(x) => T::big_int(alloc, x),
+        Literal::Null(x) => T::null(alloc, x),
+        Literal::Bool(x) => T::bool(alloc, x),
+    }
+}
+
+/// A member, by what stands behind its object.
+fn member<T: BuildsCall>(
+    alloc: Global,
+    span: Span,
+    object: T::Expr,
+    access: Property<T::Expr>,
+) -> Result<T::Expr, AllocError>
+    ensures { IfOk result (λ x. T.expr_of x ≡ tree.member span (T.expr_of object) (property_of T.expr_of access)) }
+{
+    match access {
+        Property::Word(name) => T::member(alloc, span, object, name),
+        Property::Private(name) => T::private_member(alloc, span, object, name),
+        Property::Brackets(brackets, expr) => T::computed_member(
+            alloc, span, object, brackets, expr,
+        ),
+    }
+}
+
+/// An expression in parentheses.
+#[tactic(auto, unfolding(swc_ecma_parser_reader::specs::Expressions::paren))]
+#[inline(never)]
+fn paren<
+    P: Cursor,
+    T: BuildsExpr,
+    S: Fn(&MakerOf<T>, &mut P, usize, Position) -> PResult<T::Stmt>,
+    E: Fn(&MakerOf<T>, &mut P, usize, Reading) -> PResult<Cover<T::Expr>>,
+    N: Fn(&MakerOf<T>, &mut P, usize, Part) -> PResult<T::Pat>,
+>(g: &Grammar<S, E, N>, t: &MakerOf<T>, p: &mut P) -> PResult<T::Expr>
+    requires { Nests P.seen T.expr_of T.pat_of T.stmt_of g.now.depth (S.pre g.now.stmt) (S.post g.now.stmt) (E.pre g.now.expr) (E.post g.now.expr) (N.pre g.now.pat) (N.post g.now.pat) }
+    ensures { GivesAs (T.expr_of) (exprs.paren (rules.expr g.now.depth) (rules.cover g.now.depth) (P.seen p.old)) result (P.seen p.new) }
+{
+    let start = p.span();
+    p.skip()?;
+    let expr = inside(g, t, p, Class::Expression)?;
+    p.expect(TokenKind::RParen, ")")?;
+    let span = since(p, start);
+    grown(p, T::paren(t.alloc, span, expr))
+}
+
+/// A class that is an expression, which the reader of expressions reads one level further in.
+#[inline(never)]
+fn class_expr<
+    P: Cursor,
+    T: Trees,
+    S: Fn(&MakerOf<T>, &mut P, usize, Position) -> PResult<T::Stmt>,
+    E: Fn(&MakerOf<T>, &mut P, usize, Reading) -> PResult<Cover<T::Expr>>,
+    N: Fn(&MakerOf<T>, &mut P, usize, Part) -> PResult<T::Pat>,
+>(g: &Grammar<S, E, N>, t: &MakerOf<T>, p: &mut P) -> PResult<T::Expr>
+    requires { Nests P.seen T.expr_of T.pat_of T.stmt_of g.now.depth (S.pre g.now.stmt) (S.post g.now.stmt) (E.pre g.now.expr) (E.post g.now.expr) (N.pre g.now.pat) (N.post g.now.pat) }
+    ensures { GivesAs T.expr_of (rules.function g.now.depth class_form (P.seen p.old)) result (P.seen p.new) }
+{
+    let found = (g.expr)(t, p, g.depth, Reading::Class)?;
+    Ok(found.tree)
+}
+
+/// Parentheses, an array, an object, `this`, a function, or a class.
+#[tactic(auto, unfolding(swc_ecma_parser_reader::specs::Expressions::marked_primary))]
+#[inline(never)]
+fn marked_primary<
+    P: Cursor,
+    T: BuildsExpr + BuildsCall + BuildsMethod + BuildsOperator + BuildsPattern,
+    S: Fn(&MakerOf<T>, &mut P, usize, Position) -> PResult<T::Stmt>,
+    E: Fn(&MakerOf<T>, &mut P, usize, Reading) -> PResult<Cover<T::Expr>>,
+    N: Fn(&MakerOf<T>, &mut P, usize, Part) -> PResult<T::Pat>,
+>(g: &Grammar<S, E, N>, t: &MakerOf<T>, p: &mut P) -> PResult<T::Expr>
+    requires { Nests P.seen T.expr_of T.pat_of T.stmt_of g.now.depth (S.pre g.now.stmt) (S.post g.now.stmt) (E.pre g.now.expr) (E.post g.now.expr) (N.pre g.now.pat) (N.post g.now.pat) }
+    ensures { GivesAs (T.expr_of) (exprs.marked_primary (rules.expr g.now.depth) (rules.cover g.now.depth) (rules.function g.now.depth) (P.seen p.old)) result (P.seen p.new) }
+{
+    if p.sees(TokenKind::LParen) {
+        return paren(g, t, p);
+    }
+    if p.sees(TokenKind::LBracket) {
+        let v = array(g, t, p)?;
+        return close::<P, T>(p, v);
+    }
+    if p.sees(TokenKind::LBrace) {
+        let v = object(g, t, p)?;
+        return close::<P, T>(p, v);
+    }
+    if p.sees(TokenKind::This) {
+        return this::<P, T>(t.alloc, p);
+    }
+    if p.sees(TokenKind::Function) {
+        return function_expr(g, t, p);
+    }
+    if p.sees(TokenKind::Class) {
+        return class_expr(g, t, p);
+    }
+    Err(p.wanted(Wanted::Expression))
+}
+
+/// A primary expression: section 13.2.
+#[tactic(auto, unfolding(swc_ecma_parser_reader::specs::Expressions::primary, swc_ecma_parser_reader::specs::Expressions::named_expr))]
+#[inline(never)]
+fn primary<
+    P: Cursor,
+    T: BuildsExpr + BuildsCall + BuildsMethod + BuildsOperator + BuildsPattern,
+    S: Fn(&MakerOf<T>, &mut P, usize, Position) -> PResult<T::Stmt>,
+    E: Fn(&MakerOf<T>, &mut P, usize, Reading) -> PResult<Cover<T::Expr>>,
+    N: Fn(&MakerOf<T>, &mut P, usize, Part) -> PResult<T::Pat>,
+>(g: &Grammar<S, E, N>, t: &MakerOf<T>, p: &mut P) -> PResult<T::Expr>
+    requires { Nests P.seen T.expr_of T.pat_of T.stmt_of g.now.depth (S.pre g.now.stmt) (S.post g.now.stmt) (E.pre g.now.expr) (E.post g.now.expr) (N.pre g.now.pat) (N.post g.now.pat) }
+    ensures { GivesAs (T.expr_of) (exprs.primary (rules.expr g.now.depth) (rules.cover g.now.depth) (rules.function g.now.depth) (P.seen p.old)) result (P.seen p.new) }
+{
+    if p.name_at() {
+        if p.is_async_function() {
+            return function_expr(g, t, p);
+        }
+        return ident_expr::<P, T>(t.alloc, p);
+    }
+    if let Some(literal) = p.literal()? {
+        return grown(p, literal_expr::<T>(t.alloc, literal));
+    }
+    marked_primary(g, t, p)
+}
+
+/// An access of what was read from a place on.
+#[tactic(auto, unfolding(swc_ecma_parser_reader::specs::Expressions::accessed))]
+#[inline(never)]
+pub fn accessed<
+    P: Cursor,
+    T: BuildsCall,
+    S: Fn(&MakerOf<T>, &mut P, usize, Position) -> PResult<T::Stmt>,
+    E: Fn(&MakerOf<T>, &mut P, usize, Reading) -> PResult<Cover<T::Expr>>,
+    N: Fn(&MakerOf<T>, &mut P, usize, Part) -> PResult<T::Pat>,
+>(g: &Grammar<S, E, N>, t: &MakerOf<T>, p: &mut P, start: Span, x: T::Expr) -> PResult<T::Expr>
+    requires { Nests P.seen T.expr_of T.pat_of T.stmt_of g.now.depth (S.pre g.now.stmt) (S.post g.now.stmt) (E.pre g.now.expr) (E.post g.now.expr) (N.pre g.now.pat) (N.post g.now.pat) }
+    ensures { GivesAs (T.expr_of) (exprs.accessed (rules.expr g.now.depth) (rules.cover g.now.depth) start (T.expr_of x) (P.seen p.old)) result (P.seen p.new) }
+{
+    let property = access(g, t, p)?;
+    let span = since(p, start);
+    grown(p, member::<T>(t.alloc, span, x, property))
+}
+
+/// A call of what was read from a place on.
+#[tactic(auto, unfolding(swc_ecma_parser_reader::specs::Expressions::called))]
+#[inline(never)]
+pub fn called<
+    P: Cursor,
+    T: BuildsCall,
+    S: Fn(&MakerOf<T>, &mut P, usize, Position) -> PResult<T::Stmt>,
+    E: Fn(&MakerOf<T>, &mut P, usize, Reading) -> PResult<Cover<T::Expr>>,
+    N: Fn(&MakerOf<T>, &mut P, usize, Part) -> PResult<T::Pat>,
+>(g: &Grammar<S, E, N>, t: &MakerOf<T>, p: &mut P, start: Span, x: T::Expr) -> PResult<T::Expr>
+    requires { Nests P.seen T.expr_of T.pat_of T.stmt_of g.now.depth (S.pre g.now.stmt) (S.post g.now.stmt) (E.pre g.now.expr) (E.post g.now.expr) (N.pre g.now.pat) (N.post g.now.pat) }
+    ensures { GivesAs (T.expr_of) (exprs.called (rules.expr g.now.depth) (rules.cover g.now.depth) start (T.expr_of x) (P.seen p.old)) result (P.seen p.new) }
+{
+    let arguments = arguments(g, t, p, true)?;
+    let span = since(p, start);
+    grown(p, T::call(t.alloc, span, x, arguments))
+}
+
+/// Whether arguments begin here, where calls are read.
+fn begins_call<P: Cursor>(p: &P, calls: bool) -> bool
+    ensures { result ≡ (calls && sees kind.LParen (P.seen p.now).at) }
+{
+    calls && p.sees(TokenKind::LParen)
+}
+
+/// What goes on with an expression that was read from a place on: accesses, and calls where they are read.
+#[tactic(auto, unfolding(swc_ecma_parser_reader::specs::Expressions::left_from), using(swc_ecma_parser_reader::proofs::expressions::Loops::left_done, swc_ecma_parser_reader::proofs::expressions::Loops::left_accessed, swc_ecma_parser_reader::proofs::expressions::Loops::left_access_err, swc_ecma_parser_reader::proofs::expressions::Loops::left_called, swc_ecma_parser_reader::proofs::expressions::Loops::left_call_err, swc_ecma_parser_reader::proofs::expressions::Loops::accessed_shorter, swc_ecma_parser_reader::proofs::expressions::Loops::called_shorter))]
+pub fn left_from<
+    P: Cursor,
+    T: BuildsCall,
+    S: Fn(&MakerOf<T>, &mut P, usize, Position) -> PResult<T::Stmt>,
+    E: Fn(&MakerOf<T>, &mut P, usize, Reading) -> PResult<Cover<T::Expr>>,
+    N: Fn(&MakerOf<T>, &mut P, usize, Part) -> PResult<T::Pat>,
+>(
+    g: &Grammar<S, E, N>,
+    t: &MakerOf<T>,
+    p: &mut P,
+    calls: bool,
+    start: Span,
+    x: T::Expr,
+) -> PResult<T::Expr>
+    requires { Nests P.seen T.expr_of T.pat_of T.stmt_of g.now.depth (S.pre g.now.stmt) (S.post g.now.stmt) (E.pre g.now.expr) (E.post g.now.expr) (N.pre g.now.pat) (N.post g.now.pat) }
+    ensures { GivesAs (T.expr_of) (exprs.left_from (rules.expr g.now.depth) (rules.cover g.now.depth) calls start (T.expr_of x) (P.seen p.old)) result (P.seen p.new) }
+{
+    let mut x = x;
+    'left: loop {
+        if begins_access(p) {
+            x = accessed(g, t, p, start, x)?;
+        } else if begins_call(p, calls) {
+            x = called(g, t, p, start, x)?;
+        } else {
+            return Ok(x);
+        }
+    }
+}
+
+/// A call of `super`, which stands at a place.
+#[tactic(auto, unfolding(swc_ecma_parser_reader::specs::Expressions::super_call))]
+#[inline(never)]
+fn super_call<
+    P: Cursor,
+    T: BuildsCall,
+    S: Fn(&MakerOf<T>, &mut P, usize, Position) -> PResult<T::Stmt>,
+    E: Fn(&MakerOf<T>, &mut P, usize, Reading) -> PResult<Cover<T::Expr>>,
+    N: Fn(&MakerOf<T>, &mut P, usize, Part) -> PResult<T::Pat>,
+>(g: &Grammar<S, E, N>, t: &MakerOf<T>, p: &mut P, start: Span) -> PResult<T::Expr>
+    requires { Nests P.seen T.expr_of T.pat_of T.stmt_of g.now.depth (S.pre g.now.stmt) (S.post g.now.stmt) (E.pre g.now.expr) (E.post g.now.expr) (N.pre g.now.pat) (N.post g.now.pat) }
+    ensures { GivesAs (T.expr_of) (exprs.super_call (rules.expr g.now.depth) (rules.cover g.now.depth) start (P.seen p.old)) result (P.seen p.new) }
+{
+    let arguments = arguments(g, t, p, true)?;
+    let span = since(p, start);
+    grown(p, T::super_call(t.alloc, span, start, arguments))
+}
+
+/// An access of `super`, which stands at a place.
+#[tactic(auto, unfolding(swc_ecma_parser_reader::specs::Expressions::super_access, swc_ecma_parser_reader::specs::Expressions::super_property))]
+#[inline(never)]
+fn super_access<
+    P: Cursor,
+    T: BuildsCall,
+    S: Fn(&MakerOf<T>, &mut P, usize, Position) -> PResult<T::Stmt>,
+    E: Fn(&MakerOf<T>, &mut P, usize, Reading) -> PResult<Cover<T::Expr>>,
+    N: Fn(&MakerOf<T>, &mut P, usize, Part) -> PResult<T::Pat>,
+>(g: &Grammar<S, E, N>, t: &MakerOf<T>, p: &mut P, start: Span) -> PResult<T::Expr>
+    requires { Nests P.seen T.expr_of T.pat_of T.stmt_of g.now.depth (S.pre g.now.stmt) (S.post g.now.stmt) (E.pre g.now.expr) (E.post g.now.expr) (N.pre g.now.pat) (N.post g.now.pat) }
+    ensures { GivesAs (T.expr_of) (exprs.super_access (rules.expr g.now.depth) (rules.cover g.now.depth) start (P.seen p.old)) result (P.seen p.new) }
+{
+    if p.sees(TokenKind::Dot) {
+        p.skip()?;
+        let name = word_property(p)?;
+        let span = since(p, start);
+        return grown(p, T::super_prop(t.alloc, span, start, name));
+    }
+    let (place, expr) = brackets(g, t, p)?;
+    let span = since(p, start);
+    grown(p, T::computed_super_prop(t.alloc, span, start, place, expr))
+}
+
+/// What stands behind `super`.
+#[tactic(auto, unfolding(swc_ecma_parser_reader::specs::Expressions::behind_super))]
+fn behind_super<
+    P: Cursor,
+    T: BuildsCall,
+    S: Fn(&MakerOf<T>, &mut P, usize, Position) -> PResult<T::Stmt>,
+    E: Fn(&MakerOf<T>, &mut P, usize, Reading) -> PResult<Cover<T::Expr>>,
+    N: Fn(&MakerOf<T>, &mut P, usize, Part) -> PResult<T::Pat>,
+>(g: &Grammar<S, E, N>, t: &MakerOf<T>, p: &mut P, calls: bool, start: Span) -> PResult<T::Expr>
+    requires { Nests P.seen T.expr_of T.pat_of T.stmt_of g.now.depth (S.pre g.now.stmt) (S.post g.now.stmt) (E.pre g.now.expr) (E.post g.now.expr) (N.pre g.now.pat) (N.post g.now.pat) }
+    ensures { GivesAs (T.expr_of) (exprs.behind_super (rules.expr g.now.depth) (rules.cover g.now.depth) calls start (P.seen p.old)) result (P.seen p.new) }
+{
+    if begins_call(p, calls) {
+        return super_call(g, t, p, start);
+    }
+    if begins_access(p) {
+        return super_access(g, t, p, start);
+    }
+    Err(p.reject(SyntaxError::InvalidSuper, start))
+}
+
+/// `super` and what it stands before.
+#[tactic(auto, unfolding(swc_ecma_parser_reader::specs::Expressions::super_head))]
+#[inline(never)]
+fn super_head<
+    P: Cursor,
+    T: BuildsCall,
+    S: Fn(&MakerOf<T>, &mut P, usize, Position) -> PResult<T::Stmt>,
+    E: Fn(&MakerOf<T>, &mut P, usize, Reading) -> PResult<Cover<T::Expr>>,
+    N: Fn(&MakerOf<T>, &mut P, usize, Part) -> PResult<T::Pat>,
+>(g: &Grammar<S, E, N>, t: &MakerOf<T>, p: &mut P, calls: bool) -> PResult<T::Expr>
+    requires { Nests P.seen T.expr_of T.pat_of T.stmt_of g.now.depth (S.pre g.now.stmt) (S.post g.now.stmt) (E.pre g.now.expr) (E.post g.now.expr) (N.pre g.now.pat) (N.post g.now.pat) }
+    ensures { GivesAs (T.expr_of) (exprs.super_head (rules.expr g.now.depth) (rules.cover g.now.depth) calls (P.seen p.old)) result (P.seen p.new) }
+{
+    let start = p.span();
+    p.skip()?;
+    behind_super(g, t, p, calls, start)
+}
+
+/// The arguments of `new`.
+#[tactic(auto, unfolding(swc_ecma_parser_reader::specs::Expressions::constructed))]
+#[inline(never)]
+fn constructed<
+    P: Cursor,
+    T: BuildsCall,
+    S: Fn(&MakerOf<T>, &mut P, usize, Position) -> PResult<T::Stmt>,
+    E: Fn(&MakerOf<T>, &mut P, usize, Reading) -> PResult<Cover<T::Expr>>,
+    N: Fn(&MakerOf<T>, &mut P, usize, Part) -> PResult<T::Pat>,
+>(g: &Grammar<S, E, N>, t: &MakerOf<T>, p: &mut P, start: Span, x: T::Expr) -> PResult<T::Expr>
+    requires { Nests P.seen T.expr_of T.pat_of T.stmt_of g.now.depth (S.pre g.now.stmt) (S.post g.now.stmt) (E.pre g.now.expr) (E.post g.now.expr) (N.pre g.now.pat) (N.post g.now.pat) }
+    ensures { GivesAs (T.expr_of) (exprs.constructed (rules.expr g.now.depth) (rules.cover g.now.depth) start (T.expr_of x) (P.seen p.old)) result (P.seen p.new) }
+{
+    let arguments = arguments(g, t, p, true)?;
+    let span = since(p, start);
+    grown(p, T::new_expr(t.alloc, span, x, Some(arguments)))
+}
+
+/// `new` without arguments.
+#[tactic(auto, unfolding(swc_ecma_parser_reader::specs::Expressions::bare_new))]
+#[inline(never)]
+fn bare_new<P: Cursor, T: BuildsCall>(
+    alloc: Global,
+    p: &mut P,
+    start: Span,
+    x: T::Expr,
+) -> PResult<T::Expr>
+    ensures { GivesAs T.expr_of (exprs.bare_new start (T.expr_of x) (P.seen p.old)) result (P.seen p.new) }
+{
+    let span = since(p, start);
+    grown(p, T::new_expr(alloc, span, x, None))
+}
+
+/// `new`, what it calls, and the arguments, if there are any.
+#[tactic(auto, unfolding(swc_ecma_parser_reader::specs::Expressions::new_head))]
+#[inline(never)]
+fn new_head<
+    P: Cursor,
+    T: BuildsCall,
+    S: Fn(&MakerOf<T>, &mut P, usize, Position) -> PResult<T::Stmt>,
+    E: Fn(&MakerOf<T>, &mut P, usize, Reading) -> PResult<Cover<T::Expr>>,
+    N: Fn(&MakerOf<T>, &mut P, usize, Part) -> PResult<T::Pat>,
+>(g: &Grammar<S, E, N>, t: &MakerOf<T>, p: &mut P) -> PResult<T::Expr>
+    requires { Nests P.seen T.expr_of T.pat_of T.stmt_of g.now.depth (S.pre g.now.stmt) (S.post g.now.stmt) (E.pre g.now.expr) (E.post g.now.expr) (N.pre g.now.pat) (N.post g.now.pat) }
+    ensures { GivesAs (T.expr_of) (exprs.new_head (rules.expr g.now.depth) (rules.cover g.now.depth) (P.seen p.old)) result (P.seen p.new) }
+{
+    let start = p.span();
+    p.skip()?;
+    let x = nested(g, t, p, Class::Callee)?;
+    if p.sees(TokenKind::LParen) {
+        return constructed(g, t, p, start, x);
+    }
+    bare_new::<P, T>(t.alloc, p, start, x)
+}
+
+/// The arguments of `import`, which stands at a place.
+#[tactic(auto, unfolding(swc_ecma_parser_reader::specs::Expressions::import_call))]
+#[inline(never)]
+fn import_call<
+    P: Cursor,
+    T: BuildsCall,
+    S: Fn(&MakerOf<T>, &mut P, usize, Position) -> PResult<T::Stmt>,
+    E: Fn(&MakerOf<T>, &mut P, usize, Reading) -> PResult<Cover<T::Expr>>,
+    N: Fn(&MakerOf<T>, &mut P, usize, Part) -> PResult<T::Pat>,
+>(g: &Grammar<S, E, N>, t: &MakerOf<T>, p: &mut P, start: Span) -> PResult<T::Expr>
+    requires { Nests P.seen T.expr_of T.pat_of T.stmt_of g.now.depth (S.pre g.now.stmt) (S.post g.now.stmt) (E.pre g.now.expr) (E.post g.now.expr) (N.pre g.now.pat) (N.post g.now.pat) }
+    ensures { GivesAs (T.expr_of) (exprs.import_call (rules.expr g.now.depth) (rules.cover g.now.depth) start (P.seen p.old)) result (P.seen p.new) }
+{
+    let commas = p.import_attributes();
+    let arguments = arguments(g, t, p, commas)?;
+    let span = since(p, start);
+    grown(p, T::import_call(t.alloc, span, start, arguments))
+}
+
+/// `import` and its arguments, or `import.meta`.
+#[tactic(auto, unfolding(swc_ecma_parser_reader::specs::Expressions::import_head))]
+#[inline(never)]
+fn import_head<
+    P: Cursor,
+    T: BuildsCall + BuildsOperator,
+    S: Fn(&MakerOf<T>, &mut P, usize, Position) -> PResult<T::Stmt>,
+    E: Fn(&MakerOf<T>, &mut P, usize, Reading) -> PResult<Cover<T::Expr>>,
+    N: Fn(&MakerOf<T>, &mut P, usize, Part) -> PResult<T::Pat>,
+>(g: &Grammar<S, E, N>, t: &MakerOf<T>, p: &mut P) -> PResult<T::Expr>
+    requires { Nests P.seen T.expr_of T.pat_of T.stmt_of g.now.depth (S.pre g.now.stmt) (S.post g.now.stmt) (E.pre g.now.expr) (E.post g.now.expr) (N.pre g.now.pat) (N.post g.now.pat) }
+    ensures { GivesAs (T.expr_of) (exprs.import_head (rules.expr g.now.depth) (rules.cover g.now.depth) (P.seen p.old)) result (P.seen p.new) }
+{
+    let start = p.span();
+    p.skip()?;
+    if p.sees(TokenKind::LParen) {
+        return import_call(g, t, p, start);
+    }
+    if p.sees(TokenKind::Dot) {
+        p.skip()?;
+        return import_meta::<P, T>(t.alloc, p, start);
+    }
+    Err(p.wanted(Wanted::Expression))
+}
+
+/// Whether `import` stands here, where calls are read.
+fn begins_import<P: Cursor>(p: &P, calls: bool) -> bool
+    ensures { result ≡ (calls && sees kind.Import (P.seen p.now).at) }
+{
+    calls && p.sees(TokenKind::Import)
+}
+
+/// What a left-hand-side expression begins with; `new` does not call what `import` calls.
+#[tactic(auto, unfolding(swc_ecma_parser_reader::specs::Expressions::left_head))]
+#[inline(never)]
+fn left_head<
+    P: Cursor,
+    T: BuildsExpr + BuildsCall + BuildsMethod + BuildsOperator + BuildsPattern,
+    S: Fn(&MakerOf<T>, &mut P, usize, Position) -> PResult<T::Stmt>,
+    E: Fn(&MakerOf<T>, &mut P, usize, Reading) -> PResult<Cover<T::Expr>>,
+    N: Fn(&MakerOf<T>, &mut P, usize, Part) -> PResult<T::Pat>,
+>(g: &Grammar<S, E, N>, t: &MakerOf<T>, p: &mut P, calls: bool) -> PResult<T::Expr>
+    requires { Nests P.seen T.expr_of T.pat_of T.stmt_of g.now.depth (S.pre g.now.stmt) (S.post g.now.stmt) (E.pre g.now.expr) (E.post g.now.expr) (N.pre g.now.pat) (N.post g.now.pat) }
+    ensures { GivesAs (T.expr_of) (exprs.left_head (rules.expr g.now.depth) (rules.cover g.now.depth) (rules.function g.now.depth) calls (P.seen p.old)) result (P.seen p.new) }
+{
+    if p.sees(TokenKind::Super) {
+        return super_head(g, t, p, calls);
+    }
+    if p.sees(TokenKind::New) {
+        return new_head(g, t, p);
+    }
+    if begins_import(p, calls) {
+        return import_head(g, t, p);
+    }
+    primary(g, t, p)
+}
+
+/// A left-hand-side expression with its calls, or what `new` calls.
+#[tactic(auto, unfolding(swc_ecma_parser_reader::specs::Expressions::left))]
+pub fn left<
+    P: Cursor,
+    T: BuildsExpr + BuildsCall + BuildsMethod + BuildsOperator + BuildsPattern,
+    S: Fn(&MakerOf<T>, &mut P, usize, Position) -> PResult<T::Stmt>,
+    E: Fn(&MakerOf<T>, &mut P, usize, Reading) -> PResult<Cover<T::Expr>>,
+    N: Fn(&MakerOf<T>, &mut P, usize, Part) -> PResult<T::Pat>,
+>(g: &Grammar<S, E, N>, t: &MakerOf<T>, p: &mut P, calls: bool) -> PResult<T::Expr>
+    requires { Nests P.seen T.expr_of T.pat_of T.stmt_of g.now.depth (S.pre g.now.stmt) (S.post g.now.stmt) (E.pre g.now.expr) (E.post g.now.expr) (N.pre g.now.pat) (N.post g.now.pat) }
+    ensures { GivesAs (T.expr_of) (exprs.left (rules.expr g.now.depth) (rules.cover g.now.depth) (rules.function g.now.depth) calls (P.seen p.old)) result (P.seen p.new) }
+{
+    let start = p.span();
+    let x = left_head(g, t, p, calls)?;
+    left_from(g, t, p, calls, start, x)
+}
+
+/// A left-hand-side expression that nothing goes on with.
+#[tactic(auto, unfolding(swc_ecma_parser_reader::specs::Expressions::left_expr, swc_ecma_parser_reader::specs::Expressions::closed_left))]
+pub fn left_expr<
+    P: Cursor,
+    T: BuildsExpr + BuildsCall + BuildsMethod + BuildsOperator + BuildsPattern,
+    S: Fn(&MakerOf<T>, &mut P, usize, Position) -> PResult<T::Stmt>,
+    E: Fn(&MakerOf<T>, &mut P, usize, Reading) -> PResult<Cover<T::Expr>>,
+    N: Fn(&MakerOf<T>, &mut P, usize, Part) -> PResult<T::Pat>,
+>(g: &Grammar<S, E, N>, t: &MakerOf<T>, p: &mut P) -> PResult<T::Expr>
+    requires { Nests P.seen T.expr_of T.pat_of T.stmt_of g.now.depth (S.pre g.now.stmt) (S.post g.now.stmt) (E.pre g.now.expr) (E.post g.now.expr) (N.pre g.now.pat) (N.post g.now.pat) }
+    ensures { GivesAs (T.expr_of) (exprs.left_expr (rules.expr g.now.depth) (rules.cover g.now.depth) (rules.function g.now.depth) (P.seen p.old)) result (P.seen p.new) }
+{
+    let x = left(g, t, p, true)?;
+    if p.continues_left_side() {
+        return Err(p.wanted(Wanted::Expression));
+    }
+    Ok(x)
+}
