@@ -1,11 +1,11 @@
 //! Lists that are broken at one place: an error token or a stray bracket stands there, or the list is cut. Each entry is asked three
 //! times over each such list.
 
-use ecma_texts::answers::{Answer, discard, lacks_memory, refusal};
 use ecma_row_format::asked::{Asked, ENTRIES, Entry};
 use ecma_row_format::row::{asked, is_of_tokens, read, text};
-use ecma_texts::sources::{error_at, let_go, listed, tokens};
 use ecma_row_format::tally::Tally;
+use ecma_texts::answers::{Answer, discard, lacks_memory, refusal};
+use ecma_texts::sources::{error_at, let_go, listed, tokens};
 use serde_json::Value;
 use std::alloc::{AllocError, Global};
 use swc_ecma_parser::ast::{ModuleItem, Program, Stmt};

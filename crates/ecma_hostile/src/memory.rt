@@ -2,13 +2,13 @@
 //! that is to be tried, and `scripts/refuse_memory` runs it over a C library that sees these lines and refuses what lies between.
 //! Where no such lines are wanted, each part is run with all the memory that it asks for.
 
+use ecma_row_format::asked::{Asked, ENTRIES, Entry};
+use ecma_row_format::row::{asked, is_of_tokens, read as read_row, text};
+use ecma_row_format::tally::Tally;
 use ecma_texts::answers::{
     Answer, Found, ask_all, call, discard, lacks_memory, nothing, refusal, write_answer,
 };
-use ecma_row_format::asked::{Asked, ENTRIES, Entry};
-use ecma_row_format::row::{asked, is_of_tokens, read as read_row, text};
 use ecma_texts::sources::{input, let_go, lexer, listed, read, tokens};
-use ecma_row_format::tally::Tally;
 use serde_json::Value;
 use std::alloc::{AllocError, Global};
 use swc_ecma_parser::Parser;

@@ -71,7 +71,7 @@ fn fewest(alloc: Global, row: &Value, text: &str, asked: Asked) -> Result<u32, A
         if low >= high {
             break;
         }
-        let middle = low + (high - low) / 2;
+        let middle = low.midpoint(high);
         let lines = lines_within(alloc, row, text, asked, middle)?;
         if is_clean(lines.as_str()) {
             high = middle;
