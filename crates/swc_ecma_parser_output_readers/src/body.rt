@@ -1,7 +1,7 @@
 //! Statements, or what stands in their place, one behind another: ECMA-262, sections 14.2, 16.1 and 16.2.
 
 ghost use Rattle.std.specs.Prelude.{◌≡◌, [], map, IsOk};
-ghost use Rattle.swc_ecma_parser_grammar.specs.Reads.{directed, directs_on};
+ghost use Rattle.swc_ecma_parser_grammar.specs.language.Items.{directed, directs_on};
 ghost use Rattle.swc_ecma_parser_output_readers.specs.Bodies.{ends_at};
 ghost use Rattle.swc_ecma_parser_reader.specs.Reader as rules;
 ghost use Rattle.swc_ecma_parser_reader.specs.State as reader;
