@@ -1,1 +1,2 @@
+mod Items
 mod Stops

@@ -1,8 +1,9 @@
-//! Readers of what a caller picks the type of: statements, or what stands in their place, and lists of them.
+//! Readers of what a caller picks the type of: statements, items of modules, and lists of them.
 #![tactic(auto)]
 
 mod body;
 mod like;
+mod places;
 
 pub use body::{BodyEnd, block_body};
 pub use like::{StmtLikeParser, stmt_like};

@@ -54,7 +54,7 @@ fn begins_item<P: Source>(p: &P) -> bool
 }
 
 /// What was made, where want of memory is the only fault; it is noted that memory ran out.
-fn made<P: Source, A>(p: &mut P, made: PResult<A>) -> PResult<A>
+pub(crate) fn made<P: Source, A>(p: &mut P, made: PResult<A>) -> PResult<A>
     ensures made { IfOk result (λ a. made ≡ Ok a) }
     ensures state { IfOk result (λ a. P.seen p.new ≡ P.seen p.old) }
     ensures err { IfErr result IsOutOfMemory }
