@@ -1,6 +1,8 @@
 //! Statements, sorted.
 
-ghost use Rattle.std.specs.Prelude.{◌≡◌, IfOk};
+ghost use Rattle.std.specs.Prelude.{◌≡◌};
+ghost use Rattle.ecma_sorted.specs.Parts.{view_part};
+ghost use Rattle.swc_ecma_parser_ast.specs.View.{view_stmt};
 
 use std::alloc::Global;
 use swc_ecma_parser_ast::{Decl, Stmt};
@@ -25,9 +27,17 @@ impl Drop for Part {
     }
 }
 
-impl IsDirective for Part {
-    ghost use Rattle.ecma_sorted.specs.Parts.{view_part};
+/// A statement in its place among the parts.
+pub(crate) fn sorted(stmt: Stmt) -> Part
+    ensures { view_part result ≡ view_stmt stmt }
+{
+    match stmt {
+        Stmt::Decl(decl) => Part::Declaration(decl),
+        other => Part::Other(other),
+    }
+}
 
+impl IsDirective for Part {
     ghost held = { view_part };
 
     #[tactic(auto, using(crate::proofs::Declared::no_directive))]
@@ -49,9 +59,6 @@ impl IsDirective for Part {
 
 impl FromStmt<Ast> for Part {
     fn from_stmt(alloc: Global, stmt: Stmt) -> PResult<Part> {
-        match stmt {
-            Stmt::Decl(decl) => Ok(Part::Declaration(decl)),
-            other => Ok(Part::Other(other)),
-        }
+        Ok(sorted(stmt))
     }
 }

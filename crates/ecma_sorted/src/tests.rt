@@ -1,6 +1,6 @@
 //! Statements as values of the example's own type, through its bounds.
 
-use crate::{Part, is_strict, keep};
+use crate::{Part, is_strict, keep, parts};
 use std::alloc::{AllocError, Global};
 use std::test::Fail;
 use swc_ecma_parser_ast::{
@@ -8,6 +8,9 @@ use swc_ecma_parser_ast::{
     VarDeclKind,
 };
 use swc_ecma_parser_ast_trees::Ast;
+use swc_ecma_parser_input::Syntax;
+use swc_ecma_parser_lexer::{Lexer, StringInput};
+use swc_ecma_parser_state::State;
 
 fn span(low: u32, high: u32) -> Span {
     Span::new(BytePos(low), BytePos(high))
@@ -71,5 +74,39 @@ fn an_empty_statement_ends_the_directives(rt: HostRuntime) -> Result<(), Fail> {
     keep::<Ast, Part>(alloc, &mut parts, empty())?;
     keep::<Ast, Part>(alloc, &mut parts, string(alloc, "\"use strict\"")?)?;
     assert!(rt; !is_strict(parts.as_slice()));
+    Ok(())
+}
+
+/// The parts of a text.
+fn read(alloc: Global, text: &str) -> Result<Vec<Part>, Fail> {
+    if text.len() > 1_000 {
+        return Err("too long")?;
+    }
+    let end = BytePos(text.len() as u32);
+    let input = StringInput::new(text, BytePos(0), end);
+    let lexer = Lexer::new(alloc, Syntax::default(), input, false);
+    let (_state, read) = parts(alloc, State::new(alloc, lexer), 100);
+    Ok(read?)
+}
+
+#[test]
+fn a_text_is_read_as_parts(rt: HostRuntime) -> Result<(), Fail> {
+    let parts = read(rt.alloc(), "'use strict'; var a; b()")?;
+    assert_eq!(rt; parts.len(), 3);
+    assert!(rt; is_strict(parts.as_slice()));
+    match &parts[1] {
+        Part::Declaration(_) => {}
+        Part::Other(_) => assert!(rt; false),
+    }
+    match &parts[2] {
+        Part::Declaration(_) => assert!(rt; false),
+        Part::Other(_) => {}
+    }
+    Ok(())
+}
+
+#[test]
+fn an_export_is_no_part(rt: HostRuntime) -> Result<(), Fail> {
+    assert!(rt; read(rt.alloc(), "a; export {}").is_err());
     Ok(())
 }
