@@ -1,2 +1,1 @@
-mod Items
 mod Stops

@@ -1,2 +1,3 @@
 pub mod Items
+pub mod ItemLaws
 pub mod Bodies

@@ -35,7 +35,7 @@ impl<P: Source> StmtLikeParser<Ast, Stmt> for P {
 
 impl<P: Source> StmtLikeParser<Ast, ModuleItem> for P {
     ghost use Rattle.swc_ecma_parser_output_readers.specs.Items.{item_at};
-    ghost use Rattle.swc_ecma_parser_output_readers.proofs.Items.{item_at_stmt, item_at_shorter};
+    ghost use Rattle.swc_ecma_parser_output_readers.specs.ItemLaws.{item_at_stmt, item_at_shorter};
 
     ghost item = { item_at };
 
@@ -43,7 +43,7 @@ impl<P: Source> StmtLikeParser<Ast, ModuleItem> for P {
 
     ghost takes = { item_at_shorter };
 
-    #[tactic(auto, using(crate::proofs::Items::item_at_item))]
+    #[tactic(auto, using(crate::specs::ItemLaws::item_at_item))]
     fn handle_import_export(
         &mut self,
         t: &MakerOf<Ast>,
