@@ -1,1 +1,2 @@
+mod Late
 mod Stops

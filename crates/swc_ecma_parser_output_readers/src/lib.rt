@@ -2,8 +2,10 @@
 #![tactic(auto)]
 
 mod body;
+mod fn_body;
 mod like;
 mod places;
 
 pub use body::{BodyEnd, block_body};
+pub use fn_body::FnBodyParser;
 pub use like::{StmtLikeParser, stmt_like};
