@@ -1,2 +1,1 @@
 mod Late
-mod Stops

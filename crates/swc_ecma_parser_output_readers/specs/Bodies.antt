@@ -1,17 +1,9 @@
--- Where a body ends, and the bodies of functions.
+-- The bodies of functions.
 use Rattle.std.specs.Prelude.{Bool}
-use Rattle.swc_ecma_parser_input.specs.Place.{Place}
 use Rattle.swc_ecma_parser_model.specs.Tree.{Tree}
 use Rattle.swc_ecma_parser_grammar.specs.Own.{misplaced_directive}
 use Rattle.swc_ecma_parser_reader.specs.Jumps.{told}
-use Rattle.swc_ecma_parser_reader.specs.Reader.{at_end, closes}
 use Rattle.swc_ecma_parser_reader.specs.State.{Reader, ◌>>=◌, ◌>>◌, pure}
-use Rattle.swc_ecma_parser_output_readers.specs.declared.body.BodyEnd.{BodyEnd}
-use Rattle.swc_ecma_parser_output_readers.specs.declared.body.BodyEnd.TheVariants as end
-
-abbrev pub ends_at : BodyEnd → Place → Bool
-ends_at end.Brace = closes
-ends_at end.List = at_end
 
 -- a body, with the fault of a directive behind parameters that are not plain names
 abbrev pub directed_body : (is_simple : Bool) → Reader Tree → Reader Tree

@@ -6,6 +6,7 @@ mod fn_body;
 mod like;
 mod places;
 
-pub use body::{BodyEnd, block_body};
+pub use body::block_body;
 pub use fn_body::FnBodyParser;
 pub use like::{StmtLikeParser, stmt_like};
+pub use swc_ecma_parser_lists::ListEnd;
