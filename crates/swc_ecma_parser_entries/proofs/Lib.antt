@@ -1,3 +1,4 @@
+mod Ended
 mod ItemAlone
 mod SetBack
 mod Begun

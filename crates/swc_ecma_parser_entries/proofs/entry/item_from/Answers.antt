@@ -1,7 +1,13 @@
 use Rattle.swc_ecma_parser_reader.specs.Entry.{unmarked}
-use Rattle.swc_ecma_parser_entries.proofs.SetBack.{item_told}
+use Rattle.swc_ecma_parser_entries.proofs.Ended.{ended_memory, ended_restored, item_ended}
 use Rattle.swc_ecma_parser_entries.proofs.entry.item_from.Goals as goal
 
-pub returns-in-Err-clause-answers : goal.returns-in-Err-clause-answers
-returns-in-Err-clause-answers g c =
-    item_told _ g.T.BuildsItem.item_of c.args.limit (unmarked c.args.state) _ _ _ _ c.refused-state.ensures.same c.refused-state.ensures.back (c.in-Err.ensures.answers c.args.state c.begin-call.ensures)
+pub returns-clause-answers : goal.returns-clause-answers
+returns-clause-answers g c =
+    item_ended c.flags-outer.result c.found_module_item.result c.item_in.new.call c.ended.result.0 g.T.BuildsItem.item_of c.args.limit (unmarked c.args.state) _ _ c.ended.ensures.ends (c.item_in-read.ensures.answers c.args.state c.begin-call.ensures)
+
+pub returns-clause-refused : goal.returns-clause-refused
+returns-clause-refused g c = ended_restored c.flags-outer.result c.found_module_item.result c.item_in.new.call c.ended.result.0 c.args.state c.flags-outer.ensures c.found_module_item.ensures _ _ c.ended.ensures.ends
+
+pub returns-clause-ahead : goal.returns-clause-ahead
+returns-clause-ahead g c = λ h. ended_memory c.flags-outer.result c.found_module_item.result c.item_in.new.call c.ended.result.0 _ _ c.ended.ensures.ends (c.item_in-read.ensures.ahead c.args.state c.begin-call.ensures h)

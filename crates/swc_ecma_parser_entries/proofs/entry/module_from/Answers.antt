@@ -1,7 +1,17 @@
-use Rattle.swc_ecma_parser_entries.proofs.SetBack.{module_told}
+use Rattle.swc_ecma_parser_reader.specs.Entry.{unmarked}
+use Rattle.swc_ecma_parser_entries.proofs.Ended.{ended_ok, ended_memory, ended_restored, module_ended}
 use Rattle.swc_ecma_parser_entries.proofs.entry.module_from.Goals as goal
 
-pub returns-in-Err-clause-answers : goal.returns-in-Err-clause-answers
-returns-in-Err-clause-answers g c =
-    let (u, i, h) = c.in-Err.ensures.answers c.args.state c.begin-call.ensures in
-    (u, i, module_told _ g.T.BuildsItem.module_of c.args.limit u _ _ _ _ c.refused-state.ensures.same c.refused-state.ensures.back h)
+pub returns-clause-answers : goal.returns-clause-answers
+returns-clause-answers g c =
+    let (u, i, h) = c.module_in-read.ensures.answers c.args.state c.begin-call.ensures in
+    (u, i, module_ended c.flags-outer.result c.found_module_item.result c.module_in.new.call c.ended.result.0 g.T.BuildsItem.module_of c.args.limit u _ _ c.ended.ensures.ends h)
+
+pub returns-clause-outright : goal.returns-clause-outright
+returns-clause-outright g c = λ h. ended_ok c.flags-outer.result c.found_module_item.result c.module_in.new.call c.ended.result.0 _ _ c.ended.ensures.ends (c.module_in-read.ensures.outright c.args.state c.begin-call.ensures h)
+
+pub returns-clause-refused : goal.returns-clause-refused
+returns-clause-refused g c = ended_restored c.flags-outer.result c.found_module_item.result c.module_in.new.call c.ended.result.0 c.args.state c.flags-outer.ensures c.found_module_item.ensures _ _ c.ended.ensures.ends
+
+pub returns-clause-ahead : goal.returns-clause-ahead
+returns-clause-ahead g c = λ h. ended_memory c.flags-outer.result c.found_module_item.result c.module_in.new.call c.ended.result.0 _ _ c.ended.ensures.ends (c.module_in-read.ensures.ahead c.args.state c.begin-call.ensures h)
