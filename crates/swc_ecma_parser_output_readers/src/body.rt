@@ -19,8 +19,7 @@ struct Picked<Y> {
 }
 
 impl<P: StmtLikeParser<T, Y>, T: BuildsStatements, Y: FromStmt<T> + Drop> Listed<P, T>
-    for Picked<Y>
-{
+    for Picked<Y> {
     type Item = Y;
 
     ghost held = { Y.held };
