@@ -15,7 +15,7 @@ use swc_ecma_parser_core::script::whole_stmt;
 use swc_ecma_parser_error::PResult;
 use swc_ecma_parser_grammar::Position;
 use swc_ecma_parser_input::Tokens;
-use swc_ecma_parser_output_readers::{BodyEnd, StmtLikeParser, block_body};
+use swc_ecma_parser_output_readers::{ListEnd, StmtLikeParser, block_body};
 use swc_ecma_parser_state::{Call, Origin, State};
 use swc_ecma_parser_trees::{Maker, MakerOf};
 
@@ -62,7 +62,7 @@ fn parts_from<O: Origin, I: Tokens>(
         &mut call,
         limit,
         TOP_ITEM,
-        BodyEnd::List,
+        ListEnd::Tokens,
         true,
     );
     maker.finish();
