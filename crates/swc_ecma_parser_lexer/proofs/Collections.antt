@@ -1,16 +1,16 @@
 -- What the list of comments of a text comes to.
-use Rattle.std.proofs.Common.{◌≡◌, ℕ, ◌+◌, Bool, true, false, nat_eq, cond, length, List, [], ◌∷◌, ◌++◌, Option, refl, ap, sym, ◌∙◌, arith, append_assoc}
+use Rattle.std.proofs.Common.{◌≡◌, ℕ, ◌+◌, ◌<◌, Bool, true, false, nat_eq, cond, length, List, [], ◌∷◌, ◌++◌, Option, refl, ap, sym, ◌∙◌, arith, append_assoc}
 use Rattle.std.specs.Char.{encode_utf8}
 use Rattle.std.specs.Str.{chars, encode_utf8_all}
 use Rattle.std.proofs.lemmas.Bool.{true≢false}
-use Rattle.std.proofs.lemmas.Str.{encodes-chars}
+use Rattle.std.proofs.lemmas.Str.{encode_ascii, encodes-chars}
 use Rattle.swc_ecma_parser_common.specs.declared.comment.Comment.{Comment}
 use Rattle.swc_ecma_parser_common.specs.declared.span.BytePos.{BytePos}
 use Rattle.swc_ecma_parser_common.specs.declared.span.Span.{Span}
 use Rattle.swc_ecma_parser_scan.specs.declared.piece.Piece.{Piece}
 use Rattle.swc_ecma_parser_scan.specs.declared.state.State.{State}
 use Rattle.swc_ecma_parser_scan.specs.declared.state.State.TheVariants as state
-use Rattle.swc_ecma_parser_scan.specs.Scan.{scan, IsFirstPiece}
+use Rattle.swc_ecma_parser_scan.specs.Scan.{Munched, scan, IsFirstPiece}
 use Rattle.swc_ecma_parser_scan.specs.Splits.{scan-splits}
 use Rattle.swc_ecma_parser_lexer.specs.declared.comment.CommentList.{CommentList}
 use Rattle.swc_ecma_parser_lexer.specs.declared.place.Place.{Place}
@@ -51,6 +51,30 @@ by-piece start at text piece h =
     ∙ ap (λ s. from_piece start at s (encode_utf8_all (h.first ∷ p.taken)) p.left) (sym h.state)
     ∙ ap (λ xs. from_piece start at piece.state xs p.left) same
     ∙ ap (λ xs. from_piece start at piece.state piece.text.now xs) (sym h.left)
+
+-- a piece of one ASCII character that is no comment adds none
+pub past-one : (start at c : ℕ) (cs : List ℕ) (s : State) → c < 128 → scan (nat_eq at 0) c cs ≡ record { taken = []; left = cs; state = s } → ((low : ℕ) (text : List ℕ) → piece_comments low s text ≡ []) → comments start at (c ∷ cs) ≡ comments start (at + 1) cs
+unfolding from_piece
+past-one start at c cs s lt e k =
+    let text = encode_utf8_all (c ∷ []) in
+    let one : at + length text ≡ at + 1 = omega (arith, length-encodes c [], ap length (encode_ascii c lt)) in
+    begins start at c cs
+    ∙ ap (λ (p : Munched). from_piece start at p.state (encode_utf8_all (c ∷ p.taken)) p.left) e
+    ∙ ap (λ found. found ++ comments start (at + length text) cs) (k (start + at) text)
+    ∙ ap (λ n. comments start n cs) one
+
+-- nothing is read yet
+pub reads-none : (list : CommentList) (p : Place) → IsReadOn list p list p
+reads-none list p = record { comments = λ l. refl; lossy = λ l. l; unwanted = λ u. refl; wanted = refl }
+
+-- blanks are no comments
+pub reads-blanks : (old new : CommentList) (first p q : Place) → IsReadOn old first new p → comments_at p ≡ comments_at q → IsReadOn old first new q
+reads-blanks old new first p q r e = record {
+  comments = λ l. r.comments l ∙ ap (λ xs. new.comments.items ++ cond new.is_wanted xs []) e;
+  lossy = r.lossy;
+  unwanted = r.unwanted;
+  wanted = r.wanted;
+}
 
 -- a piece's comment stands before those behind it
 past-piece : (p : Place) (piece : Piece) (q : Place) → IsFirstPiece (nat_eq p.at 0) p.rest.now piece → IsPast p piece q → comments_at p ≡ piece_comments (p.start.0 + p.at) piece.state piece.text.now ++ comments_at q

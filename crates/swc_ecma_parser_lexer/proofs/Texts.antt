@@ -2,13 +2,13 @@
 use Rattle.std.proofs.Common.{◌≡◌, ℕ, ◌+◌, ◌<◌, Bool, true, false, nat_eq, ◌&&◌, ◌||◌, cond, length, List, [], ◌∷◌, ◌++◌, ap, sym, ◌∙◌, arith, length-append}
 use Rattle.std.specs.Char.{encode_utf8}
 use Rattle.std.specs.Str.{chars, encode_utf8_all}
-use Rattle.std.proofs.lemmas.Str.{encodes-chars, length-encode, len_utf8_bounds}
+use Rattle.std.proofs.lemmas.Str.{encode_ascii, encodes-chars, length-encode, len_utf8_bounds}
 use Rattle.swc_ecma_parser_common.specs.declared.span.BytePos.{BytePos}
 use Rattle.swc_ecma_parser_token.specs.declared.token.TokenAndSpan.{TokenAndSpan}
 use Rattle.swc_ecma_parser_lexer.specs.declared.place.Place.{Place}
 use Rattle.swc_ecma_parser_scan.specs.declared.piece.Piece.{Piece}
 use Rattle.swc_ecma_parser_scan.specs.declared.state.State.{State}
-use Rattle.swc_ecma_parser_scan.specs.Scan.{scan, IsFirstPiece}
+use Rattle.swc_ecma_parser_scan.specs.Scan.{Munched, scan, IsFirstPiece}
 use Rattle.swc_ecma_parser_lexer.specs.Tokens.{is_skipped, breaks, token_at, tokens_behind, tokens, tokens_at, IsPast}
 use Rattle.swc_ecma_parser_lexer.specs.Ordered.{length-encodes}
 use Rattle.swc_ecma_parser_scan.specs.Splits.{scan-splits}
@@ -48,6 +48,17 @@ by-piece start at b text piece h =
     ∙ ap (λ s. from_piece start at b s (encode_utf8_all (h.first ∷ p.taken)) p.left) (sym h.state)
     ∙ ap (λ xs. from_piece start at b piece.state xs p.left) same
     ∙ ap (λ xs. from_piece start at b piece.state piece.text.now xs) (sym h.left)
+
+-- a piece of one ASCII character that is no token adds none
+pub past-one : (start at : ℕ) (b : Bool) (c : ℕ) (cs : List ℕ) (s : State) → c < 128 → scan (nat_eq at 0) c cs ≡ record { taken = []; left = cs; state = s } → is_skipped s ≡ true → tokens start at b (c ∷ cs) ≡ tokens start (at + 1) (b || breaks s) cs
+unfolding from_piece
+past-one start at b c cs s lt e k =
+    let text = encode_utf8_all (c ∷ []) in
+    let one : at + length text ≡ at + 1 = omega (arith, length-encodes c [], ap length (encode_ascii c lt)) in
+    begins start at b c cs
+    ∙ ap (λ (p : Munched). from_piece start at b p.state (encode_utf8_all (c ∷ p.taken)) p.left) e
+    ∙ ap (λ v. cond v (tokens start (at + length text) (b || breaks s) cs) (token_at (start + at) b s text ∷ tokens start (at + length text) false cs)) k
+    ∙ ap (λ n. tokens start n (b || breaks s) cs) one
 
 tokens-same : (s t a b : ℕ) (x y : Bool) (cs ds : List ℕ) → s ≡ t → a ≡ b → x ≡ y → cs ≡ ds → tokens s a x cs ≡ tokens t b y ds
 tokens-same s t a b x y cs ds e f g h =

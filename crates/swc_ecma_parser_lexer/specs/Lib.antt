@@ -6,3 +6,5 @@ pub mod Tokens
 pub mod Source
 pub mod Ordered
 pub mod Collected
+pub mod Blanks
+pub mod Plain

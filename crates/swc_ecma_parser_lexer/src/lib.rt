@@ -1,12 +1,14 @@
 //! The lexer: from a source text to its tokens, after ECMA-262, "ECMAScript Language: Lexical Grammar" (section 12).
 #![tactic(auto)]
 
+mod blank;
 mod comment;
 mod escape;
 mod input;
 mod lexer;
 mod make;
 mod place;
+mod plain;
 mod words;
 
 pub use input::StringInput;

@@ -4,6 +4,7 @@ ghost use Rattle.std.specs.Prelude.{◌≡◌, IfOk};
 ghost use Rattle.swc_ecma_parser_lexer.specs.Make as read;
 
 use crate::escape::{is_well_escaped, value_of};
+use crate::plain::plain_text;
 use crate::words::keyword_of;
 use std::alloc::{AllocError, Global};
 use swc_ecma_parser_common::{Atom, Span};
@@ -84,7 +85,11 @@ fn is_number(number: Number) -> bool
 fn string_token(alloc: Global, quote: char, raw: &str, span: Span) -> Result<Token, AllocError>
     ensures { IfOk result (λ token. token ≡ read.string_token quote raw.now span) }
 {
-    if is_well_escaped(quote, raw) {
+    if let Some(inner) = plain_text(quote, raw) {
+        let value = Atom::new(alloc, inner)?;
+        let raw = Atom::new(alloc, raw)?;
+        Ok(Token::Str { value, raw })
+    } else if is_well_escaped(quote, raw) {
         let value = Atom::from_string(value_of(alloc, quote, raw)?);
         let raw = Atom::new(alloc, raw)?;
         Ok(Token::Str { value, raw })

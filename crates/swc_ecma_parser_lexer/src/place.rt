@@ -3,8 +3,10 @@
 ghost use Rattle.std.specs.Prelude.{◌≡◌, [], ◌==◌, ◌+◌, false, length, MatchOption};
 ghost use Rattle.swc_ecma_parser_scan.specs.Scan.{IsFirstPiece};
 ghost use Rattle.swc_ecma_parser_lexer.specs.Collected.{IsReadOn};
+ghost use Rattle.swc_ecma_parser_lexer.specs.Blanks as blank;
 ghost use Rattle.swc_ecma_parser_lexer.specs.Tokens as read;
 
+use crate::blank::blanks;
 use crate::comment::CommentList;
 use crate::make::{fault, token_of};
 use std::alloc::Global;
@@ -87,6 +89,20 @@ pub fn past<'a>(place: Place<'a>, piece: Piece<'a>) -> Place<'a>
     }
 }
 
+/// The place behind the spaces and line breaks that are ASCII.
+fn past_blanks(first: Place<'_>) -> Place<'_>
+    requires { read.Fits first }
+    ensures { blank.IsBehindBlanks first.entry result }
+{
+    let blanks = blanks(first.had_line_break, first.rest);
+    Place {
+        start: first.start,
+        at: first.at + blanks.size as u32,
+        had_line_break: blanks.had_line_break,
+        rest: blanks.rest,
+    }
+}
+
 /// Goes past white space, line terminators and comments.
 pub fn find<'a>(first: Place<'a>, comments: &mut CommentList) -> Found<'a>
     requires { read.Fits first }
@@ -96,7 +112,7 @@ pub fn find<'a>(first: Place<'a>, comments: &mut CommentList) -> Found<'a>
     ensures comments { IsReadOn comments.old first.entry comments.new result.place }
     ensures piece { MatchOption result.piece (read.tokens_at result.place ≡ []) (λ piece. read.IsToken result.place piece) }
 {
-    let mut place = first;
+    let mut place = past_blanks(first);
     while let Some(piece) = scan(place.at == 0, place.rest) {
         if !is_skipped(piece.state) {
             return Found {
@@ -105,7 +121,7 @@ pub fn find<'a>(first: Place<'a>, comments: &mut CommentList) -> Found<'a>
             };
         }
         comments.note(piece.state, piece.text, span_of(place, piece));
-        place = past(place, piece);
+        place = past_blanks(past(place, piece));
     }
     Found { place, piece: None }
 }
