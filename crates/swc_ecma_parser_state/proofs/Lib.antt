@@ -3,4 +3,5 @@ pub mod Taken
 pub mod Contexts
 pub mod Words
 pub mod Rejects
+pub mod Candidates
 mod Underway

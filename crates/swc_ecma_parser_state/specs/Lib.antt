@@ -3,3 +3,4 @@ pub mod FirstError
 pub mod Taken
 pub mod Opened
 pub mod CallView
+pub mod Candidates

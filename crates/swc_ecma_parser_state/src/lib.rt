@@ -4,6 +4,7 @@
 mod call;
 mod entry;
 mod looks;
+mod reserved;
 mod source;
 mod state;
 mod steps;

@@ -1,6 +1,7 @@
 //! The state as what the rules read from: what they ask of the tokens that stand next, and the steps that every rule is made of.
 
 use crate::entry::copied;
+use crate::reserved::is_free;
 use crate::state::{Call, Origin};
 use crate::steps::literal_of;
 use std::alloc::Global;
@@ -12,7 +13,7 @@ use swc_ecma_parser_input::{Context, Tokens};
 use swc_ecma_parser_model::Ident;
 use swc_ecma_parser_reader::Mark;
 use swc_ecma_parser_source::{
-    Around, Literal, Source, Wanted, begins_operand, count_labels, ends_key, is_identifier,
+    Around, Literal, Source, Wanted, begins_operand, count_labels, ends_key,
     is_label, may_bind_await,
 };
 use swc_ecma_parser_token::{Token, TokenAndSpan, TokenKind, Word};
@@ -151,7 +152,7 @@ impl<O: Origin, I: Tokens> Source for Call<O, I> {
                     token: Token::Word(word),
                     ..
                 },
-            ) => is_identifier(self.flags(), word.as_str()),
+            ) => is_free(self.flags(), word),
             _ => false,
         }
     }
