@@ -42,7 +42,7 @@ fn main(rt: HostRuntime) -> ExitCode {
     let Ok(out) = out else {
         return ExitCode::from(5);
     };
-    let _ = rt.stdout().write_all(out.as_bytes());
+    let _ = rt.stdout().write_all(out.as_slice());
     if faults.is_empty() {
         ExitCode::from(0)
     } else {

@@ -1,13 +1,12 @@
 //! Scripts, modules and programs.
 
 ghost use Rattle.std.specs.Prelude.{◌≡◌, ◌<◌, ◌^◌, length, IfOk, string_bytes};
-ghost use Rattle.ecma_estree.specs.Estree.{json, plain};
+ghost use Rattle.ecma_estree_writer.specs.Estree.{json, plain};
 ghost use Rattle.swc_ecma_parser_ast.specs.View.{view_module, view_program, view_script};
 
 use crate::run::finish;
-use crate::work::Work;
-use crate::writer::Writer;
 use ecma_estree_text::Offsets;
+use ecma_estree_writer::{Work, Writer};
 use std::alloc::{AllocError, Global};
 use swc_ecma_parser_ast::{Module, Program, Script};
 
@@ -17,11 +16,11 @@ fn write_whole<'a>(
     text: &'a str,
     kind: &'static str,
     body: Work<'a>,
-) -> Result<String, AllocError>
+) -> Result<Vec<u8>, AllocError>
     requires { length text.now < 2 ^ 32 }
 {
     let offsets = Offsets::new(alloc, text)?;
-    let mut w = Writer::new(alloc, String::new(alloc), offsets);
+    let mut w = Writer::new(alloc, Vec::new(alloc), offsets);
     w.open_at("Program", 0, text.len())?;
     w.list_key("body")?;
     w.push(Work::End)?;
@@ -33,7 +32,7 @@ fn write_whole<'a>(
 }
 
 /// A script as ESTree, with the text that it was read from. It fails only where memory runs out.
-pub fn write_script(alloc: Global, text: &str, script: &Script) -> Result<String, AllocError>
+pub fn write_script(alloc: Global, text: &str, script: &Script) -> Result<Vec<u8>, AllocError>
     requires { length text.now < 2 ^ 32 }
 {
     write_whole(
@@ -45,7 +44,7 @@ pub fn write_script(alloc: Global, text: &str, script: &Script) -> Result<String
 }
 
 /// A module as ESTree, with the text that it was read from. It fails only where memory runs out.
-pub fn write_module(alloc: Global, text: &str, module: &Module) -> Result<String, AllocError>
+pub fn write_module(alloc: Global, text: &str, module: &Module) -> Result<Vec<u8>, AllocError>
     requires { length text.now < 2 ^ 32 }
 {
     write_whole(
@@ -57,7 +56,7 @@ pub fn write_module(alloc: Global, text: &str, module: &Module) -> Result<String
 }
 
 /// A script or a module as ESTree, with the text that it was read from. It fails only where memory runs out.
-pub fn write_program(alloc: Global, text: &str, program: &Program) -> Result<String, AllocError>
+pub fn write_program(alloc: Global, text: &str, program: &Program) -> Result<Vec<u8>, AllocError>
     requires { length text.now < 2 ^ 32 }
 {
     match program {

@@ -3,24 +3,12 @@
 //! Nothing here recurs: what is yet to be written stands on a stack. So a chain of any length and the deepest nest are written.
 #![tactic(auto)]
 
-mod calls;
-mod classes;
 mod entry;
 mod exports;
-mod exprs;
-mod functions;
 mod imports;
-mod leaves;
 mod lists;
 mod loops;
-mod members;
-mod objects;
-mod operators;
-mod patterns;
 mod run;
 mod stmts;
-mod words;
-mod work;
-mod writer;
 
 pub use entry::{write_module, write_program, write_script};

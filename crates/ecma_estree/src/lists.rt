@@ -1,10 +1,18 @@
 //! Lists: a step writes the comma before the first part of what is left, has that part written, and then the rest.
 
+ghost use Rattle.std.specs.Prelude.{◌≡◌, map, OnOk};
+ghost use Rattle.ecma_estree_writer.specs.Parts as parts;
+ghost use Rattle.ecma_estree_writer.specs.Estree.{jsons, plain, directives, members, attributes};
+ghost use Rattle.ecma_estree_writer.specs.Writing.{Writes};
+ghost use Rattle.swc_ecma_parser_ast.specs.Parts.{view_option};
+ghost use Rattle.swc_ecma_parser_ast.specs.View.{view_class_member, view_declarator, view_decorator, view_export_specifier, view_expr_or_spread, view_import_specifier, view_module_item, view_object_pat_prop, view_param, view_param_or_ts_param_prop, view_pat, view_prop_or_spread, view_stmt, view_switch_case};
+ghost use Rattle.swc_ecma_parser_model.specs.Tree.{trees};
+ghost use Rattle.swc_ecma_parser_model.specs.Directive.{is_string_statement};
+
 use crate::exports::{write_directive_item, write_export_specifier};
 use crate::imports::write_import_specifier;
 use crate::stmts::write_directive;
-use crate::work::Work;
-use crate::writer::Writer;
+use ecma_estree_writer::{Work, Writer};
 use std::alloc::AllocError;
 use swc_ecma_parser_ast::{
     ClassMember, Decorator, ExportSpecifier, ExprBox, ExprOrSpread, ImportSpecifier, ModuleItem,
@@ -17,7 +25,9 @@ pub(crate) fn write_exprs<'a>(
     w: &mut Writer<'a>,
     parts: &'a [ExprBox],
     is_first: bool,
-) -> Result<(), AllocError> {
+) -> Result<(), AllocError>
+    ensures { OnOk result (Writes w.old w.new (jsons w.old.text plain is_first (trees (map (λ b. b.node.tree) parts.now)))) }
+{
     let Some((x, rest)) = parts.split_first() else {
         return Ok(());
     };
@@ -31,7 +41,9 @@ pub(crate) fn write_arguments<'a>(
     w: &mut Writer<'a>,
     parts: &'a [ExprOrSpread],
     is_first: bool,
-) -> Result<(), AllocError> {
+) -> Result<(), AllocError>
+    ensures { OnOk result (Writes w.old w.new (jsons w.old.text plain is_first (trees (map view_expr_or_spread parts.now)))) }
+{
     let Some((x, rest)) = parts.split_first() else {
         return Ok(());
     };
@@ -45,7 +57,9 @@ pub(crate) fn write_properties<'a>(
     w: &mut Writer<'a>,
     parts: &'a [PropOrSpread],
     is_first: bool,
-) -> Result<(), AllocError> {
+) -> Result<(), AllocError>
+    ensures { OnOk result (Writes w.old w.new (jsons w.old.text plain is_first (trees (map view_prop_or_spread parts.now)))) }
+{
     let Some((x, rest)) = parts.split_first() else {
         return Ok(());
     };
@@ -59,7 +73,9 @@ pub(crate) fn write_attributes<'a>(
     w: &mut Writer<'a>,
     parts: &'a [PropOrSpread],
     is_first: bool,
-) -> Result<(), AllocError> {
+) -> Result<(), AllocError>
+    ensures { OnOk result (Writes w.old w.new (jsons w.old.text attributes is_first (trees (map view_prop_or_spread parts.now)))) }
+{
     let Some((x, rest)) = parts.split_first() else {
         return Ok(());
     };
@@ -73,7 +89,9 @@ pub(crate) fn write_patterns<'a>(
     w: &mut Writer<'a>,
     parts: &'a [Pat],
     is_first: bool,
-) -> Result<(), AllocError> {
+) -> Result<(), AllocError>
+    ensures { OnOk result (Writes w.old w.new (jsons w.old.text plain is_first (trees (map view_pat parts.now)))) }
+{
     let Some((x, rest)) = parts.split_first() else {
         return Ok(());
     };
@@ -87,7 +105,9 @@ pub(crate) fn write_pat_properties<'a>(
     w: &mut Writer<'a>,
     parts: &'a [ObjectPatProp],
     is_first: bool,
-) -> Result<(), AllocError> {
+) -> Result<(), AllocError>
+    ensures { OnOk result (Writes w.old w.new (jsons w.old.text plain is_first (trees (map view_object_pat_prop parts.now)))) }
+{
     let Some((x, rest)) = parts.split_first() else {
         return Ok(());
     };
@@ -101,7 +121,9 @@ pub(crate) fn write_params<'a>(
     w: &mut Writer<'a>,
     parts: &'a [Param],
     is_first: bool,
-) -> Result<(), AllocError> {
+) -> Result<(), AllocError>
+    ensures { OnOk result (Writes w.old w.new (jsons w.old.text plain is_first (trees (map view_param parts.now)))) }
+{
     let Some((x, rest)) = parts.split_first() else {
         return Ok(());
     };
@@ -115,7 +137,9 @@ pub(crate) fn write_decorators<'a>(
     w: &mut Writer<'a>,
     parts: &'a [Decorator],
     is_first: bool,
-) -> Result<(), AllocError> {
+) -> Result<(), AllocError>
+    ensures { OnOk result (Writes w.old w.new (jsons w.old.text plain is_first (trees (map view_decorator parts.now)))) }
+{
     let Some((x, rest)) = parts.split_first() else {
         return Ok(());
     };
@@ -129,7 +153,9 @@ pub(crate) fn write_statements<'a>(
     w: &mut Writer<'a>,
     parts: &'a [Stmt],
     is_first: bool,
-) -> Result<(), AllocError> {
+) -> Result<(), AllocError>
+    ensures { OnOk result (Writes w.old w.new (jsons w.old.text plain is_first (trees (map view_stmt parts.now)))) }
+{
     let Some((x, rest)) = parts.split_first() else {
         return Ok(());
     };
@@ -143,7 +169,9 @@ pub(crate) fn write_cases<'a>(
     w: &mut Writer<'a>,
     parts: &'a [SwitchCase],
     is_first: bool,
-) -> Result<(), AllocError> {
+) -> Result<(), AllocError>
+    ensures { OnOk result (Writes w.old w.new (jsons w.old.text plain is_first (trees (map view_switch_case parts.now)))) }
+{
     let Some((x, rest)) = parts.split_first() else {
         return Ok(());
     };
@@ -157,7 +185,9 @@ pub(crate) fn write_declarators<'a>(
     w: &mut Writer<'a>,
     parts: &'a [VarDeclarator],
     is_first: bool,
-) -> Result<(), AllocError> {
+) -> Result<(), AllocError>
+    ensures { OnOk result (Writes w.old w.new (jsons w.old.text plain is_first (trees (map view_declarator parts.now)))) }
+{
     let Some((x, rest)) = parts.split_first() else {
         return Ok(());
     };
@@ -171,7 +201,9 @@ pub(crate) fn write_items<'a>(
     w: &mut Writer<'a>,
     parts: &'a [ModuleItem],
     is_first: bool,
-) -> Result<(), AllocError> {
+) -> Result<(), AllocError>
+    ensures { OnOk result (Writes w.old w.new (jsons w.old.text plain is_first (trees (map view_module_item parts.now)))) }
+{
     let Some((x, rest)) = parts.split_first() else {
         return Ok(());
     };
@@ -185,7 +217,9 @@ pub(crate) fn write_elements<'a>(
     w: &mut Writer<'a>,
     parts: &'a [Option<ExprOrSpread>],
     is_first: bool,
-) -> Result<(), AllocError> {
+) -> Result<(), AllocError>
+    ensures { OnOk result (Writes w.old w.new (jsons w.old.text plain is_first (trees (map (view_option view_expr_or_spread) parts.now)))) }
+{
     let Some((x, rest)) = parts.split_first() else {
         return Ok(());
     };
@@ -202,7 +236,9 @@ pub(crate) fn write_pat_elements<'a>(
     w: &mut Writer<'a>,
     parts: &'a [Option<PatBox>],
     is_first: bool,
-) -> Result<(), AllocError> {
+) -> Result<(), AllocError>
+    ensures { OnOk result (Writes w.old w.new (jsons w.old.text plain is_first (trees (map (view_option (λ b. b.node.tree)) parts.now)))) }
+{
     let Some((x, rest)) = parts.split_first() else {
         return Ok(());
     };
@@ -219,7 +255,9 @@ pub(crate) fn write_constructor_params<'a>(
     w: &mut Writer<'a>,
     parts: &'a [ParamOrTsParamProp],
     is_first: bool,
-) -> Result<(), AllocError> {
+) -> Result<(), AllocError>
+    ensures { OnOk result (Writes w.old w.new (jsons w.old.text plain is_first (trees (map view_param_or_ts_param_prop parts.now)))) }
+{
     let Some((x, rest)) = parts.split_first() else {
         return Ok(());
     };
@@ -235,7 +273,9 @@ pub(crate) fn write_members<'a>(
     w: &mut Writer<'a>,
     parts: &'a [ClassMember],
     is_first: bool,
-) -> Result<(), AllocError> {
+) -> Result<(), AllocError>
+    ensures { OnOk result (Writes w.old w.new (jsons w.old.text members is_first (trees (map view_class_member parts.now)))) }
+{
     let Some((x, rest)) = parts.split_first() else {
         return Ok(());
     };
@@ -252,7 +292,9 @@ pub(crate) fn write_directives<'a>(
     w: &mut Writer<'a>,
     parts: &'a [Stmt],
     is_first: bool,
-) -> Result<(), AllocError> {
+) -> Result<(), AllocError>
+    ensures { OnOk result (Writes w.old w.new (jsons w.old.text directives is_first (trees (map view_stmt parts.now)))) }
+{
     let Some((x, rest)) = parts.split_first() else {
         return Ok(());
     };
@@ -271,7 +313,9 @@ pub(crate) fn write_directive_items<'a>(
     w: &mut Writer<'a>,
     parts: &'a [ModuleItem],
     is_first: bool,
-) -> Result<(), AllocError> {
+) -> Result<(), AllocError>
+    ensures { OnOk result (Writes w.old w.new (jsons w.old.text directives is_first (trees (map view_module_item parts.now)))) }
+{
     let Some((x, rest)) = parts.split_first() else {
         return Ok(());
     };
@@ -286,7 +330,9 @@ pub(crate) fn write_directive_items<'a>(
 }
 
 /// Whether an item may stand before a directive.
-fn can_precede_directive(item: &ModuleItem) -> bool {
+fn can_precede_directive(item: &ModuleItem) -> bool
+    ensures { result ≡ is_string_statement (view_module_item item.now) }
+{
     match item {
         ModuleItem::Stmt(x) => x.can_precede_directive(),
         ModuleItem::ModuleDecl(_) => false,
@@ -298,7 +344,9 @@ pub(crate) fn write_imports<'a>(
     w: &mut Writer<'a>,
     parts: &'a [ImportSpecifier],
     is_first: bool,
-) -> Result<(), AllocError> {
+) -> Result<(), AllocError>
+    ensures { OnOk result (Writes w.old w.new (jsons w.old.text plain is_first (trees (map view_import_specifier parts.now)))) }
+{
     let Some((x, rest)) = parts.split_first() else {
         return Ok(());
     };
@@ -312,7 +360,9 @@ pub(crate) fn write_exports<'a>(
     w: &mut Writer<'a>,
     parts: &'a [ExportSpecifier],
     is_first: bool,
-) -> Result<(), AllocError> {
+) -> Result<(), AllocError>
+    ensures { OnOk result (Writes w.old w.new (jsons w.old.text plain is_first (trees (map view_export_specifier parts.now)))) }
+{
     let Some((x, rest)) = parts.split_first() else {
         return Ok(());
     };

@@ -1,25 +1,29 @@
 //! From the stack to the text, step by step.
 
-use crate::calls::write_argument;
-use crate::classes::write_class_body;
+ghost use Rattle.std.specs.Prelude.{OnOk};
+ghost use Rattle.ecma_estree_writer.specs.Parts.{literal, directive};
+ghost use Rattle.ecma_estree_writer.specs.Estree.{json, plain};
+ghost use Rattle.ecma_estree_writer.specs.Writing.{Appends, Writes};
+ghost use Rattle.ecma_estree_writer.specs.Work.{work_text};
+ghost use Rattle.swc_ecma_parser_ast.specs.View.{view_str};
+
 use crate::exports::write_item;
-use crate::exprs::write_expr;
-use crate::functions::{write_accessor, write_decorator, write_method_value};
-use crate::leaves::{write_name, write_private_name, write_str};
 use crate::lists;
-use crate::members::write_class_member;
-use crate::objects::{write_attribute, write_part};
-use crate::patterns::{write_pat, write_pat_part};
 use crate::stmts::{
     write_block, write_body, write_case, write_catch, write_decl, write_declarator, write_stmt,
 };
-use crate::work::Work;
-use crate::writer::Writer;
+use ecma_estree_exprs::{
+    write_accessor, write_argument, write_attribute, write_class_body, write_class_member,
+    write_decorator, write_expr, write_method_value, write_part, write_pat, write_pat_part,
+};
+use ecma_estree_writer::{Work, Writer, write_name, write_private_name, write_str};
 use std::alloc::AllocError;
 use swc_ecma_parser_ast::{ExprBox, PatBox, StmtBox, Str};
 
 /// Writes an expression.
-fn write_boxed_expr<'a>(w: &mut Writer<'a>, expr: &'a ExprBox) -> Result<(), AllocError> {
+fn write_boxed_expr<'a>(w: &mut Writer<'a>, expr: &'a ExprBox) -> Result<(), AllocError>
+    ensures { OnOk result (Writes w.old w.new (json w.old.text plain (expr.now.node.tree))) }
+{
     match expr.get() {
         Some(x) => write_expr(w, x),
         None => Err(AllocError),
@@ -27,7 +31,9 @@ fn write_boxed_expr<'a>(w: &mut Writer<'a>, expr: &'a ExprBox) -> Result<(), All
 }
 
 /// Writes a pattern.
-fn write_boxed_pat<'a>(w: &mut Writer<'a>, pat: &'a PatBox) -> Result<(), AllocError> {
+fn write_boxed_pat<'a>(w: &mut Writer<'a>, pat: &'a PatBox) -> Result<(), AllocError>
+    ensures { OnOk result (Writes w.old w.new (json w.old.text plain (pat.now.node.tree))) }
+{
     match pat.get() {
         Some(x) => write_pat(w, x),
         None => Err(AllocError),
@@ -35,7 +41,9 @@ fn write_boxed_pat<'a>(w: &mut Writer<'a>, pat: &'a PatBox) -> Result<(), AllocE
 }
 
 /// Writes a statement.
-fn write_boxed_stmt<'a>(w: &mut Writer<'a>, stmt: &'a StmtBox) -> Result<(), AllocError> {
+fn write_boxed_stmt<'a>(w: &mut Writer<'a>, stmt: &'a StmtBox) -> Result<(), AllocError>
+    ensures { OnOk result (Writes w.old w.new (json w.old.text plain (stmt.now.node.tree))) }
+{
     match stmt.get() {
         Some(x) => write_stmt(w, x),
         None => Err(AllocError),
@@ -43,13 +51,18 @@ fn write_boxed_stmt<'a>(w: &mut Writer<'a>, stmt: &'a StmtBox) -> Result<(), All
 }
 
 /// Writes the field that a string has as a directive: what stands between its quotes.
-fn write_directive_field(w: &mut Writer<'_>, literal: &Str) -> Result<(), AllocError> {
+fn write_directive_field(w: &mut Writer<'_>, literal: &Str) -> Result<(), AllocError>
+    ensures { OnOk result (Appends w.old w.new (directive (view_str literal.now))) }
+{
     w.key("directive")?;
     w.inner(literal.raw.as_str())
 }
 
 /// Does one piece of work.
-fn step<'a>(w: &mut Writer<'a>, work: Work<'a>) -> Result<(), AllocError> {
+#[tactic(auto, using(ecma_estree_writer::proofs::Written::appended_on_ok, ecma_estree_writer::proofs::Written::pushed_on_ok))]
+fn step<'a>(w: &mut Writer<'a>, work: Work<'a>) -> Result<(), AllocError>
+    ensures { OnOk result (Writes w.old w.new (work_text w.old.text work.entry)) }
+{
     match work {
         Work::End => w.end(),
         Work::OpenList => w.open_list(),

@@ -1,22 +1,27 @@
 //! Statements and declarations.
 
-use crate::classes::write_class_decl;
-use crate::functions::write_function_decl;
-use crate::leaves::write_optional_name;
+ghost use Rattle.std.specs.Prelude.{◌++◌, codes, OnOk};
+ghost use Rattle.ecma_estree_writer.specs.Estree.{json, plain, directives, next};
+ghost use Rattle.ecma_estree_writer.specs.Writing.{Appends, Pushes, Writes};
+ghost use Rattle.swc_ecma_parser_ast.specs.View.{view_ident, view_block_stmt, view_catch_clause, view_decl, view_declarator, view_expr_stmt, view_if_stmt, view_labeled_stmt, view_return_stmt, view_stmt, view_switch_case, view_switch_stmt, view_throw_stmt, view_try_stmt, view_using_decl, view_var_decl, view_with_stmt};
+ghost use Rattle.ecma_estree_writer.specs.Parts.{end, key, node};
+ghost use Rattle.swc_ecma_parser_ast.specs.Parts.{view_option};
+
 use crate::loops::{write_do_while, write_for, write_for_in, write_for_of, write_while};
-use crate::operators::push_optional;
-use crate::words::{kind_word, using_word};
-use crate::work::Work;
-use crate::writer::Writer;
+use ecma_estree_exprs::{push_optional, write_class_decl, write_function_decl};
+use ecma_estree_writer::{Work, Writer, kind_word, using_word, write_optional_name};
 use std::alloc::AllocError;
 use swc_ecma_parser_ast::{
     BlockStmt, CatchClause, Decl, Expr, ExprStmt, Ident, IfStmt, LabeledStmt, Lit, ReturnStmt,
-    Span, Stmt, SwitchCase, SwitchStmt, ThrowStmt, TryStmt, UsingDecl, VarDecl, VarDeclarator,
-    WithStmt,
+    Span, Stmt, StmtBox, SwitchCase, SwitchStmt, ThrowStmt, TryStmt, UsingDecl, VarDecl,
+    VarDeclarator, WithStmt,
 };
 
 /// Writes a statement, or a declaration in its place.
-pub(crate) fn write_stmt<'a>(w: &mut Writer<'a>, stmt: &'a Stmt) -> Result<(), AllocError> {
+#[tactic(auto, using(ecma_estree_writer::proofs::Written::appended_on_ok, ecma_estree_writer::proofs::Written::pushed_on_ok))]
+pub(crate) fn write_stmt<'a>(w: &mut Writer<'a>, stmt: &'a Stmt) -> Result<(), AllocError>
+    ensures { OnOk result (Writes w.old w.new (json w.old.text plain (view_stmt stmt.now))) }
+{
     match stmt {
         Stmt::Block(x) => write_block(w, x),
         Stmt::Empty(x) => w.leaf("EmptyStatement", x.span),
@@ -41,7 +46,10 @@ pub(crate) fn write_stmt<'a>(w: &mut Writer<'a>, stmt: &'a Stmt) -> Result<(), A
 }
 
 /// Writes a declaration.
-pub(crate) fn write_decl<'a>(w: &mut Writer<'a>, decl: &'a Decl) -> Result<(), AllocError> {
+#[tactic(auto, using(ecma_estree_writer::proofs::Written::appended_on_ok, ecma_estree_writer::proofs::Written::pushed_on_ok))]
+pub(crate) fn write_decl<'a>(w: &mut Writer<'a>, decl: &'a Decl) -> Result<(), AllocError>
+    ensures { OnOk result (Writes w.old w.new (json w.old.text plain (view_decl decl.now))) }
+{
     match decl {
         Decl::Class(x) => write_class_decl(w, &x.ident, &x.class),
         Decl::Fn(x) => write_function_decl(w, x),
@@ -51,7 +59,9 @@ pub(crate) fn write_decl<'a>(w: &mut Writer<'a>, decl: &'a Decl) -> Result<(), A
 }
 
 /// Writes statements in braces.
-pub(crate) fn write_block<'a>(w: &mut Writer<'a>, x: &'a BlockStmt) -> Result<(), AllocError> {
+pub(crate) fn write_block<'a>(w: &mut Writer<'a>, x: &'a BlockStmt) -> Result<(), AllocError>
+    ensures { OnOk result (Writes w.old w.new (json w.old.text plain (view_block_stmt x.now))) }
+{
     w.open("BlockStatement", x.span)?;
     w.list_key("body")?;
     w.push(Work::End)?;
@@ -63,7 +73,9 @@ pub(crate) fn write_block<'a>(w: &mut Writer<'a>, x: &'a BlockStmt) -> Result<()
 }
 
 /// Writes the body of a function.
-pub(crate) fn write_body<'a>(w: &mut Writer<'a>, x: &'a BlockStmt) -> Result<(), AllocError> {
+pub(crate) fn write_body<'a>(w: &mut Writer<'a>, x: &'a BlockStmt) -> Result<(), AllocError>
+    ensures { OnOk result (Writes w.old w.new (json w.old.text directives (view_block_stmt x.now))) }
+{
     w.open("BlockStatement", x.span)?;
     w.list_key("body")?;
     w.push(Work::End)?;
@@ -75,7 +87,9 @@ pub(crate) fn write_body<'a>(w: &mut Writer<'a>, x: &'a BlockStmt) -> Result<(),
 }
 
 /// Writes an expression as a statement.
-fn write_expr_stmt<'a>(w: &mut Writer<'a>, x: &'a ExprStmt) -> Result<(), AllocError> {
+fn write_expr_stmt<'a>(w: &mut Writer<'a>, x: &'a ExprStmt) -> Result<(), AllocError>
+    ensures { OnOk result (Writes w.old w.new (json w.old.text plain (view_expr_stmt x.now))) }
+{
     w.open("ExpressionStatement", x.span)?;
     w.key("expression")?;
     w.push(Work::End)?;
@@ -83,7 +97,10 @@ fn write_expr_stmt<'a>(w: &mut Writer<'a>, x: &'a ExprStmt) -> Result<(), AllocE
 }
 
 /// Writes a statement that is a directive where it is a string; else as it is.
-pub(crate) fn write_directive<'a>(w: &mut Writer<'a>, stmt: &'a Stmt) -> Result<(), AllocError> {
+#[tactic(auto, using(ecma_estree_writer::proofs::Written::appended_on_ok, ecma_estree_writer::proofs::Written::pushed_on_ok))]
+pub(crate) fn write_directive<'a>(w: &mut Writer<'a>, stmt: &'a Stmt) -> Result<(), AllocError>
+    ensures { OnOk result (Writes w.old w.new (json w.old.text (next directives (view_stmt stmt.now)) (view_stmt stmt.now))) }
+{
     let Stmt::Expr(x) = stmt else {
         return write_stmt(w, stmt);
     };
@@ -98,7 +115,9 @@ pub(crate) fn write_directive<'a>(w: &mut Writer<'a>, stmt: &'a Stmt) -> Result<
 }
 
 /// Writes `with`.
-fn write_with<'a>(w: &mut Writer<'a>, x: &'a WithStmt) -> Result<(), AllocError> {
+fn write_with<'a>(w: &mut Writer<'a>, x: &'a WithStmt) -> Result<(), AllocError>
+    ensures { OnOk result (Writes w.old w.new (json w.old.text plain (view_with_stmt x.now))) }
+{
     w.open("WithStatement", x.span)?;
     w.key("object")?;
     w.push(Work::End)?;
@@ -108,7 +127,9 @@ fn write_with<'a>(w: &mut Writer<'a>, x: &'a WithStmt) -> Result<(), AllocError>
 }
 
 /// Writes `return`.
-fn write_return<'a>(w: &mut Writer<'a>, x: &'a ReturnStmt) -> Result<(), AllocError> {
+fn write_return<'a>(w: &mut Writer<'a>, x: &'a ReturnStmt) -> Result<(), AllocError>
+    ensures { OnOk result (Writes w.old w.new (json w.old.text plain (view_return_stmt x.now))) }
+{
     w.open("ReturnStatement", x.span)?;
     w.key("argument")?;
     w.push(Work::End)?;
@@ -116,7 +137,9 @@ fn write_return<'a>(w: &mut Writer<'a>, x: &'a ReturnStmt) -> Result<(), AllocEr
 }
 
 /// Writes a statement with a label.
-fn write_labeled<'a>(w: &mut Writer<'a>, x: &'a LabeledStmt) -> Result<(), AllocError> {
+fn write_labeled<'a>(w: &mut Writer<'a>, x: &'a LabeledStmt) -> Result<(), AllocError>
+    ensures { OnOk result (Writes w.old w.new (json w.old.text plain (view_labeled_stmt x.now))) }
+{
     w.open("LabeledStatement", x.span)?;
     w.key("body")?;
     w.push(Work::End)?;
@@ -131,22 +154,59 @@ fn write_jump(
     kind: &str,
     span: Span,
     label: &Option<Ident>,
-) -> Result<(), AllocError> {
+) -> Result<(), AllocError>
+    ensures { OnOk result (Appends w.old w.new (node w.old.text kind.now span ++ (key (codes "label") ++ (json w.old.text plain (view_option view_ident label.now) ++ end)))) }
+{
     w.open(kind, span)?;
     w.key("label")?;
     write_optional_name(w, label)?;
     w.end()
 }
 
+/// Has a statement written, or `null`.
+fn push_optional_stmt<'a>(w: &mut Writer<'a>, stmt: &'a Option<StmtBox>) -> Result<(), AllocError>
+    ensures { OnOk result (Pushes w.old w.new (json w.old.text plain (view_option (λ b. b.node.tree) stmt.now))) }
+{
+    match stmt {
+        Some(x) => w.push(Work::Stmt(x)),
+        None => w.push(Work::Nothing),
+    }
+}
+
+/// Has a block written, or `null`.
+fn push_optional_block<'a>(
+    w: &mut Writer<'a>,
+    block: &'a Option<BlockStmt>,
+) -> Result<(), AllocError>
+    ensures { OnOk result (Pushes w.old w.new (json w.old.text plain (view_option view_block_stmt block.now))) }
+{
+    match block {
+        Some(x) => w.push(Work::Block(x)),
+        None => w.push(Work::Nothing),
+    }
+}
+
+/// Has the clause written that catches what was thrown, or `null`.
+fn push_optional_catch<'a>(
+    w: &mut Writer<'a>,
+    handler: &'a Option<CatchClause>,
+) -> Result<(), AllocError>
+    ensures { OnOk result (Pushes w.old w.new (json w.old.text plain (view_option view_catch_clause handler.now))) }
+{
+    match handler {
+        Some(x) => w.push(Work::Catch(x)),
+        None => w.push(Work::Nothing),
+    }
+}
+
 /// Writes `if`.
-fn write_if<'a>(w: &mut Writer<'a>, x: &'a IfStmt) -> Result<(), AllocError> {
+fn write_if<'a>(w: &mut Writer<'a>, x: &'a IfStmt) -> Result<(), AllocError>
+    ensures { OnOk result (Writes w.old w.new (json w.old.text plain (view_if_stmt x.now))) }
+{
     w.open("IfStatement", x.span)?;
     w.key("test")?;
     w.push(Work::End)?;
-    match &x.alt {
-        Some(alt) => w.push(Work::Stmt(alt))?,
-        None => w.push(Work::Nothing)?,
-    }
+    push_optional_stmt(w, &x.alt)?;
     w.push(Work::Key("alternate"))?;
     w.push(Work::Stmt(&x.cons))?;
     w.push(Work::Key("consequent"))?;
@@ -154,7 +214,9 @@ fn write_if<'a>(w: &mut Writer<'a>, x: &'a IfStmt) -> Result<(), AllocError> {
 }
 
 /// Writes `switch`.
-fn write_switch<'a>(w: &mut Writer<'a>, x: &'a SwitchStmt) -> Result<(), AllocError> {
+fn write_switch<'a>(w: &mut Writer<'a>, x: &'a SwitchStmt) -> Result<(), AllocError>
+    ensures { OnOk result (Writes w.old w.new (json w.old.text plain (view_switch_stmt x.now))) }
+{
     w.open("SwitchStatement", x.span)?;
     w.key("discriminant")?;
     w.push(Work::End)?;
@@ -166,7 +228,9 @@ fn write_switch<'a>(w: &mut Writer<'a>, x: &'a SwitchStmt) -> Result<(), AllocEr
 }
 
 /// Writes a case of a `switch`.
-pub(crate) fn write_case<'a>(w: &mut Writer<'a>, x: &'a SwitchCase) -> Result<(), AllocError> {
+pub(crate) fn write_case<'a>(w: &mut Writer<'a>, x: &'a SwitchCase) -> Result<(), AllocError>
+    ensures { OnOk result (Writes w.old w.new (json w.old.text plain (view_switch_case x.now))) }
+{
     w.open("SwitchCase", x.span)?;
     w.list_key("consequent")?;
     w.push(Work::End)?;
@@ -180,7 +244,9 @@ pub(crate) fn write_case<'a>(w: &mut Writer<'a>, x: &'a SwitchCase) -> Result<()
 }
 
 /// Writes `throw`.
-fn write_throw<'a>(w: &mut Writer<'a>, x: &'a ThrowStmt) -> Result<(), AllocError> {
+fn write_throw<'a>(w: &mut Writer<'a>, x: &'a ThrowStmt) -> Result<(), AllocError>
+    ensures { OnOk result (Writes w.old w.new (json w.old.text plain (view_throw_stmt x.now))) }
+{
     w.open("ThrowStatement", x.span)?;
     w.key("argument")?;
     w.push(Work::End)?;
@@ -188,25 +254,23 @@ fn write_throw<'a>(w: &mut Writer<'a>, x: &'a ThrowStmt) -> Result<(), AllocErro
 }
 
 /// Writes `try`.
-fn write_try<'a>(w: &mut Writer<'a>, x: &'a TryStmt) -> Result<(), AllocError> {
+fn write_try<'a>(w: &mut Writer<'a>, x: &'a TryStmt) -> Result<(), AllocError>
+    ensures { OnOk result (Writes w.old w.new (json w.old.text plain (view_try_stmt x.now))) }
+{
     w.open("TryStatement", x.span)?;
     w.key("block")?;
     w.push(Work::End)?;
-    match &x.finalizer {
-        Some(finalizer) => w.push(Work::Block(finalizer))?,
-        None => w.push(Work::Nothing)?,
-    }
+    push_optional_block(w, &x.finalizer)?;
     w.push(Work::Key("finalizer"))?;
-    match &x.handler {
-        Some(handler) => w.push(Work::Catch(handler))?,
-        None => w.push(Work::Nothing)?,
-    }
+    push_optional_catch(w, &x.handler)?;
     w.push(Work::Key("handler"))?;
     w.push(Work::Block(&x.block))
 }
 
 /// Writes what catches what was thrown.
-pub(crate) fn write_catch<'a>(w: &mut Writer<'a>, x: &'a CatchClause) -> Result<(), AllocError> {
+pub(crate) fn write_catch<'a>(w: &mut Writer<'a>, x: &'a CatchClause) -> Result<(), AllocError>
+    ensures { OnOk result (Writes w.old w.new (json w.old.text plain (view_catch_clause x.now))) }
+{
     w.open("CatchClause", x.span)?;
     w.key("param")?;
     w.push(Work::End)?;
@@ -219,7 +283,9 @@ pub(crate) fn write_catch<'a>(w: &mut Writer<'a>, x: &'a CatchClause) -> Result<
 }
 
 /// Writes a declaration of variables.
-pub(crate) fn write_var<'a>(w: &mut Writer<'a>, x: &'a VarDecl) -> Result<(), AllocError> {
+pub(crate) fn write_var<'a>(w: &mut Writer<'a>, x: &'a VarDecl) -> Result<(), AllocError>
+    ensures { OnOk result (Writes w.old w.new (json w.old.text plain (view_var_decl x.now))) }
+{
     w.open("VariableDeclaration", x.span)?;
     w.list_key("declarations")?;
     w.push(Work::End)?;
@@ -229,7 +295,9 @@ pub(crate) fn write_var<'a>(w: &mut Writer<'a>, x: &'a VarDecl) -> Result<(), Al
 }
 
 /// Writes a declaration of resources.
-pub(crate) fn write_using<'a>(w: &mut Writer<'a>, x: &'a UsingDecl) -> Result<(), AllocError> {
+pub(crate) fn write_using<'a>(w: &mut Writer<'a>, x: &'a UsingDecl) -> Result<(), AllocError>
+    ensures { OnOk result (Writes w.old w.new (json w.old.text plain (view_using_decl x.now))) }
+{
     w.open("VariableDeclaration", x.span)?;
     w.list_key("declarations")?;
     w.push(Work::End)?;
@@ -242,7 +310,9 @@ pub(crate) fn write_using<'a>(w: &mut Writer<'a>, x: &'a UsingDecl) -> Result<()
 pub(crate) fn write_declarator<'a>(
     w: &mut Writer<'a>,
     x: &'a VarDeclarator,
-) -> Result<(), AllocError> {
+) -> Result<(), AllocError>
+    ensures { OnOk result (Writes w.old w.new (json w.old.text plain (view_declarator x.now))) }
+{
     w.open("VariableDeclarator", x.span)?;
     w.key("id")?;
     w.push(Work::End)?;

@@ -81,13 +81,15 @@ fn line_behind(byte: u8) -> Mode
 
 /// The offset of the first byte `mark` from the offset `from` on that stands in no comment, in bytes; the end of the text, where
 /// there is none.
+#[tactic(auto, unfolding(crate::specs::Bracket::bracket))]
 pub fn find(text: &str, mark: u8, from: usize) -> usize
     ensures { result ≡ bracket text.now mark from }
 {
     let bytes = text.as_bytes();
     let mut place = from.min(bytes.len());
     let mut mode = Mode::Code;
-    for byte in &bytes[place..] {
+    let rest = &bytes[place..];
+    for byte in rest {
         if mode == Mode::Code && *byte == mark {
             return place;
         }

@@ -7,6 +7,6 @@ mod offsets;
 mod quoted;
 
 pub use bracket::find;
-pub use number::{push_digits, push_number};
+pub use number::{push_count, push_digits, push_number};
 pub use offsets::Offsets;
 pub use quoted::{push_inner, push_quoted};

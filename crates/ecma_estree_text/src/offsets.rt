@@ -11,7 +11,7 @@ use std::marker::Model;
 pub struct Offsets<'a> {
     text: &'a str,
     /// One for each byte, and one for the end.
-    counts: Vec<u32>,
+    counts: Vec<u64>,
 }
 
 impl<'a> Model for Offsets<'a> {
@@ -26,7 +26,7 @@ impl<'a> Model for Offsets<'a> {
 }
 
 /// How many code units of UTF-16 begin with a byte of UTF-8.
-fn units(byte: u8) -> u32
+fn units(byte: u8) -> u64
     ensures { result ≡ unit_count byte }
 {
     if byte < 128 {
@@ -47,7 +47,7 @@ impl<'a> Offsets<'a> {
         ensures { IfOk result (λ offsets. offsets ≡ text.now) }
     {
         let mut counts = Vec::with_capacity(alloc, text.len() + 1)?;
-        let mut count = 0;
+        let mut count: u64 = 0;
         counts.push(0)?;
         for byte in text.as_bytes() {
             count += units(*byte);
@@ -57,7 +57,8 @@ impl<'a> Offsets<'a> {
     }
 
     /// How many code units of UTF-16 stand before a byte; behind the end all.
-    pub fn at(&self, position: usize) -> u32
+    #[tactic(auto, unfolding(crate::specs::Offsets::offset))]
+    pub fn at(&self, position: usize) -> u64
         ensures { result ≡ offset self.now position }
     {
         let last = self.text.len();

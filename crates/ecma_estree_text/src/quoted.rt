@@ -1,77 +1,86 @@
 //! JSON strings.
 
-ghost use Rattle.std.specs.Prelude.{◌≡◌, ◌++◌, ◌<◌, ◌∷◌, [], OnOk, string_bytes};
-ghost use Rattle.ecma_estree_text.specs.Quoted.{escaped, hex_digit, quoted};
+ghost use Rattle.std.specs.Prelude.{◌≡◌, ◌++◌, ◌<◌, ◌∷◌, [], OnOk};
+ghost use Rattle.ecma_estree_text.specs.Quoted.{escaped, hex_digit, inner_quoted, quoted, wrapped};
 
 use std::alloc::AllocError;
 
 /// A hexadecimal digit.
-fn digit_of(value: u32) -> char
+fn digit_of(value: u8) -> u8
     requires { value < 16 }
     ensures { result ≡ hex_digit value }
 {
     if value < 10 {
-        (b'0' + value as u8) as char
+        b'0' + value
     } else {
-        (b'a' + (value as u8 - 10)) as char
+        b'a' + (value - 10)
     }
 }
 
-/// Writes a control character as `\u00` and two hexadecimal digits.
-fn push_control(out: &mut String, c: char) -> Result<(), AllocError>
-    requires { c < 32 }
-    ensures { OnOk result (string_bytes out.new ≡ string_bytes out.old ++ escaped c) }
+/// Writes a control character: with a short escape where it has one, else as `\u00` and two hexadecimal digits.
+fn push_control(out: &mut Vec<u8>, byte: u8) -> Result<(), AllocError>
+    requires { byte < 32 }
+    ensures { OnOk result (out.new.items ≡ out.old.items ++ escaped byte) }
 {
-    match c {
-        '\u{8}' => out.push_str("\\b"),
-        '\t' => out.push_str("\\t"),
-        '\n' => out.push_str("\\n"),
-        '\u{c}' => out.push_str("\\f"),
-        '\r' => out.push_str("\\r"),
+    match byte {
+        8 => out.extend_from_slice(b"\\b"),
+        9 => out.extend_from_slice(b"\\t"),
+        10 => out.extend_from_slice(b"\\n"),
+        12 => out.extend_from_slice(b"\\f"),
+        13 => out.extend_from_slice(b"\\r"),
         _ => {
-            let code = c as u32;
-            out.push_str("\\u00")?;
-            out.push(digit_of(code / 16))?;
-            out.push(digit_of(code % 16))
+            out.extend_from_slice(b"\\u00")?;
+            out.push(digit_of(byte / 16))?;
+            out.push(digit_of(byte % 16))?;
+            Ok(())
         }
     }
 }
 
-/// Writes a character of a JSON string.
-fn push_escaped(out: &mut String, c: char) -> Result<(), AllocError>
-    ensures { OnOk result (string_bytes out.new ≡ string_bytes out.old ++ escaped c) }
+/// Writes a byte of a JSON string.
+fn push_escaped(out: &mut Vec<u8>, byte: u8) -> Result<(), AllocError>
+    ensures { OnOk result (out.new.items ≡ out.old.items ++ escaped byte) }
 {
-    if c < ' ' {
-        return push_control(out, c);
+    if byte < 32 {
+        return push_control(out, byte);
     }
-    match c {
-        '"' => out.push_str("\\\""),
-        '\\' => out.push_str("\\\\"),
-        _ => out.push(c),
+    match byte {
+        b'"' => out.extend_from_slice(b"\\\""),
+        b'\\' => out.extend_from_slice(b"\\\\"),
+        _ => {
+            out.push(byte)?;
+            Ok(())
+        }
     }
+}
+
+/// Writes bytes of UTF-8 as a JSON string.
+fn push_bytes(out: &mut Vec<u8>, bytes: &[u8]) -> Result<(), AllocError>
+    ensures { OnOk result (out.new.items ≡ out.old.items ++ wrapped bytes.now) }
+{
+    out.push(b'"')?;
+    for byte in bytes {
+        push_escaped(out, *byte)?;
+    }
+    out.push(b'"')?;
+    Ok(())
 }
 
 /// Writes a text as a JSON string: quotes, backslashes and control characters are escaped, and all else stands as it is.
-pub fn push_quoted(out: &mut String, text: &str) -> Result<(), AllocError>
-    ensures { OnOk result (string_bytes out.new ≡ string_bytes out.old ++ quoted text.now) }
+#[tactic(auto, unfolding(crate::specs::Quoted::quoted))]
+pub fn push_quoted(out: &mut Vec<u8>, text: &str) -> Result<(), AllocError>
+    ensures { OnOk result (out.new.items ≡ out.old.items ++ quoted text.now) }
 {
-    out.push_str("\"")?;
-    for c in text.chars() {
-        push_escaped(out, c)?;
-    }
-    out.push_str("\"")
+    push_bytes(out, text.as_bytes())
 }
 
-/// Writes a text but for its first and its last character as a JSON string.
-pub fn push_inner(out: &mut String, text: &str) -> Result<(), AllocError> {
-    out.push_str("\"")?;
-    let mut left = text.chars().count();
-    let last = left;
-    for c in text.chars() {
-        if left < last && left > 1 {
-            push_escaped(out, c)?;
-        }
-        left = left.saturating_sub(1);
+/// Writes what stands between the first and the last byte of a text as a JSON string.
+#[tactic(auto, unfolding(crate::specs::Quoted::inner_quoted))]
+pub fn push_inner(out: &mut Vec<u8>, text: &str) -> Result<(), AllocError>
+    ensures { OnOk result (out.new.items ≡ out.old.items ++ inner_quoted text.now) }
+{
+    match text.as_bytes() {
+        [_, inner @ .., _] => push_bytes(out, inner),
+        _ => push_bytes(out, b""),
     }
-    out.push_str("\"")
 }

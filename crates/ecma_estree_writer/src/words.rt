@@ -1,13 +1,13 @@
 //! The words of ESTree.
 
 ghost use Rattle.std.specs.Prelude.{◌≡◌};
-ghost use Rattle.ecma_estree.specs.Words as words;
+ghost use Rattle.ecma_estree_writer.specs.Words as words;
 
 use swc_ecma_parser_ast::{AssignOp, BinaryOp, MethodKind, UnaryOp, UpdateOp, VarDeclKind};
 
 /// `true` or `false`.
 #[tactic(auto, unfolding(crate::specs::Words::bool_word))]
-pub(crate) fn bool_word(value: bool) -> &'static str
+pub fn bool_word(value: bool) -> &'static str
     ensures { result.now ≡ words.bool_word value }
 {
     if value { "true" } else { "false" }
@@ -15,7 +15,7 @@ pub(crate) fn bool_word(value: bool) -> &'static str
 
 /// The word of a declaration of variables.
 #[tactic(auto, unfolding(crate::specs::Words::kind_word))]
-pub(crate) fn kind_word(kind: VarDeclKind) -> &'static str
+pub fn kind_word(kind: VarDeclKind) -> &'static str
     ensures { result.now ≡ words.kind_word kind }
 {
     match kind {
@@ -27,7 +27,7 @@ pub(crate) fn kind_word(kind: VarDeclKind) -> &'static str
 
 /// The words of a declaration of resources.
 #[tactic(auto, unfolding(crate::specs::Words::using_word))]
-pub(crate) fn using_word(is_await: bool) -> &'static str
+pub fn using_word(is_await: bool) -> &'static str
     ensures { result.now ≡ words.using_word is_await }
 {
     if is_await { "await using" } else { "using" }
@@ -35,7 +35,7 @@ pub(crate) fn using_word(is_await: bool) -> &'static str
 
 /// What a method is.
 #[tactic(auto, unfolding(crate::specs::Words::method_word))]
-pub(crate) fn method_word(kind: MethodKind) -> &'static str
+pub fn method_word(kind: MethodKind) -> &'static str
     ensures { result.now ≡ words.method_word kind }
 {
     match kind {
@@ -47,7 +47,7 @@ pub(crate) fn method_word(kind: MethodKind) -> &'static str
 
 /// An operator before its operand.
 #[tactic(auto, unfolding(crate::specs::Words::unary_word))]
-pub(crate) fn unary_word(op: UnaryOp) -> &'static str
+pub fn unary_word(op: UnaryOp) -> &'static str
     ensures { result.now ≡ words.unary_word op }
 {
     match op {
@@ -63,7 +63,7 @@ pub(crate) fn unary_word(op: UnaryOp) -> &'static str
 
 /// `++` or `--`.
 #[tactic(auto, unfolding(crate::specs::Words::update_word))]
-pub(crate) fn update_word(op: UpdateOp) -> &'static str
+pub fn update_word(op: UpdateOp) -> &'static str
     ensures { result.now ≡ words.update_word op }
 {
     match op {
@@ -74,7 +74,7 @@ pub(crate) fn update_word(op: UpdateOp) -> &'static str
 
 /// An operator between two operands.
 #[tactic(auto, unfolding(crate::specs::Words::binary_word))]
-pub(crate) fn binary_word(op: BinaryOp) -> &'static str
+pub fn binary_word(op: BinaryOp) -> &'static str
     ensures { result.now ≡ words.binary_word op }
 {
     match op {
@@ -108,7 +108,7 @@ pub(crate) fn binary_word(op: BinaryOp) -> &'static str
 
 /// The node of an operator between two operands.
 #[tactic(auto, unfolding(crate::specs::Words::binary_kind))]
-pub(crate) fn binary_kind(op: BinaryOp) -> &'static str
+pub fn binary_kind(op: BinaryOp) -> &'static str
     ensures { result.now ≡ words.binary_kind op }
 {
     match op {
@@ -121,7 +121,7 @@ pub(crate) fn binary_kind(op: BinaryOp) -> &'static str
 
 /// The operator of an assignment.
 #[tactic(auto, unfolding(crate::specs::Words::assign_word))]
-pub(crate) fn assign_word(op: AssignOp) -> &'static str
+pub fn assign_word(op: AssignOp) -> &'static str
     ensures { result.now ≡ words.assign_word op }
 {
     match op {

@@ -1,9 +1,15 @@
 //! Arrays and objects.
 
+ghost use Rattle.std.specs.Prelude.{◌≡◌, codes, ◌++◌, OnOk};
+ghost use Rattle.ecma_estree_writer.specs.Parts.{key};
+ghost use Rattle.ecma_estree_writer.specs.Estree.{json, plain, attributes, property};
+ghost use Rattle.ecma_estree_writer.specs.Writing.{Appends, Writes};
+ghost use Rattle.swc_ecma_parser_ast.specs.View.{view_array_lit, view_assign_prop, view_getter_prop, view_key_value_prop, view_method_prop, view_object_lit, view_prop, view_prop_name, view_prop_or_spread, view_setter_prop, view_spread_element};
+ghost use Rattle.swc_ecma_parser_model.specs.Tree.{shorthand_prop};
+ghost use Rattle.swc_ecma_parser_model.specs.Kinds as kinds;
+
 use crate::functions::{method_start, push_accessor, push_body};
-use crate::leaves::{write_big_int, write_name, write_number, write_str};
-use crate::work::Work;
-use crate::writer::Writer;
+use ecma_estree_writer::{Work, Writer, write_big_int, write_name, write_number, write_str};
 use std::alloc::AllocError;
 use swc_ecma_parser_ast::{
     ArrayLit, AssignProp, GetterProp, Ident, KeyValueProp, MethodProp, ObjectLit, Prop, PropName,
@@ -11,7 +17,9 @@ use swc_ecma_parser_ast::{
 };
 
 /// Writes an array.
-pub(crate) fn write_array<'a>(w: &mut Writer<'a>, x: &'a ArrayLit) -> Result<(), AllocError> {
+pub fn write_array<'a>(w: &mut Writer<'a>, x: &'a ArrayLit) -> Result<(), AllocError>
+    ensures { OnOk result (Writes w.old w.new (json w.old.text plain (view_array_lit x.now))) }
+{
     w.open("ArrayExpression", x.span)?;
     w.list_key("elements")?;
     w.push(Work::End)?;
@@ -20,7 +28,9 @@ pub(crate) fn write_array<'a>(w: &mut Writer<'a>, x: &'a ArrayLit) -> Result<(),
 }
 
 /// Writes an object.
-pub(crate) fn write_object<'a>(w: &mut Writer<'a>, x: &'a ObjectLit) -> Result<(), AllocError> {
+pub fn write_object<'a>(w: &mut Writer<'a>, x: &'a ObjectLit) -> Result<(), AllocError>
+    ensures { OnOk result (Writes w.old w.new (json w.old.text plain (view_object_lit x.now))) }
+{
     w.open("ObjectExpression", x.span)?;
     w.list_key("properties")?;
     w.push(Work::End)?;
@@ -29,7 +39,9 @@ pub(crate) fn write_object<'a>(w: &mut Writer<'a>, x: &'a ObjectLit) -> Result<(
 }
 
 /// Whether a key stands in brackets.
-pub(crate) fn is_computed(key: &PropName) -> bool {
+pub fn is_computed(key: &PropName) -> bool
+    ensures { result ≡ kinds.is_computed (view_prop_name key.now) }
+{
     match key {
         PropName::Computed(_) => true,
         _ => false,
@@ -37,7 +49,10 @@ pub(crate) fn is_computed(key: &PropName) -> bool {
 }
 
 /// Writes a key.
-pub(crate) fn write_prop_name<'a>(w: &mut Writer<'a>, key: &'a PropName) -> Result<(), AllocError> {
+#[tactic(auto, using(ecma_estree_writer::proofs::Written::appended_on_ok, ecma_estree_writer::proofs::Written::pushed_on_ok))]
+pub fn write_prop_name<'a>(w: &mut Writer<'a>, key: &'a PropName) -> Result<(), AllocError>
+    ensures { OnOk result (Writes w.old w.new (json w.old.text plain (view_prop_name key.now))) }
+{
     match key {
         PropName::Ident(x) => write_name(w, x),
         PropName::Str(x) => write_str(w, x),
@@ -48,13 +63,15 @@ pub(crate) fn write_prop_name<'a>(w: &mut Writer<'a>, key: &'a PropName) -> Resu
 }
 
 /// Writes how a property begins.
-pub(crate) fn open_property(
+pub fn open_property(
     w: &mut Writer<'_>,
     span: Span,
     is_method: bool,
     is_shorthand: bool,
     is_computed: bool,
-) -> Result<(), AllocError> {
+) -> Result<(), AllocError>
+    ensures { OnOk result (Appends w.old w.new (property w.old.text span is_method is_shorthand is_computed ++ key (codes "key"))) }
+{
     w.open("Property", span)?;
     w.bool("method", is_method)?;
     w.bool("shorthand", is_shorthand)?;
@@ -63,7 +80,10 @@ pub(crate) fn open_property(
 }
 
 /// Writes a part of an object.
-pub(crate) fn write_part<'a>(w: &mut Writer<'a>, part: &'a PropOrSpread) -> Result<(), AllocError> {
+#[tactic(auto, using(ecma_estree_writer::proofs::Written::appended_on_ok, ecma_estree_writer::proofs::Written::pushed_on_ok))]
+pub fn write_part<'a>(w: &mut Writer<'a>, part: &'a PropOrSpread) -> Result<(), AllocError>
+    ensures { OnOk result (Writes w.old w.new (json w.old.text plain (view_prop_or_spread part.now))) }
+{
     match part {
         PropOrSpread::Spread(x) => write_spread(w, x),
         PropOrSpread::Prop(x) => write_prop(w, x),
@@ -71,7 +91,9 @@ pub(crate) fn write_part<'a>(w: &mut Writer<'a>, part: &'a PropOrSpread) -> Resu
 }
 
 /// Writes what is spread in an object.
-fn write_spread<'a>(w: &mut Writer<'a>, x: &'a SpreadElement) -> Result<(), AllocError> {
+fn write_spread<'a>(w: &mut Writer<'a>, x: &'a SpreadElement) -> Result<(), AllocError>
+    ensures { OnOk result (Writes w.old w.new (json w.old.text plain (view_spread_element x.now))) }
+{
     w.open_at(
         "SpreadElement",
         x.dot3_token.lo.0 as usize,
@@ -83,7 +105,10 @@ fn write_spread<'a>(w: &mut Writer<'a>, x: &'a SpreadElement) -> Result<(), Allo
 }
 
 /// Writes a property.
-pub(crate) fn write_prop<'a>(w: &mut Writer<'a>, prop: &'a Prop) -> Result<(), AllocError> {
+#[tactic(auto, using(ecma_estree_writer::proofs::Written::appended_on_ok, ecma_estree_writer::proofs::Written::pushed_on_ok))]
+pub fn write_prop<'a>(w: &mut Writer<'a>, prop: &'a Prop) -> Result<(), AllocError>
+    ensures { OnOk result (Writes w.old w.new (json w.old.text plain (view_prop prop.now))) }
+{
     match prop {
         Prop::Shorthand(x) => write_shorthand(w, x),
         Prop::KeyValue(x) => write_key_value(w, x),
@@ -95,7 +120,9 @@ pub(crate) fn write_prop<'a>(w: &mut Writer<'a>, prop: &'a Prop) -> Result<(), A
 }
 
 /// Writes a name that is its own value.
-fn write_shorthand(w: &mut Writer<'_>, name: &Ident) -> Result<(), AllocError> {
+fn write_shorthand(w: &mut Writer<'_>, name: &Ident) -> Result<(), AllocError>
+    ensures { OnOk result (Appends w.old w.new (json w.old.text plain (shorthand_prop name.now.span name.now.sym))) }
+{
     open_property(w, name.span, false, true, false)?;
     write_name(w, name)?;
     w.key("value")?;
@@ -105,7 +132,9 @@ fn write_shorthand(w: &mut Writer<'_>, name: &Ident) -> Result<(), AllocError> {
 }
 
 /// Writes a key with its value.
-fn write_key_value<'a>(w: &mut Writer<'a>, x: &'a KeyValueProp) -> Result<(), AllocError> {
+fn write_key_value<'a>(w: &mut Writer<'a>, x: &'a KeyValueProp) -> Result<(), AllocError>
+    ensures { OnOk result (Writes w.old w.new (json w.old.text plain (view_key_value_prop x.now))) }
+{
     open_property(w, x.span, false, false, is_computed(&x.key))?;
     w.push(Work::End)?;
     w.push(Work::Word("kind", "init"))?;
@@ -115,10 +144,9 @@ fn write_key_value<'a>(w: &mut Writer<'a>, x: &'a KeyValueProp) -> Result<(), Al
 }
 
 /// Writes a property as an attribute of an import.
-pub(crate) fn write_attribute<'a>(
-    w: &mut Writer<'a>,
-    part: &'a PropOrSpread,
-) -> Result<(), AllocError> {
+pub fn write_attribute<'a>(w: &mut Writer<'a>, part: &'a PropOrSpread) -> Result<(), AllocError>
+    ensures { OnOk result (Writes w.old w.new (json w.old.text attributes (view_prop_or_spread part.now))) }
+{
     let PropOrSpread::Prop(prop) = part else {
         return write_part(w, part);
     };
@@ -134,7 +162,9 @@ pub(crate) fn write_attribute<'a>(
 }
 
 /// Writes a name with a default.
-fn write_assign_prop<'a>(w: &mut Writer<'a>, x: &'a AssignProp) -> Result<(), AllocError> {
+fn write_assign_prop<'a>(w: &mut Writer<'a>, x: &'a AssignProp) -> Result<(), AllocError>
+    ensures { OnOk result (Writes w.old w.new (json w.old.text plain (view_assign_prop x.now))) }
+{
     open_property(w, x.span, false, true, false)?;
     write_name(w, &x.key)?;
     w.key("value")?;
@@ -149,7 +179,9 @@ fn write_assign_prop<'a>(w: &mut Writer<'a>, x: &'a AssignProp) -> Result<(), Al
 }
 
 /// Writes a getter.
-fn write_getter<'a>(w: &mut Writer<'a>, x: &'a GetterProp) -> Result<(), AllocError> {
+fn write_getter<'a>(w: &mut Writer<'a>, x: &'a GetterProp) -> Result<(), AllocError>
+    ensures { OnOk result (Writes w.old w.new (json w.old.text plain (view_getter_prop x.now))) }
+{
     open_property(w, x.span, false, false, is_computed(&x.key))?;
     w.push(Work::End)?;
     w.push(Work::Word("kind", "get"))?;
@@ -162,7 +194,9 @@ fn write_getter<'a>(w: &mut Writer<'a>, x: &'a GetterProp) -> Result<(), AllocEr
 }
 
 /// Writes a setter.
-fn write_setter<'a>(w: &mut Writer<'a>, x: &'a SetterProp) -> Result<(), AllocError> {
+fn write_setter<'a>(w: &mut Writer<'a>, x: &'a SetterProp) -> Result<(), AllocError>
+    ensures { OnOk result (Writes w.old w.new (json w.old.text plain (view_setter_prop x.now))) }
+{
     open_property(w, x.span, false, false, is_computed(&x.key))?;
     w.push(Work::End)?;
     w.push(Work::Word("kind", "set"))?;
@@ -176,7 +210,9 @@ fn write_setter<'a>(w: &mut Writer<'a>, x: &'a SetterProp) -> Result<(), AllocEr
 }
 
 /// Writes a method.
-fn write_method<'a>(w: &mut Writer<'a>, x: &'a MethodProp) -> Result<(), AllocError> {
+fn write_method<'a>(w: &mut Writer<'a>, x: &'a MethodProp) -> Result<(), AllocError>
+    ensures { OnOk result (Writes w.old w.new (json w.old.text plain (view_method_prop x.now))) }
+{
     open_property(w, x.span, true, false, is_computed(&x.key))?;
     w.push(Work::End)?;
     w.push(Work::Word("kind", "init"))?;

@@ -6,7 +6,7 @@ use swc_ecma_parser_ast::{
 
 /// What is yet to be written. The `bool` of a list says whether its first part has a comma before it: not where it is the first of all.
 #[derive(Clone, Copy)]
-pub(crate) enum Work<'a> {
+pub enum Work<'a> {
     End,
     OpenList,
     EndList,

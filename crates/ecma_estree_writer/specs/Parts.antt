@@ -1,9 +1,9 @@
 -- What nodes are made of.
 use Rattle.std.specs.Prelude.{ℕ, List, [], ◌++◌, ◌+◌, ◌-◌, Bool, true, false, Option, Some, None, codes, decimal, take, drop, length, max}
 use Rattle.ecma_estree_text.specs.Offsets.{offset}
-use Rattle.ecma_estree_text.specs.Quoted.{quoted}
+use Rattle.ecma_estree_text.specs.Quoted.{quoted, inner_quoted}
 use Rattle.ecma_estree_text.specs.Number.{number_text, digits_text}
-use Rattle.ecma_estree.specs.Words.{bool_word}
+use Rattle.ecma_estree_writer.specs.Words.{bool_word}
 use Rattle.swc_ecma_parser_common.specs.declared.span.Span.{Span}
 use Rattle.swc_ecma_parser_model.specs.declared.leaves.ImportPhase.{ImportPhase}
 use Rattle.swc_ecma_parser_model.specs.declared.leaves.ImportPhase.TheVariants as phase
@@ -63,13 +63,9 @@ unfoldable pub big_literal : Text → Span → Text → List ℕ
 big_literal text s raw =
     node text (codes "Literal") s ++ (key (codes "value") ++ (nothing ++ (key (codes "raw") ++ (quoted raw ++ (key (codes "bigint") ++ (codes "\"" ++ (digits_text raw ++ (codes "\"" ++ end))))))))
 
--- a string between its quotes, as a directive
-abbrev pub inner : Text → Text
-inner raw = take (length raw - 2) (drop 1 raw)
-
 -- what a statement that is a directive has besides
 abbrev pub directive : Tree → List ℕ
-directive (tree.str s value raw) = key (codes "directive") ++ quoted (inner raw)
+directive (tree.str s value raw) = key (codes "directive") ++ inner_quoted raw
 directive _ = []
 
 -- the end of the last of some trees; else a place

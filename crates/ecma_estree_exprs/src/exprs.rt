@@ -1,21 +1,27 @@
 //! Expressions.
 
+ghost use Rattle.std.specs.Prelude.{OnOk};
+ghost use Rattle.ecma_estree_writer.specs.Estree.{json, plain};
+ghost use Rattle.ecma_estree_writer.specs.Writing.{Writes};
+ghost use Rattle.swc_ecma_parser_ast.specs.View.{view_expr};
+
 use crate::calls::{write_call, write_member, write_new, write_super_member};
 use crate::classes::write_class;
 use crate::functions::{write_arrow, write_function_expr};
-use crate::leaves::{write_literal, write_meta, write_name};
 use crate::objects::{write_array, write_object};
 use crate::operators::{
     write_assign, write_await, write_binary, write_conditional, write_sequence, write_unary,
     write_update, write_yield,
 };
-use crate::work::Work;
-use crate::writer::Writer;
+use ecma_estree_writer::{Work, Writer, write_literal, write_meta, write_name};
 use std::alloc::AllocError;
 use swc_ecma_parser_ast::Expr;
 
 /// Writes an expression.
-pub(crate) fn write_expr<'a>(w: &mut Writer<'a>, expr: &'a Expr) -> Result<(), AllocError> {
+#[tactic(auto, using(ecma_estree_writer::proofs::Written::appended_on_ok, ecma_estree_writer::proofs::Written::pushed_on_ok))]
+pub fn write_expr<'a>(w: &mut Writer<'a>, expr: &'a Expr) -> Result<(), AllocError>
+    ensures { OnOk result (Writes w.old w.new (json w.old.text plain (view_expr expr.now))) }
+{
     match expr {
         Expr::This(x) => w.leaf("ThisExpression", x.span),
         Expr::Array(x) => write_array(w, x),

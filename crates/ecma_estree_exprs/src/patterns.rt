@@ -1,9 +1,13 @@
 //! Patterns.
 
-use crate::leaves::write_name;
+ghost use Rattle.std.specs.Prelude.{◌++◌, codes, OnOk};
+ghost use Rattle.ecma_estree_writer.specs.Estree.{json, plain};
+ghost use Rattle.ecma_estree_writer.specs.Writing.{Writes};
+ghost use Rattle.swc_ecma_parser_ast.specs.View.{view_binding_ident, view_array_pat, view_assign_pat, view_assign_pat_prop, view_key_value_pat_prop, view_object_pat, view_object_pat_prop, view_pat, view_rest_pat};
+ghost use Rattle.ecma_estree_writer.specs.Parts.{end, key, node};
+
 use crate::objects::{is_computed, open_property, write_prop_name};
-use crate::work::Work;
-use crate::writer::Writer;
+use ecma_estree_writer::{Work, Writer, write_name};
 use std::alloc::AllocError;
 use swc_ecma_parser_ast::{
     ArrayPat, AssignPat, AssignPatProp, ExprBox, KeyValuePatProp, ObjectPat, ObjectPatProp, Pat,
@@ -11,7 +15,10 @@ use swc_ecma_parser_ast::{
 };
 
 /// Writes a pattern.
-pub(crate) fn write_pat<'a>(w: &mut Writer<'a>, pat: &'a Pat) -> Result<(), AllocError> {
+#[tactic(auto, using(ecma_estree_writer::proofs::Written::appended_on_ok, ecma_estree_writer::proofs::Written::pushed_on_ok))]
+pub fn write_pat<'a>(w: &mut Writer<'a>, pat: &'a Pat) -> Result<(), AllocError>
+    ensures { OnOk result (Writes w.old w.new (json w.old.text plain (view_pat pat.now))) }
+{
     match pat {
         Pat::Ident(x) => write_name(w, &x.id),
         Pat::Array(x) => write_array_pat(w, x),
@@ -24,7 +31,9 @@ pub(crate) fn write_pat<'a>(w: &mut Writer<'a>, pat: &'a Pat) -> Result<(), Allo
 }
 
 /// Writes a pattern of elements.
-pub(crate) fn write_array_pat<'a>(w: &mut Writer<'a>, x: &'a ArrayPat) -> Result<(), AllocError> {
+pub fn write_array_pat<'a>(w: &mut Writer<'a>, x: &'a ArrayPat) -> Result<(), AllocError>
+    ensures { OnOk result (Writes w.old w.new (json w.old.text plain (view_array_pat x.now))) }
+{
     w.open("ArrayPattern", x.span)?;
     w.list_key("elements")?;
     w.push(Work::End)?;
@@ -33,7 +42,9 @@ pub(crate) fn write_array_pat<'a>(w: &mut Writer<'a>, x: &'a ArrayPat) -> Result
 }
 
 /// Writes what takes the rest.
-fn write_rest_pat<'a>(w: &mut Writer<'a>, x: &'a RestPat) -> Result<(), AllocError> {
+fn write_rest_pat<'a>(w: &mut Writer<'a>, x: &'a RestPat) -> Result<(), AllocError>
+    ensures { OnOk result (Writes w.old w.new (json w.old.text plain (view_rest_pat x.now))) }
+{
     w.open("RestElement", x.span)?;
     w.key("argument")?;
     w.push(Work::End)?;
@@ -41,7 +52,9 @@ fn write_rest_pat<'a>(w: &mut Writer<'a>, x: &'a RestPat) -> Result<(), AllocErr
 }
 
 /// Writes a pattern of properties.
-pub(crate) fn write_object_pat<'a>(w: &mut Writer<'a>, x: &'a ObjectPat) -> Result<(), AllocError> {
+pub fn write_object_pat<'a>(w: &mut Writer<'a>, x: &'a ObjectPat) -> Result<(), AllocError>
+    ensures { OnOk result (Writes w.old w.new (json w.old.text plain (view_object_pat x.now))) }
+{
     w.open("ObjectPattern", x.span)?;
     w.list_key("properties")?;
     w.push(Work::End)?;
@@ -50,7 +63,9 @@ pub(crate) fn write_object_pat<'a>(w: &mut Writer<'a>, x: &'a ObjectPat) -> Resu
 }
 
 /// Writes a pattern with a default.
-fn write_assign_pat<'a>(w: &mut Writer<'a>, x: &'a AssignPat) -> Result<(), AllocError> {
+fn write_assign_pat<'a>(w: &mut Writer<'a>, x: &'a AssignPat) -> Result<(), AllocError>
+    ensures { OnOk result (Writes w.old w.new (json w.old.text plain (view_assign_pat x.now))) }
+{
     w.open("AssignmentPattern", x.span)?;
     w.key("left")?;
     w.push(Work::End)?;
@@ -60,10 +75,10 @@ fn write_assign_pat<'a>(w: &mut Writer<'a>, x: &'a AssignPat) -> Result<(), Allo
 }
 
 /// Writes a part of an object pattern.
-pub(crate) fn write_pat_part<'a>(
-    w: &mut Writer<'a>,
-    part: &'a ObjectPatProp,
-) -> Result<(), AllocError> {
+#[tactic(auto, using(ecma_estree_writer::proofs::Written::appended_on_ok, ecma_estree_writer::proofs::Written::pushed_on_ok))]
+pub fn write_pat_part<'a>(w: &mut Writer<'a>, part: &'a ObjectPatProp) -> Result<(), AllocError>
+    ensures { OnOk result (Writes w.old w.new (json w.old.text plain (view_object_pat_prop part.now))) }
+{
     match part {
         ObjectPatProp::KeyValue(x) => write_key_value_pat(w, x),
         ObjectPatProp::Assign(x) => write_assign_pat_prop(w, x),
@@ -72,7 +87,9 @@ pub(crate) fn write_pat_part<'a>(
 }
 
 /// Writes a key with the pattern for its value.
-fn write_key_value_pat<'a>(w: &mut Writer<'a>, x: &'a KeyValuePatProp) -> Result<(), AllocError> {
+fn write_key_value_pat<'a>(w: &mut Writer<'a>, x: &'a KeyValuePatProp) -> Result<(), AllocError>
+    ensures { OnOk result (Writes w.old w.new (json w.old.text plain (view_key_value_pat_prop x.now))) }
+{
     open_property(w, x.span, false, false, is_computed(&x.key))?;
     w.push(Work::End)?;
     w.push(Work::Word("kind", "init"))?;
@@ -82,7 +99,9 @@ fn write_key_value_pat<'a>(w: &mut Writer<'a>, x: &'a KeyValuePatProp) -> Result
 }
 
 /// Writes a name that is its own key, with its default if it has one.
-fn write_assign_pat_prop<'a>(w: &mut Writer<'a>, x: &'a AssignPatProp) -> Result<(), AllocError> {
+fn write_assign_pat_prop<'a>(w: &mut Writer<'a>, x: &'a AssignPatProp) -> Result<(), AllocError>
+    ensures { OnOk result (Writes w.old w.new (json w.old.text plain (view_assign_pat_prop x.now))) }
+{
     open_property(w, x.span, false, true, false)?;
     write_name(w, &x.key.id)?;
     w.key("value")?;
@@ -99,7 +118,9 @@ fn write_default<'a>(
     w: &mut Writer<'a>,
     x: &'a AssignPatProp,
     value: &'a ExprBox,
-) -> Result<(), AllocError> {
+) -> Result<(), AllocError>
+    ensures { OnOk result (Writes w.old w.new (node w.old.text (codes "AssignmentPattern") x.now.span ++ (key (codes "left") ++ (json w.old.text plain (view_binding_ident x.now.key) ++ (key (codes "right") ++ (json w.old.text plain value.now.node.tree ++ end)))))) }
+{
     w.open("AssignmentPattern", x.span)?;
     w.key("left")?;
     write_name(w, &x.key.id)?;

@@ -1,12 +1,17 @@
 //! Members of classes.
 
+ghost use Rattle.std.specs.Prelude.{◌++◌, codes, map, OnOk};
+ghost use Rattle.ecma_estree_writer.specs.Estree.{decorator_field, json, plain, members, member_head};
+ghost use Rattle.ecma_estree_writer.specs.Writing.{Pushes, Appends, Writes};
+ghost use Rattle.swc_ecma_parser_ast.specs.View.{view_decorator, view_auto_accessor, view_class_member, view_class_method, view_class_prop, view_constructor, view_private_method, view_private_prop, view_static_block};
+ghost use Rattle.ecma_estree_writer.specs.Parts.{end, key};
+ghost use Rattle.swc_ecma_parser_ast.specs.Parts.{view_option};
+ghost use Rattle.swc_ecma_parser_model.specs.Tree.{listed};
+
 use crate::functions::{method_start, push_accessor, push_body, push_decorators};
-use crate::leaves::write_private_name;
 use crate::objects::{is_computed, write_prop_name};
 use crate::operators::push_optional;
-use crate::words::method_word;
-use crate::work::Work;
-use crate::writer::Writer;
+use ecma_estree_writer::{Work, Writer, method_word, write_private_name};
 use std::alloc::AllocError;
 use swc_ecma_parser_ast::{
     AutoAccessor, ClassMember, ClassMethod, ClassProp, Constructor, Decorator, ExprBox, Key,
@@ -14,10 +19,10 @@ use swc_ecma_parser_ast::{
 };
 
 /// Writes a member.
-pub(crate) fn write_class_member<'a>(
-    w: &mut Writer<'a>,
-    member: &'a ClassMember,
-) -> Result<(), AllocError> {
+#[tactic(auto, using(ecma_estree_writer::proofs::Written::appended_on_ok, ecma_estree_writer::proofs::Written::pushed_on_ok))]
+pub fn write_class_member<'a>(w: &mut Writer<'a>, member: &'a ClassMember) -> Result<(), AllocError>
+    ensures { OnOk result (Writes w.old w.new (json w.old.text members (view_class_member member.now))) }
+{
     match member {
         ClassMember::Constructor(x) => write_constructor(w, x),
         ClassMember::Method(x) => write_method(w, x),
@@ -37,7 +42,9 @@ fn open_member(
     span: Span,
     is_static: bool,
     is_computed: bool,
-) -> Result<(), AllocError> {
+) -> Result<(), AllocError>
+    ensures { OnOk result (Appends w.old w.new (member_head w.old.text kind.now span is_static is_computed)) }
+{
     w.open(kind, span)?;
     w.bool("static", is_static)?;
     w.bool("computed", is_computed)?;
@@ -45,7 +52,9 @@ fn open_member(
 }
 
 /// Writes a constructor.
-fn write_constructor<'a>(w: &mut Writer<'a>, x: &'a Constructor) -> Result<(), AllocError> {
+fn write_constructor<'a>(w: &mut Writer<'a>, x: &'a Constructor) -> Result<(), AllocError>
+    ensures { OnOk result (Writes w.old w.new (json w.old.text plain (view_constructor x.now))) }
+{
     open_member(w, "MethodDefinition", x.span, false, is_computed(&x.key))?;
     w.push(Work::End)?;
     w.push(Work::End)?;
@@ -59,7 +68,9 @@ fn write_constructor<'a>(w: &mut Writer<'a>, x: &'a Constructor) -> Result<(), A
 }
 
 /// Writes a method, getter or setter.
-fn write_method<'a>(w: &mut Writer<'a>, x: &'a ClassMethod) -> Result<(), AllocError> {
+fn write_method<'a>(w: &mut Writer<'a>, x: &'a ClassMethod) -> Result<(), AllocError>
+    ensures { OnOk result (Writes w.old w.new (json w.old.text plain (view_class_method x.now))) }
+{
     open_member(
         w,
         "MethodDefinition",
@@ -77,7 +88,9 @@ fn write_method<'a>(w: &mut Writer<'a>, x: &'a ClassMethod) -> Result<(), AllocE
 }
 
 /// Writes a method, getter or setter with a private name.
-fn write_private_method<'a>(w: &mut Writer<'a>, x: &'a PrivateMethod) -> Result<(), AllocError> {
+fn write_private_method<'a>(w: &mut Writer<'a>, x: &'a PrivateMethod) -> Result<(), AllocError>
+    ensures { OnOk result (Writes w.old w.new (json w.old.text plain (view_private_method x.now))) }
+{
     open_member(w, "MethodDefinition", x.span, x.is_static, false)?;
     write_private_name(w, &x.key)?;
     w.word("kind", method_word(x.kind))?;
@@ -93,7 +106,9 @@ fn push_value<'a>(
     w: &mut Writer<'a>,
     value: &'a Option<ExprBox>,
     decorators: &'a [Decorator],
-) -> Result<(), AllocError> {
+) -> Result<(), AllocError>
+    ensures { OnOk result (Pushes w.old w.new (key (codes "value") ++ (json w.old.text plain (view_option (λ b. b.node.tree) value.now) ++ (decorator_field w.old.text (listed (map view_decorator decorators.now)) ++ end)))) }
+{
     w.push(Work::End)?;
     push_decorators(w, decorators)?;
     push_optional(w, value)?;
@@ -101,7 +116,9 @@ fn push_value<'a>(
 }
 
 /// Writes a field.
-fn write_field<'a>(w: &mut Writer<'a>, x: &'a ClassProp) -> Result<(), AllocError> {
+fn write_field<'a>(w: &mut Writer<'a>, x: &'a ClassProp) -> Result<(), AllocError>
+    ensures { OnOk result (Writes w.old w.new (json w.old.text plain (view_class_prop x.now))) }
+{
     open_member(
         w,
         "PropertyDefinition",
@@ -114,14 +131,18 @@ fn write_field<'a>(w: &mut Writer<'a>, x: &'a ClassProp) -> Result<(), AllocErro
 }
 
 /// Writes a field with a private name.
-fn write_private_field<'a>(w: &mut Writer<'a>, x: &'a PrivateProp) -> Result<(), AllocError> {
+fn write_private_field<'a>(w: &mut Writer<'a>, x: &'a PrivateProp) -> Result<(), AllocError>
+    ensures { OnOk result (Writes w.old w.new (json w.old.text plain (view_private_prop x.now))) }
+{
     open_member(w, "PropertyDefinition", x.span, x.is_static, false)?;
     write_private_name(w, &x.key)?;
     push_value(w, &x.value, x.decorators.as_slice())
 }
 
 /// Writes a field with a getter and a setter.
-fn write_auto_accessor<'a>(w: &mut Writer<'a>, x: &'a AutoAccessor) -> Result<(), AllocError> {
+fn write_auto_accessor<'a>(w: &mut Writer<'a>, x: &'a AutoAccessor) -> Result<(), AllocError>
+    ensures { OnOk result (Writes w.old w.new (json w.old.text plain (view_auto_accessor x.now))) }
+{
     match &x.key {
         Key::Private(key) => {
             open_member(w, "AccessorProperty", x.span, x.is_static, false)?;
@@ -137,7 +158,9 @@ fn write_auto_accessor<'a>(w: &mut Writer<'a>, x: &'a AutoAccessor) -> Result<()
 }
 
 /// Writes a block that runs with its class.
-fn write_static_block<'a>(w: &mut Writer<'a>, x: &'a StaticBlock) -> Result<(), AllocError> {
+fn write_static_block<'a>(w: &mut Writer<'a>, x: &'a StaticBlock) -> Result<(), AllocError>
+    ensures { OnOk result (Writes w.old w.new (json w.old.text plain (view_static_block x.now))) }
+{
     w.open("StaticBlock", x.span)?;
     w.list_key("body")?;
     w.push(Work::End)?;

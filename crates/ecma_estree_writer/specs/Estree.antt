@@ -4,8 +4,9 @@ use Rattle.std.specs.Prelude.{ℕ, List, [], ◌++◌, ◌+◌, ◌-◌, Bool, t
 use Rattle.ecma_estree_text.specs.Quoted.{quoted}
 use Rattle.ecma_estree_text.specs.Bracket.{bracket}
 use Rattle.ecma_estree_text.specs.Number.{number_text}
-use Rattle.ecma_estree.specs.Words.{bool_word, kind_word, using_word, method_word, unary_word, update_word, binary_word, binary_kind, assign_word}
-use Rattle.ecma_estree.specs.Parts.{node, node_at, key, word_field, bool_field, end, open_list, end_list, nothing, comma, identifier, word_name, literal, big_literal, directive, end_of_last, phase_field, is_namespace_alone, is_import, is_empty_member, is_empty}
+use Rattle.ecma_estree_writer.specs.Words.{bool_word, kind_word, using_word, method_word, unary_word, update_word, binary_word, binary_kind, assign_word}
+use Rattle.ecma_estree_writer.specs.Parts.{node, node_at, key, word_field, bool_field, end, open_list, end_list, nothing, comma, identifier, word_name, literal, big_literal, directive, end_of_last, phase_field, is_namespace_alone, is_import, is_empty_member, is_empty}
+use Rattle.swc_ecma_parser_ast.specs.Parts.{as_expr}
 use Rattle.swc_ecma_parser_common.specs.declared.span.Span.{Span}
 use Rattle.swc_ecma_parser_model.specs.declared.leaves.MetaPropKind.TheVariants as meta
 use Rattle.swc_ecma_parser_model.specs.Directive.{is_string_statement}
@@ -70,13 +71,21 @@ abbrev next : Role → Tree → Role
 next directives x = cond (is_string_statement x) directives plain
 next r x = r
 
--- an end of nothing is 0
+-- the end of a name; 0 of none
 abbrev pub end_of : Tree → ℕ
 end_of x = cond (is_absent x) 0 (span_of x).hi.0
 
+-- the end of an expression; 0 of what is none
+abbrev pub expr_end : Tree → ℕ
+expr_end x = (span_of (as_expr x)).hi.0
+
+-- the same of one that may be left out
+abbrev pub end_of_optional : Tree → ℕ
+end_of_optional x = cond (is_absent x) 0 (expr_end x)
+
 -- where the brace of a class begins: behind what it extends, its name, and its decorators
 abbrev pub brace : Text → Span → (decorators super_class : Tree) → (name_end : ℕ) → ℕ
-brace text s ds super_class name_end = bracket text 123 (max (end_of super_class) (max name_end (end_of_last s.lo.0 ds)))
+brace text s ds super_class name_end = bracket text 123 (max (end_of_optional super_class) (max name_end (end_of_last s.lo.0 ds)))
 
 -- a function without a name that is the value of a method, from its parenthesis on
 abbrev pub method_role : Text → (key : Tree) → Role
@@ -110,7 +119,7 @@ abbrev mutual
   json t r (tree.ident s name) = identifier t s name
   json t r (tree.str s value raw) = literal t s (quoted value) raw
   json t r (tree.bool s b) = literal t s (bool_word b) (bool_word b)
-  json t r (tree.null s) = literal t s nothing (codes "null")
+  json t r (tree.null s) = literal t s (codes "null") (codes "null")
   json t r (tree.num s raw) = literal t s (number_text raw) raw
   json t r (tree.big_int s raw) = big_literal t s raw
   -- further primary expressions
@@ -150,23 +159,23 @@ abbrev mutual
       (node t (codes "ImportExpression") s ++ (key (codes "source") ++ (json t (argument 0) args ++ (key (codes "options") ++ (json t (argument 1) args ++ end)))))
       (node t (codes "CallExpression") s ++ (key (codes "callee") ++ (json t plain callee ++ (key (codes "arguments") ++ (open_list ++ (json t plain args ++ (end_list ++ (bool_field (codes "optional") false ++ end))))))))
   json t r (tree.new s callee args) =
-      node t (codes "NewExpression") s ++ (key (codes "callee") ++ (json t plain callee ++ (key (codes "arguments") ++ (open_list ++ (json t attributes args ++ (end_list ++ end))))))
+      node t (codes "NewExpression") s ++ (key (codes "callee") ++ (json t plain callee ++ (key (codes "arguments") ++ (open_list ++ (cond (is_absent args) [] (json t plain args) ++ (end_list ++ end))))))
   json t r (tree.arrow s params body is_async) =
-      node t (codes "ArrowFunctionExpression") s ++ (function_fields nothing (not (is_block body)) false is_async ++ (key (codes "params") ++ (open_list ++ (json t plain params ++ (end_list ++ (key (codes "body") ++ (json t directives body ++ end)))))))
+      node t (codes "ArrowFunctionExpression") s ++ (function_fields nothing (not (is_block body)) false is_async ++ (key (codes "params") ++ (open_list ++ (json t plain params ++ (end_list ++ (key (codes "body") ++ (cond (is_block body) (json t directives body) (json t plain body) ++ end)))))))
   json t r (tree.yield s arg delegate) =
       node t (codes "YieldExpression") s ++ (bool_field (codes "delegate") delegate ++ (key (codes "argument") ++ (json t plain arg ++ end)))
   json t r (tree.await s arg) = node t (codes "AwaitExpression") s ++ (key (codes "argument") ++ (json t plain arg ++ end))
   -- parts of expressions
   json t r (tree.element None e) = json t plain e
   json t r (tree.element (Some dots) e) =
-      node_at t (codes "SpreadElement") dots.lo.0 (span_of e).hi.0 ++ (key (codes "argument") ++ (json t plain e ++ end))
+      node_at t (codes "SpreadElement") dots.lo.0 (expr_end e) ++ (key (codes "argument") ++ (json t plain e ++ end))
   json t r (tree.private_name s word name) = node t (codes "PrivateIdentifier") s ++ (key (codes "name") ++ (quoted name ++ end))
   json t r (tree.computed s e) = json t plain e
   json t r (tree.super_callee s) = node t (codes "Super") s ++ end
   json t r (tree.import_callee s) = node t (codes "Import") s ++ end
   -- parts of objects
   json t r (tree.spread_prop dots e) =
-      node_at t (codes "SpreadElement") dots.lo.0 (span_of e).hi.0 ++ (key (codes "argument") ++ (json t plain e ++ end))
+      node_at t (codes "SpreadElement") dots.lo.0 (expr_end e) ++ (key (codes "argument") ++ (json t plain e ++ end))
   json t r (tree.shorthand_prop s name) =
       property t s false true false ++ (key (codes "key") ++ (identifier t s name ++ (key (codes "value") ++ (identifier t s name ++ (word_field (codes "kind") (codes "init") ++ end)))))
   json t r (tree.key_value_prop s k value) =
@@ -318,3 +327,28 @@ abbrev mutual
   jsons t r f none = []
   jsons t (argument n) f (also x xs) = cond (is_zero n) (json t plain x) (jsons t (argument (n - 1)) f xs)
   jsons t r f (also x xs) = cond (skips r x) (jsons t r f xs) (comma f ++ (json t (next r x) x ++ jsons t (next r x) false xs))
+
+-- what a function has behind its name
+abbrev pub function_rest : Text → Tree → List ℕ
+function_rest t (tree.function s ds params body is_async is_generator) =
+    bool_field (codes "expression") false ++ (bool_field (codes "generator") is_generator ++ (bool_field (codes "async") is_async ++ (key (codes "params") ++ (open_list ++ (json t plain params ++ (end_list ++ (key (codes "body") ++ (json t directives body ++ end))))))))
+function_rest t _ = []
+
+-- decorators as a field, where there are some
+abbrev pub decorator_field : Text → Tree → List ℕ
+decorator_field t ds = cond (is_empty ds) [] (key (codes "decorators") ++ (open_list ++ (json t plain ds ++ end_list)))
+
+-- what a class has behind its name
+abbrev pub class_rest : Text → (name_end : ℕ) → Tree → List ℕ
+class_rest t name_end (tree.class s ds body super_class) =
+    key (codes "superClass") ++ (json t plain super_class ++ (key (codes "body")
+    ++ (node_at t (codes "ClassBody") (brace t s ds super_class name_end) s.hi.0 ++ (key (codes "body") ++ (open_list ++ (json t members body ++ (end_list ++ (end ++ (decorator_field t ds ++ end)))))))))
+class_rest t name_end _ = []
+
+-- arguments, or nothing
+abbrev pub arguments_text : Text → Tree → List ℕ
+arguments_text t args = cond (is_absent args) [] (json t plain args)
+
+-- a name, or another where there is none
+abbrev pub first_or : Text → (name other : Tree) → List ℕ
+first_or t name other = cond (is_absent name) (json t plain other) (json t plain name)
