@@ -1,11 +1,11 @@
 //! Exports, and items of a module.
 
-ghost use Rattle.std.specs.Prelude.{codes, ◌++◌, OnOk};
-ghost use Rattle.ecma_estree_writer.specs.Parts.{end_list, open_list, node, key, end};
-ghost use Rattle.ecma_estree_writer.specs.Estree.{attributes, first_or, json, plain, directives, next};
+ghost use Rattle.std.specs.Prelude.{◌++◌, codes, OnOk};
+ghost use Rattle.ecma_estree_writer.specs.Parts.{node, key, end, open_list, end_list};
+ghost use Rattle.ecma_estree_writer.specs.Estree.{json, plain, directives, attributes, next, first_or};
 ghost use Rattle.ecma_estree_writer.specs.Writing.{Appends, Pushes, Writes};
-ghost use Rattle.swc_ecma_parser_ast.specs.View.{view_object_lit, view_str, view_export_all, view_export_decl, view_export_default_decl, view_export_default_expr, view_export_named_specifier, view_export_specifier, view_module_decl, view_module_export_name, view_module_item, view_named_export};
 ghost use Rattle.swc_ecma_parser_ast.specs.Parts.{view_option};
+ghost use Rattle.swc_ecma_parser_ast.specs.View.{view_export_all, view_export_decl, view_export_default_decl, view_export_default_expr, view_export_named_specifier, view_export_specifier, view_module_decl, view_module_export_name, view_module_item, view_named_export, view_object_lit, view_str};
 
 use crate::imports::{push_attributes, write_export_name, write_import};
 use crate::stmts::{write_directive, write_stmt};
@@ -64,7 +64,9 @@ fn write_export_decl<'a>(w: &mut Writer<'a>, x: &'a ExportDecl) -> Result<(), Al
     w.open("ExportNamedDeclaration", x.span)?;
     w.key("declaration")?;
     w.push(Work::End)?;
-    push_attributes(w, &None)?;
+    w.push(Work::EndList)?;
+    w.push(Work::OpenList)?;
+    w.push(Work::Key("attributes"))?;
     w.push(Work::Nothing)?;
     w.push(Work::Key("source"))?;
     w.push(Work::EndList)?;

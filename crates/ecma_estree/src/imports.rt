@@ -1,11 +1,11 @@
 //! Imports.
 
-ghost use Rattle.std.specs.Prelude.{codes, ◌++◌, OnOk};
-ghost use Rattle.ecma_estree_writer.specs.Parts.{key, open_list, end_list, phase_field};
-ghost use Rattle.ecma_estree_writer.specs.Estree.{json, plain, attributes};
+ghost use Rattle.std.specs.Prelude.{◌++◌, codes, OnOk};
+ghost use Rattle.ecma_estree_writer.specs.Parts.{node, key, end, open_list, end_list, phase_field};
+ghost use Rattle.ecma_estree_writer.specs.Estree.{json, plain, attributes, first_or};
 ghost use Rattle.ecma_estree_writer.specs.Writing.{Appends, Pushes, Writes};
 ghost use Rattle.swc_ecma_parser_ast.specs.Parts.{view_option};
-ghost use Rattle.swc_ecma_parser_ast.specs.View.{view_import_decl, view_import_named_specifier, view_import_specifier, view_module_export_name, view_object_lit};
+ghost use Rattle.swc_ecma_parser_ast.specs.View.{view_ident, view_import_decl, view_import_named_specifier, view_import_specifier, view_module_export_name, view_object_lit};
 
 use ecma_estree_writer::{Work, Writer, write_name, write_str};
 use std::alloc::AllocError;
@@ -31,7 +31,7 @@ pub(crate) fn write_export_name(
 fn push_parts<'a>(w: &mut Writer<'a>, with: &'a Option<ObjectLit>) -> Result<(), AllocError>
     ensures { OnOk result (Pushes w.old w.new (json w.old.text attributes (view_option view_object_lit with.now))) }
 {
-    match attributes {
+    match with {
         Some(x) => w.push(Work::Attributes(x.props.as_slice(), true)),
         None => Ok(()),
     }
@@ -40,12 +40,12 @@ fn push_parts<'a>(w: &mut Writer<'a>, with: &'a Option<ObjectLit>) -> Result<(),
 /// Has attributes written as a field.
 pub(crate) fn push_attributes<'a>(
     w: &mut Writer<'a>,
-    attributes: &'a Option<ObjectLit>,
+    with: &'a Option<ObjectLit>,
 ) -> Result<(), AllocError>
-    ensures { OnOk result (Pushes w.old w.new (key (codes "attributes") ++ (open_list ++ (json w.old.text attributes (view_option view_object_lit attributes.now) ++ end_list)))) }
+    ensures { OnOk result (Pushes w.old w.new (key (codes "attributes") ++ (open_list ++ (json w.old.text attributes (view_option view_object_lit with.now) ++ end_list)))) }
 {
     w.push(Work::EndList)?;
-    push_parts(w, attributes)?;
+    push_parts(w, with)?;
     w.push(Work::OpenList)?;
     w.push(Work::Key("attributes"))
 }

@@ -1,13 +1,13 @@
 //! Lists: a step writes the comma before the first part of what is left, has that part written, and then the rest.
 
 ghost use Rattle.std.specs.Prelude.{◌≡◌, map, OnOk};
-ghost use Rattle.ecma_estree_writer.specs.Parts as parts;
 ghost use Rattle.ecma_estree_writer.specs.Estree.{jsons, plain, directives, members, attributes};
 ghost use Rattle.ecma_estree_writer.specs.Writing.{Writes};
 ghost use Rattle.swc_ecma_parser_ast.specs.Parts.{view_option};
 ghost use Rattle.swc_ecma_parser_ast.specs.View.{view_class_member, view_declarator, view_decorator, view_export_specifier, view_expr_or_spread, view_import_specifier, view_module_item, view_object_pat_prop, view_param, view_param_or_ts_param_prop, view_pat, view_prop_or_spread, view_stmt, view_switch_case};
 ghost use Rattle.swc_ecma_parser_model.specs.Tree.{trees};
 ghost use Rattle.swc_ecma_parser_model.specs.Directive.{is_string_statement};
+ghost use Rattle.ecma_estree_writer.specs.Parts as parts;
 
 use crate::exports::{write_directive_item, write_export_specifier};
 use crate::imports::write_import_specifier;

@@ -1,7 +1,7 @@
 //! From the stack to the text, step by step.
 
-ghost use Rattle.std.specs.Prelude.{OnOk};
-ghost use Rattle.ecma_estree_writer.specs.Parts.{literal, directive};
+ghost use Rattle.std.specs.Prelude.{◌≡◌, ◌++◌, OnOk};
+ghost use Rattle.ecma_estree_writer.specs.Parts.{directive};
 ghost use Rattle.ecma_estree_writer.specs.Estree.{json, plain};
 ghost use Rattle.ecma_estree_writer.specs.Writing.{Appends, Writes};
 ghost use Rattle.ecma_estree_writer.specs.Work.{work_text};
@@ -120,7 +120,9 @@ fn step<'a>(w: &mut Writer<'a>, work: Work<'a>) -> Result<(), AllocError>
 }
 
 /// Does all work.
-pub(crate) fn finish(w: &mut Writer<'_>) -> Result<(), AllocError> {
+pub(crate) fn finish(w: &mut Writer<'_>) -> Result<(), AllocError>
+    ensures { OnOk result (w.new.written ≡ w.old.written ++ w.old.pending) }
+{
     for _ in 0..u64::MAX {
         let Some(work) = w.pop() else {
             return Ok(());

@@ -1,11 +1,11 @@
 //! Statements and declarations.
 
 ghost use Rattle.std.specs.Prelude.{◌++◌, codes, OnOk};
+ghost use Rattle.ecma_estree_writer.specs.Parts.{node, key, end};
 ghost use Rattle.ecma_estree_writer.specs.Estree.{json, plain, directives, next};
 ghost use Rattle.ecma_estree_writer.specs.Writing.{Appends, Pushes, Writes};
-ghost use Rattle.swc_ecma_parser_ast.specs.View.{view_ident, view_block_stmt, view_catch_clause, view_decl, view_declarator, view_expr_stmt, view_if_stmt, view_labeled_stmt, view_return_stmt, view_stmt, view_switch_case, view_switch_stmt, view_throw_stmt, view_try_stmt, view_using_decl, view_var_decl, view_with_stmt};
-ghost use Rattle.ecma_estree_writer.specs.Parts.{end, key, node};
 ghost use Rattle.swc_ecma_parser_ast.specs.Parts.{view_option};
+ghost use Rattle.swc_ecma_parser_ast.specs.View.{view_block_stmt, view_catch_clause, view_decl, view_declarator, view_expr_stmt, view_ident, view_if_stmt, view_labeled_stmt, view_return_stmt, view_stmt, view_switch_case, view_switch_stmt, view_throw_stmt, view_try_stmt, view_using_decl, view_var_decl, view_with_stmt};
 
 use crate::loops::{write_do_while, write_for, write_for_in, write_for_of, write_while};
 use ecma_estree_exprs::{push_optional, write_class_decl, write_function_decl};

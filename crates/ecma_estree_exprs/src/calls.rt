@@ -1,12 +1,12 @@
 //! Members and calls.
 
 ghost use Rattle.std.specs.Prelude.{◌≡◌, map, OnOk};
-ghost use Rattle.ecma_estree_writer.specs.Estree.{argument, arguments_text, json, plain};
+ghost use Rattle.ecma_estree_writer.specs.Estree.{json, plain, argument, arguments_text};
 ghost use Rattle.ecma_estree_writer.specs.Writing.{Pushes, Writes};
-ghost use Rattle.swc_ecma_parser_ast.specs.View.{view_call_expr, view_expr_or_spread, view_member_expr, view_member_prop, view_new_expr, view_super_prop_expr};
-ghost use Rattle.swc_ecma_parser_model.specs.Tree.{call, import_callee, listed};
-ghost use Rattle.swc_ecma_parser_model.specs.Kinds as kinds;
 ghost use Rattle.swc_ecma_parser_ast.specs.Parts.{view_option};
+ghost use Rattle.swc_ecma_parser_ast.specs.View.{view_call_expr, view_expr_or_spread, view_member_expr, view_member_prop, view_new_expr, view_super_prop_expr};
+ghost use Rattle.swc_ecma_parser_model.specs.Tree.{listed, call, import_callee};
+ghost use Rattle.swc_ecma_parser_model.specs.Kinds as kinds;
 
 use ecma_estree_writer::{Work, Writer, write_name, write_private_name};
 use std::alloc::AllocError;

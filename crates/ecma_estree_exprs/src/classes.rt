@@ -1,15 +1,14 @@
 //! Classes.
 
-ghost use Rattle.std.specs.Prelude.{◌≡◌, map, codes, ◌++◌, OnOk};
+ghost use Rattle.std.specs.Prelude.{◌≡◌, ◌++◌, codes, map, OnOk};
 ghost use Rattle.ecma_estree_writer.specs.Parts.{node_at, key, end, open_list};
-ghost use Rattle.ecma_estree_writer.specs.Estree.{json, plain, class, end_of, class_rest};
+ghost use Rattle.ecma_estree_writer.specs.Estree.{json, plain, class, end_of, end_of_optional, class_rest};
 ghost use Rattle.ecma_estree_writer.specs.Writing.{Appends, Writes};
 ghost use Rattle.swc_ecma_parser_ast.specs.Parts.{view_option};
-ghost use Rattle.swc_ecma_parser_ast.specs.View.{view_decorator, view_class, view_ident};
+ghost use Rattle.swc_ecma_parser_ast.specs.View.{view_class, view_decorator, view_ident};
+ghost use Rattle.swc_ecma_parser_model.specs.Tree.{listed};
 ghost use Rattle.ecma_estree_writer.specs.Parts as parts;
 ghost use Rattle.ecma_estree_writer.specs.Estree as estree;
-ghost use Rattle.ecma_estree_writer.specs.Estree.{end_of_optional};
-ghost use Rattle.swc_ecma_parser_model.specs.Tree.{listed};
 
 use crate::functions::push_decorators;
 use crate::operators::push_optional;

@@ -1,14 +1,16 @@
 //! Functions.
 
-ghost use Rattle.std.specs.Prelude.{◌≡◌, codes, map, false, ◌++◌, OnOk};
-ghost use Rattle.ecma_estree_writer.specs.Parts.{node_at, key, end, open_list, nothing};
+ghost use Rattle.std.specs.Prelude.{◌≡◌, ◌++◌, codes, map, false, OnOk};
+ghost use Rattle.ecma_estree_writer.specs.Parts.{node, node_at, key, end, open_list, end_list, nothing};
 ghost use Rattle.ecma_estree_writer.specs.Estree.{json, plain, directives, function, accessor, function_fields, function_rest, decorator_field};
 ghost use Rattle.ecma_estree_writer.specs.Writing.{Appends, Pushes, Writes};
-ghost use Rattle.swc_ecma_parser_ast.specs.Parts.{view_option};
-ghost use Rattle.swc_ecma_parser_ast.specs.View.{view_prop_name, view_arrow_expr, view_block_stmt, view_decorator, view_fn_decl, view_function, view_ident};
-ghost use Rattle.swc_ecma_parser_model.specs.Tree.{listed};
+ghost use Rattle.ecma_estree_writer.specs.Work.{work_text};
 ghost use Rattle.ecma_estree_text.specs.Bracket.{bracket};
+ghost use Rattle.swc_ecma_parser_ast.specs.Parts.{view_option};
+ghost use Rattle.swc_ecma_parser_ast.specs.View.{view_arrow_expr, view_block_stmt, view_decorator, view_fn_decl, view_function, view_ident, view_pat, view_prop_name};
+ghost use Rattle.swc_ecma_parser_model.specs.Tree.{listed};
 ghost use Rattle.swc_ecma_parser_model.specs.Forms.{span_of};
+ghost use Rattle.ecma_estree_writer.specs.Parts as parts;
 
 use ecma_estree_writer::{Work, Writer, write_name, write_optional_name};
 use std::alloc::AllocError;
@@ -40,7 +42,7 @@ pub fn push_accessor<'a>(
     key: &'a PropName,
     span: Span,
 ) -> Result<(), AllocError>
-    ensures { OnOk result (Pushes w.old w.new (key (codes "value") ++ (accessor w.old.text (view_prop_name key.now) span ++ (key (codes "params") ++ open_list)))) }
+    ensures { OnOk result (Pushes w.old w.new (parts.key (codes "value") ++ (accessor w.old.text (view_prop_name key.now) span ++ (parts.key (codes "params") ++ open_list)))) }
 {
     let start = method_start(w, key);
     w.push(Work::Accessor(start, span.hi.0 as usize))?;

@@ -1,11 +1,11 @@
 //! Members of classes.
 
 ghost use Rattle.std.specs.Prelude.{◌++◌, codes, map, OnOk};
-ghost use Rattle.ecma_estree_writer.specs.Estree.{decorator_field, json, plain, members, member_head};
-ghost use Rattle.ecma_estree_writer.specs.Writing.{Pushes, Appends, Writes};
-ghost use Rattle.swc_ecma_parser_ast.specs.View.{view_decorator, view_auto_accessor, view_class_member, view_class_method, view_class_prop, view_constructor, view_private_method, view_private_prop, view_static_block};
-ghost use Rattle.ecma_estree_writer.specs.Parts.{end, key};
+ghost use Rattle.ecma_estree_writer.specs.Parts.{key, end};
+ghost use Rattle.ecma_estree_writer.specs.Estree.{json, plain, members, member_head, decorator_field};
+ghost use Rattle.ecma_estree_writer.specs.Writing.{Appends, Pushes, Writes};
 ghost use Rattle.swc_ecma_parser_ast.specs.Parts.{view_option};
+ghost use Rattle.swc_ecma_parser_ast.specs.View.{view_auto_accessor, view_class_member, view_class_method, view_class_prop, view_constructor, view_decorator, view_private_method, view_private_prop, view_static_block};
 ghost use Rattle.swc_ecma_parser_model.specs.Tree.{listed};
 
 use crate::functions::{method_start, push_accessor, push_body, push_decorators};

@@ -1,6 +1,6 @@
 //! Arrays and objects.
 
-ghost use Rattle.std.specs.Prelude.{◌≡◌, codes, ◌++◌, OnOk};
+ghost use Rattle.std.specs.Prelude.{◌≡◌, ◌++◌, codes, OnOk};
 ghost use Rattle.ecma_estree_writer.specs.Parts.{key};
 ghost use Rattle.ecma_estree_writer.specs.Estree.{json, plain, attributes, property};
 ghost use Rattle.ecma_estree_writer.specs.Writing.{Appends, Writes};

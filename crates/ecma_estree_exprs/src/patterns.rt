@@ -1,10 +1,10 @@
 //! Patterns.
 
 ghost use Rattle.std.specs.Prelude.{◌++◌, codes, OnOk};
+ghost use Rattle.ecma_estree_writer.specs.Parts.{node, key, end};
 ghost use Rattle.ecma_estree_writer.specs.Estree.{json, plain};
 ghost use Rattle.ecma_estree_writer.specs.Writing.{Writes};
-ghost use Rattle.swc_ecma_parser_ast.specs.View.{view_binding_ident, view_array_pat, view_assign_pat, view_assign_pat_prop, view_key_value_pat_prop, view_object_pat, view_object_pat_prop, view_pat, view_rest_pat};
-ghost use Rattle.ecma_estree_writer.specs.Parts.{end, key, node};
+ghost use Rattle.swc_ecma_parser_ast.specs.View.{view_array_pat, view_assign_pat, view_assign_pat_prop, view_binding_ident, view_key_value_pat_prop, view_object_pat, view_object_pat_prop, view_pat, view_rest_pat};
 
 use crate::objects::{is_computed, open_property, write_prop_name};
 use ecma_estree_writer::{Work, Writer, write_name};

@@ -1,13 +1,13 @@
 //! Names and literals.
 
-ghost use Rattle.std.specs.Prelude.{◌≡◌, ◌<◌, ◌+◌, ◌-◌, ◌++◌, codes, OnOk};
-ghost use Rattle.ecma_estree_writer.specs.Parts as parts;
-ghost use Rattle.ecma_estree_writer.specs.Parts.{end, literal};
+ghost use Rattle.std.specs.Prelude.{◌++◌, ◌<◌, ◌+◌, ◌-◌, codes, OnOk};
+ghost use Rattle.ecma_estree_writer.specs.Parts.{end};
 ghost use Rattle.ecma_estree_writer.specs.Estree.{json, plain};
 ghost use Rattle.ecma_estree_writer.specs.Writing.{Appends};
+ghost use Rattle.ecma_estree_text.specs.Number.{number_text};
 ghost use Rattle.swc_ecma_parser_ast.specs.Parts.{view_option};
 ghost use Rattle.swc_ecma_parser_ast.specs.View.{view_big_int, view_ident, view_lit, view_meta_prop_expr, view_private_name, view_str};
-ghost use Rattle.ecma_estree_text.specs.Number.{number_text};
+ghost use Rattle.ecma_estree_writer.specs.Parts as parts;
 
 use crate::words::bool_word;
 use crate::writer::Writer;
