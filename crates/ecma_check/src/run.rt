@@ -106,12 +106,7 @@ pub fn run<R: Files + Print + Eprint + AllocGlobal, I: Read, W: Write, E: Write>
             let options = options_of(&matches);
             match matches.get_strs("FILE") {
                 Some(files) if !files.is_empty() => run_files(
-                    rt,
-                    options,
-                    files.as_slice(),
-                    input,
-                    output,
-                    errors,
+                    rt, options, files, input, output, errors,
                 ),
                 _ => run_files(rt, options, &["-"], input, output, errors),
             }

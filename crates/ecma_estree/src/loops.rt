@@ -88,7 +88,7 @@ pub(crate) fn write_for_of<'a>(w: &mut Writer<'a>, x: &'a ForOfStmt) -> Result<(
     ensures { OnOk result (Writes w.old w.new (json w.old.text plain (view_for_of_stmt x.now))) }
 {
     w.open("ForOfStatement", x.span)?;
-    w.bool("await", x.is_await)?;
+    w.flag("await", x.is_await)?;
     w.key("left")?;
     w.push(Work::End)?;
     w.push(Work::Stmt(&x.body))?;

@@ -70,7 +70,7 @@ fn step<'a>(w: &mut Writer<'a>, work: Work<'a>) -> Result<(), AllocError>
         Work::Nothing => w.nothing(),
         Work::Key(name) => w.key(name),
         Work::Word(name, word) => w.word(name, word),
-        Work::Bool(name, value) => w.bool(name, value),
+        Work::Bool(name, value) => w.flag(name, value),
         Work::Name(x) => write_name(w, x),
         Work::PrivateName(x) => write_private_name(w, x),
         Work::Str(x) => write_str(w, x),

@@ -1,1 +1,1 @@
-pub mod Exprs
+pub mod AsExpr

@@ -73,7 +73,7 @@ pub fn write_super_member<'a>(w: &mut Writer<'a>, x: &'a SuperPropExpr) -> Resul
 }
 
 /// Writes a call.
-#[tactic(auto, using(crate::proofs::Exprs::call_of_expr, ecma_estree_writer::proofs::Written::appended_on_ok))]
+#[tactic(auto, using(crate::proofs::AsExpr::call_of_expr, ecma_estree_writer::proofs::Written::appended_on_ok))]
 pub fn write_call<'a>(w: &mut Writer<'a>, x: &'a CallExpr) -> Result<(), AllocError>
     ensures { OnOk result (Writes w.old w.new (json w.old.text plain (view_call_expr x.now))) }
 {

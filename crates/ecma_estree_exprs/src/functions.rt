@@ -56,9 +56,9 @@ pub fn write_accessor(w: &mut Writer<'_>, start: usize, end: usize) -> Result<()
     w.open_at("FunctionExpression", start, end)?;
     w.key("id")?;
     w.nothing()?;
-    w.bool("expression", false)?;
-    w.bool("generator", false)?;
-    w.bool("async", false)?;
+    w.flag("expression", false)?;
+    w.flag("generator", false)?;
+    w.flag("async", false)?;
     w.list_key("params")
 }
 
@@ -66,9 +66,9 @@ pub fn write_accessor(w: &mut Writer<'_>, start: usize, end: usize) -> Result<()
 fn write_rest<'a>(w: &mut Writer<'a>, x: &'a Function) -> Result<(), AllocError>
     ensures { OnOk result (Writes w.old w.new (function_rest w.old.text (view_function x.now))) }
 {
-    w.bool("expression", false)?;
-    w.bool("generator", x.is_generator)?;
-    w.bool("async", x.is_async)?;
+    w.flag("expression", false)?;
+    w.flag("generator", x.is_generator)?;
+    w.flag("async", x.is_async)?;
     w.list_key("params")?;
     w.push(Work::End)?;
     push_body(w, &x.body)?;
@@ -128,9 +128,9 @@ fn write_arrow_with<'a>(
     w.open("ArrowFunctionExpression", x.span)?;
     w.key("id")?;
     w.nothing()?;
-    w.bool("expression", is_expression)?;
-    w.bool("generator", false)?;
-    w.bool("async", x.is_async)?;
+    w.flag("expression", is_expression)?;
+    w.flag("generator", false)?;
+    w.flag("async", x.is_async)?;
     w.list_key("params")?;
     w.push(Work::End)?;
     w.push(body)?;
@@ -140,7 +140,7 @@ fn write_arrow_with<'a>(
 }
 
 /// Writes an arrow function.
-#[tactic(auto, using(crate::proofs::Exprs::arrow_of_expr))]
+#[tactic(auto, using(crate::proofs::AsExpr::arrow_of_expr))]
 pub fn write_arrow<'a>(w: &mut Writer<'a>, x: &'a ArrowExpr) -> Result<(), AllocError>
     ensures { OnOk result (Writes w.old w.new (json w.old.text plain (view_arrow_expr x.now))) }
 {

@@ -46,8 +46,8 @@ fn open_member(
     ensures { OnOk result (Appends w.old w.new (member_head w.old.text kind.now span is_static is_computed)) }
 {
     w.open(kind, span)?;
-    w.bool("static", is_static)?;
-    w.bool("computed", is_computed)?;
+    w.flag("static", is_static)?;
+    w.flag("computed", is_computed)?;
     w.key("key")
 }
 

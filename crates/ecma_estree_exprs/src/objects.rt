@@ -73,9 +73,9 @@ pub fn open_property(
     ensures { OnOk result (Appends w.old w.new (property w.old.text span is_method is_shorthand is_computed ++ key (codes "key"))) }
 {
     w.open("Property", span)?;
-    w.bool("method", is_method)?;
-    w.bool("shorthand", is_shorthand)?;
-    w.bool("computed", is_computed)?;
+    w.flag("method", is_method)?;
+    w.flag("shorthand", is_shorthand)?;
+    w.flag("computed", is_computed)?;
     w.key("key")
 }
 

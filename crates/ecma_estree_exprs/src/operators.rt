@@ -33,7 +33,7 @@ pub fn write_unary<'a>(w: &mut Writer<'a>, x: &'a UnaryExpr) -> Result<(), Alloc
 {
     w.open("UnaryExpression", x.span)?;
     w.word("operator", unary_word(x.op))?;
-    w.bool("prefix", true)?;
+    w.flag("prefix", true)?;
     w.key("argument")?;
     w.push(Work::End)?;
     w.push(Work::Expr(&x.arg))
@@ -45,7 +45,7 @@ pub fn write_update<'a>(w: &mut Writer<'a>, x: &'a UpdateExpr) -> Result<(), All
 {
     w.open("UpdateExpression", x.span)?;
     w.word("operator", update_word(x.op))?;
-    w.bool("prefix", x.prefix)?;
+    w.flag("prefix", x.prefix)?;
     w.key("argument")?;
     w.push(Work::End)?;
     w.push(Work::Expr(&x.arg))
@@ -122,7 +122,7 @@ pub fn write_yield<'a>(w: &mut Writer<'a>, x: &'a YieldExpr) -> Result<(), Alloc
     ensures { OnOk result (Writes w.old w.new (json w.old.text plain (view_yield_expr x.now))) }
 {
     w.open("YieldExpression", x.span)?;
-    w.bool("delegate", x.delegate)?;
+    w.flag("delegate", x.delegate)?;
     w.key("argument")?;
     w.push(Work::End)?;
     push_optional(w, &x.arg)

@@ -148,7 +148,7 @@ impl<'a> Writer<'a> {
 
     /// Writes a field that is true or false.
     #[tactic(auto, unfolding(crate::specs::Parts::bool_field))]
-    pub fn bool(&mut self, name: &str, value: bool) -> Result<(), AllocError>
+    pub fn flag(&mut self, name: &str, value: bool) -> Result<(), AllocError>
         ensures { OnOk result (Appends self.old self.new (parts.bool_field name.now value)) }
     {
         self.key(name)?;
