@@ -51,6 +51,7 @@ pub(crate) fn push_attributes<'a>(
 }
 
 /// Has the phase of an import written, where a word says one.
+#[tactic(auto, unfolding(ecma_estree_writer::specs::Parts::phase_field))]
 fn push_phase(w: &mut Writer<'_>, phase: ImportPhase) -> Result<(), AllocError>
     ensures { OnOk result (Pushes w.old w.new (phase_field phase)) }
 {

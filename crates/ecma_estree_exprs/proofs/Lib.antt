@@ -1,1 +1,2 @@
 pub mod AsExpr
+mod Decorators

@@ -17,6 +17,7 @@ use std::alloc::AllocError;
 use swc_ecma_parser_ast::{Class, Decorator, ExprBox, Ident, Spanned};
 
 /// The end of the last decorator, in bytes; else an offset.
+#[tactic(auto, using(crate::proofs::Decorators::last_more, crate::proofs::Decorators::last_all))]
 fn end_of_last(decorators: &[Decorator], start: usize) -> usize
     ensures { result ≡ parts.end_of_last start (listed (map view_decorator decorators.now)) }
 {

@@ -1,6 +1,6 @@
 //! What a numeric literal says, as JSON: ECMA-262, "Numeric Literals" (section 12.9.3).
 
-ghost use Rattle.std.specs.Prelude.{◌≡◌, ◌++◌, ◌<◌, ◌≤◌, ◌^◌, OnOk, MatchOption, decimal, drop};
+ghost use Rattle.std.specs.Prelude.{◌≡◌, ◌++◌, ◌<◌, ◌≤◌, ◌^◌, OnOk, MatchOption, decimal, drop, false};
 ghost use Rattle.ecma_estree_text.specs.Number as number;
 ghost use Rattle.ecma_estree_text.specs.Number.{bare_text, decimal_text, digit_value, digits_text, number_text, radix_of, value_behind};
 
@@ -58,7 +58,7 @@ fn next_value(sum: u64, radix: u64, byte: u8) -> Option<u64>
 }
 
 /// The value of digits in a radix; none where it is no number of 64 bits.
-#[tactic(auto, using(crate::proofs::Value::grows))]
+#[tactic(auto, using(crate::proofs::Value::value_more, crate::proofs::Value::value_past, crate::proofs::Value::value_all))]
 fn value(bytes: &[u8], radix: u64) -> Option<u64>
     requires { 1 ≤ radix }
     ensures { MatchOption result (2 ^ 64 ≤ value_behind radix 0 bytes.now) (λ n. n ≡ value_behind radix 0 bytes.now) }

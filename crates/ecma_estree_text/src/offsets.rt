@@ -42,6 +42,7 @@ fn units(byte: u8) -> u64
 
 impl<'a> Offsets<'a> {
     /// Counts once over a text. It fails only where memory runs out.
+    #[tactic(auto, using(crate::proofs::Counts::values_more, crate::proofs::Counts::total_more))]
     pub fn new(alloc: Global, text: &'a str) -> Result<Offsets<'a>, AllocError>
         requires { length text.now < 2 ^ 32 }
         ensures { IfOk result (λ offsets. offsets ≡ text.now) }

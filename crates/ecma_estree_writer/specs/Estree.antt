@@ -1,6 +1,6 @@
 -- A tree as ESTree, in the form of acorn: the text of its JSON. What a form is called, its fields and their order are acorn's; what ESTree
 -- has no form for is said in docs/ESTREE.md.
-use Rattle.std.specs.Prelude.{ℕ, List, [], ◌++◌, ◌+◌, ◌-◌, Bool, true, false, not, ◌&&◌, Option, Some, None, cond, codes, length, max}
+use Rattle.std.specs.Prelude.{ℕ, zero, suc, List, [], ◌++◌, ◌+◌, ◌-◌, Bool, true, false, not, ◌&&◌, Option, Some, None, cond, codes, length, max}
 use Rattle.ecma_estree_text.specs.Quoted.{quoted}
 use Rattle.ecma_estree_text.specs.Bracket.{bracket}
 use Rattle.ecma_estree_text.specs.Number.{number_text}

@@ -52,9 +52,9 @@ comma false = codes ","
 unfoldable pub identifier : Text → Span → Text → List ℕ
 identifier text s name = node text (codes "Identifier") s ++ (key (codes "name") ++ (quoted name ++ end))
 
--- a word of the language as a name
-unfoldable pub word_name : Text → (name : List ℕ) → (start end : ℕ) → List ℕ
-word_name text name start end = node_at text (codes "Identifier") start end ++ (word_field (codes "name") name ++ codes "}")
+-- a word of the language as a name, between two places
+unfoldable pub word_name : Text → (name : List ℕ) → (from to : ℕ) → List ℕ
+word_name text name from to = node_at text (codes "Identifier") from to ++ (word_field (codes "name") name ++ end)
 
 unfoldable pub literal : Text → Span → (value raw : List ℕ) → List ℕ
 literal text s value raw = node text (codes "Literal") s ++ (key (codes "value") ++ (value ++ (key (codes "raw") ++ (quoted raw ++ end))))

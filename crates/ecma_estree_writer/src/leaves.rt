@@ -15,6 +15,7 @@ use std::alloc::AllocError;
 use swc_ecma_parser_ast::{BigInt, Ident, Lit, MetaPropExpr, MetaPropKind, PrivateName, Span, Str};
 
 /// Writes a name.
+#[tactic(auto, unfolding(crate::specs::Parts::identifier))]
 pub fn write_name(w: &mut Writer<'_>, name: &Ident) -> Result<(), AllocError>
     ensures { OnOk result (Appends w.old w.new (json w.old.text plain (view_ident name.now))) }
 {
@@ -45,6 +46,7 @@ pub fn write_private_name(w: &mut Writer<'_>, name: &PrivateName) -> Result<(), 
 }
 
 /// Writes a string literal.
+#[tactic(auto, unfolding(crate::specs::Parts::literal))]
 pub fn write_str(w: &mut Writer<'_>, literal: &Str) -> Result<(), AllocError>
     ensures { OnOk result (Appends w.old w.new (json w.old.text plain (view_str literal.now))) }
 {
@@ -57,6 +59,7 @@ pub fn write_str(w: &mut Writer<'_>, literal: &Str) -> Result<(), AllocError>
 }
 
 /// Writes a literal that is a word.
+#[tactic(auto, unfolding(crate::specs::Parts::literal))]
 fn write_word(w: &mut Writer<'_>, word: &str, span: Span) -> Result<(), AllocError>
     ensures { OnOk result (Appends w.old w.new (parts.literal w.old.text span word.now word.now)) }
 {
@@ -69,6 +72,7 @@ fn write_word(w: &mut Writer<'_>, word: &str, span: Span) -> Result<(), AllocErr
 }
 
 /// Writes a number literal.
+#[tactic(auto, unfolding(crate::specs::Parts::literal))]
 pub fn write_number(w: &mut Writer<'_>, raw: &str, span: Span) -> Result<(), AllocError>
     ensures { OnOk result (Appends w.old w.new (parts.literal w.old.text span (number_text raw.now) raw.now)) }
 {
@@ -81,6 +85,7 @@ pub fn write_number(w: &mut Writer<'_>, raw: &str, span: Span) -> Result<(), All
 }
 
 /// Writes a big integer literal. JSON has no such numbers, so its value is `null`.
+#[tactic(auto, unfolding(crate::specs::Parts::big_literal))]
 pub fn write_big_int(w: &mut Writer<'_>, literal: &BigInt) -> Result<(), AllocError>
     ensures { OnOk result (Appends w.old w.new (json w.old.text plain (view_big_int literal.now))) }
 {
@@ -108,6 +113,7 @@ pub fn write_literal(w: &mut Writer<'_>, literal: &Lit) -> Result<(), AllocError
 }
 
 /// Writes a word of the language as a name.
+#[tactic(auto, unfolding(crate::specs::Parts::word_name))]
 fn write_word_name(
     w: &mut Writer<'_>,
     word: &str,

@@ -7,5 +7,5 @@ abbrev pub invariant-loop-byte : goal.invariant-loop-byte
 invariant-loop-byte l = record {
   place : l.place ≡ l.initial.place + l.byte-index;
   left : l.place + skipped l.mark l.mode (drop l.byte-index l.rest) ≡ l.initial.place + skipped l.mark l.initial.mode l.rest;
-  bound : l.initial.place + length l.rest ≡ length l.bytes;
+  bound : l.initial.place + length l.rest ≡ length l.fn.text;
 }
