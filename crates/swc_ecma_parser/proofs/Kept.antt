@@ -10,10 +10,11 @@ use Rattle.swc_ecma_parser_reader.specs.Entry.{Stays, error_tokens}
 use Rattle.swc_ecma_parser_reader.specs.State.{State}
 use Rattle.swc_ecma_parser_reader.proofs.Calls.{memory_lasts}
 use Rattle.swc_ecma_parser_exactness.specs.Walked.{Walked}
-use Rattle.swc_ecma_parser.specs.Parsing.{Parsing, kept}
+use Rattle.swc_ecma_parser_state.specs.Contents.{Contents, seen, source_of}
+use Rattle.swc_ecma_parser.specs.Parsing.{Parsing, parsing}
 
-pub kept_is : (o : Option State) (s : State) (l : ℕ) (p : Parsing) → o ≡ Some s → record { state = kept o; limit = l } ≡ p → record { state = s; limit = l } ≡ p
-kept_is o s l p e h = ap (λ z. record { state = kept z; limit = l }) (sym e) ∙ h
+pub kept_is : (o : Option Contents) (s : Contents) (l : ℕ) (p : Parsing) → o ≡ Some s → parsing o l ≡ p → record { state = seen s; source = source_of s; limit = l } ≡ p
+kept_is o s l p e h = ap (λ z. parsing z l) (sym e) ∙ h
 
 -- where an answer leaves nothing marked
 module _ (X : Type 0) (s : State) where

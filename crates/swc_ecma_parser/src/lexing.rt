@@ -1,11 +1,12 @@
 //! A parser of source text.
 
-ghost use Rattle.std.specs.Prelude.{◌≡◌, false, true, length};
+ghost use Rattle.std.specs.Prelude.{◌≡◌, false, true, drop, length};
 ghost use Rattle.std.specs.Str.{chars};
 ghost use Rattle.swc_ecma_parser_span_order.specs.Forward.{in_order};
 ghost use Rattle.swc_ecma_parser_input.specs.Place as place;
 ghost use Rattle.swc_ecma_parser_lexer.specs.Source as source;
-ghost use Rattle.swc_ecma_parser_state.specs.Opened.{opened};
+ghost use Rattle.swc_ecma_parser_state.specs.Contents.{source_of};
+ghost use Rattle.swc_ecma_parser_state.specs.Opened.{fresh, opened};
 
 use crate::parser::Parser;
 use std::alloc::Global;
@@ -21,6 +22,9 @@ impl<'a> Parser<Lexer<'a>> {
         comments: bool,
     ) -> Parser<Lexer<'a>>
         ensures limit { result.limit ≡ 1000 }
+        ensures source { result.source ≡ record (source_of (fresh (source.outset syntax input.entry.start (chars input.entry.src.now)))) {
+          left = drop 2 result.state.at.left;
+        } }
         ensures left { place.lacks_memory (place.first result.state.at.left) ≡ false
             → place.lacks_memory (place.second result.state.at.left) ≡ false
             → result.state ≡ opened (source.outset syntax input.entry.start (chars input.entry.src.now)) }

@@ -22,7 +22,9 @@ ghost use Rattle.swc_ecma_parser_exactness.specs.Decides.{DecidesScript, Decides
 ghost use Rattle.swc_ecma_parser_exactness.specs.ModuleDecides.{DecidesModule, DecidesItem, DecidesProgram};
 ghost use Rattle.swc_ecma_parser_exactness.specs.Supports.{Ordered};
 ghost use Rattle.swc_ecma_parser_exactness.specs.Walked.{Walked, whole_module_walk};
-ghost use Rattle.swc_ecma_parser_state.specs.Opened.{opened};
+ghost use Rattle.swc_ecma_parser_state.specs.Contents.{source_of};
+ghost use Rattle.swc_ecma_parser_state.specs.Keeps.{Keeps};
+ghost use Rattle.swc_ecma_parser_state.specs.Opened.{fresh, opened};
 ghost use Rattle.swc_ecma_parser_token.specs.declared.token.Token.TheVariants as token;
 ghost use Rattle.swc_ecma_parser_token.specs.declared.token.TokenAndSpan.{TokenAndSpan};
 
@@ -51,16 +53,17 @@ pub struct Parser<I: Tokens> {
 }
 
 impl<I: Tokens> Model for Parser<I> {
-    ghost use Rattle.swc_ecma_parser.specs.Parsing.{Parsing, kept, IsKept};
+    ghost use Rattle.swc_ecma_parser.specs.Parsing.{Parsing, parsing, IsKept};
 
     ghost Value = { Parsing };
 
     ghost use Rattle.std.specs.Coded.{codes};
+    ghost use Rattle.swc_ecma_parser_error.specs.contracts.error.Error as error;
     ghost use Rattle.swc_ecma_parser_token.specs.contracts.token.TokenAndSpan as token;
 
-    ghost coded = { Prim.hlevel (codes, token.the_row.coded) };
+    ghost coded = { Prim.hlevel (codes, error.the_row.coded, token.the_row.coded) };
 
-    ghost view = { λ p. record { state = kept p.state; limit = p.limit } };
+    ghost view = { λ p. parsing p.state p.limit };
 
     ghost invariant = { λ p. IsKept p.state };
 }
@@ -70,6 +73,9 @@ impl<I: Tokens> Parser<I> {
     pub fn new_from(alloc: Global, input: I) -> Parser<I>
         ensures limit { result.limit ≡ 1000 }
         ensures kept { result.state ≡ record (opened (I.seen input)) { at = place.outset (I.seen input).start result.state.at.left } }
+
+        // The source's own lists, whole; where its code is a module's, what it held back is recorded.
+        ensures source { result.source ≡ record (source_of (fresh (I.seen input))) { left = drop 2 result.state.at.left } }
         ensures left { place.lacks_memory (place.first result.state.at.left) ≡ false
             → place.lacks_memory (place.second result.state.at.left) ≡ false → result.state ≡ opened (I.seen input) }
         ensures in_order { place.lacks_memory (place.first result.state.at.left) ≡ false
@@ -83,6 +89,9 @@ impl<I: Tokens> Parser<I> {
     pub fn new_from_limited(alloc: Global, input: I, limit: u32) -> Parser<I>
         ensures limit { result.limit ≡ limit }
         ensures kept { result.state ≡ record (opened (I.seen input)) { at = place.outset (I.seen input).start result.state.at.left } }
+
+        // The source's own lists, whole; where its code is a module's, what it held back is recorded.
+        ensures source { result.source ≡ record (source_of (fresh (I.seen input))) { left = drop 2 result.state.at.left } }
         ensures left { place.lacks_memory (place.first result.state.at.left) ≡ false
             → place.lacks_memory (place.second result.state.at.left) ≡ false → result.state ≡ opened (I.seen input) }
         ensures in_order { place.lacks_memory (place.first result.state.at.left) ≡ false
@@ -146,6 +155,10 @@ impl<I: Tokens> Parser<I> {
         // Whatever comes, want of memory too: the same, but that some of the tokens that are left may be drawn as ones that memory ran
         // out for; the setting stays, and what was held back is recorded or stays held back.
         ensures leaves { Leaves self.old.state self.new.state }
+
+        // Of the source, with each fault whole: where it starts and its syntax are as before; what was recorded stands before what
+        // the call recorded; what was held back is recorded or stays held back.
+        ensures keeps { Keeps self.old.source self.new.source }
 
         // So tokens in order stay in order.
         ensures order { in_order self.old.state.at ≡ true → in_order self.new.state.at ≡ true }
@@ -218,6 +231,10 @@ impl<I: Tokens> Parser<I> {
         // out for; the setting stays, and what was held back is recorded or stays held back.
         ensures leaves { Leaves self.old.state self.new.state }
 
+        // Of the source, with each fault whole: where it starts and its syntax are as before; what was recorded stands before what
+        // the call recorded; what was held back is recorded or stays held back.
+        ensures keeps { Keeps self.old.source self.new.source }
+
         // So tokens in order stay in order.
         ensures order { in_order self.old.state.at ≡ true → in_order self.new.state.at ≡ true }
 
@@ -288,6 +305,10 @@ impl<I: Tokens> Parser<I> {
         // Whatever comes, want of memory too: the same, but that some of the tokens that are left may be drawn as ones that memory ran
         // out for; the setting stays, and what was held back is recorded or stays held back.
         ensures leaves { Leaves self.old.state self.new.state }
+
+        // Of the source, with each fault whole: where it starts and its syntax are as before; what was recorded stands before what
+        // the call recorded; what was held back is recorded or stays held back.
+        ensures keeps { Keeps self.old.source self.new.source }
 
         // So tokens in order stay in order.
         ensures order { in_order self.old.state.at ≡ true → in_order self.new.state.at ≡ true }
@@ -360,6 +381,10 @@ impl<I: Tokens> Parser<I> {
         // out for; the setting stays, and what was held back is recorded or stays held back.
         ensures leaves { Leaves self.old.state self.new.state }
 
+        // Of the source, with each fault whole: where it starts and its syntax are as before; what was recorded stands before what
+        // the call recorded; what was held back is recorded or stays held back.
+        ensures keeps { Keeps self.old.source self.new.source }
+
         // So tokens in order stay in order.
         ensures order { in_order self.old.state.at ≡ true → in_order self.new.state.at ≡ true }
 
@@ -426,6 +451,10 @@ impl<I: Tokens> Parser<I> {
         // Whatever comes, want of memory too: the same, but that some of the tokens that are left may be drawn as ones that memory ran
         // out for; the setting stays, and what was held back is recorded or stays held back.
         ensures leaves { Leaves self.old.state self.new.state }
+
+        // Of the source, with each fault whole: where it starts and its syntax are as before; what was recorded stands before what
+        // the call recorded; what was held back is recorded or stays held back.
+        ensures keeps { Keeps self.old.source self.new.source }
 
         // So tokens in order stay in order.
         ensures order { in_order self.old.state.at ≡ true → in_order self.new.state.at ≡ true }
@@ -497,6 +526,10 @@ impl<I: Tokens> Parser<I> {
         // out for; the setting stays, and what was held back is recorded or stays held back.
         ensures leaves { Leaves self.old.state self.new.state }
 
+        // Of the source, with each fault whole: where it starts and its syntax are as before; what was recorded stands before what
+        // the call recorded; what was held back is recorded or stays held back.
+        ensures keeps { Keeps self.old.source self.new.source }
+
         // So tokens in order stay in order.
         ensures order { in_order self.old.state.at ≡ true → in_order self.new.state.at ≡ true }
 
@@ -529,7 +562,13 @@ impl<I: Tokens> Parser<I> {
     /// Hands out the recorded faults, in the order of recording. It takes no memory.
     pub fn take_errors(&mut self) -> Vec<Error>
         ensures errors { faults_of result.items ≡ self.old.state.faults }
-        ensures state { self.new ≡ record self.old { state = record self.old.state { faults = [] } } }
+
+        // The faults themselves, with their texts.
+        ensures whole { result.items ≡ self.old.source.recorded }
+        ensures state { self.new ≡ record self.old {
+          state = record self.old.state { faults = [] };
+          source = record self.old.source { recorded = [] };
+        } }
     {
         let mut state = self.state.take().unwrap();
         let errors = state.take_errors();
@@ -551,8 +590,10 @@ impl<I: Tokens> Parser<I> {
         })
     }
 
-    /// The source as the calls left it, without the tokens that were read ahead: at most two. It takes no memory.
+    /// The source as the calls left it, with each fault whole, without the tokens that were read ahead: at most two. It takes no
+    /// memory.
     pub fn into_input(self) -> I
+        ensures source { I.seen result ≡ self.source }
         ensures syntax { setting_of (I.seen result).syntax ≡ self.state.code.setting }
         ensures left { (I.seen result).left ≡ drop 2 self.state.at.left }
         ensures context { (I.seen result).context ≡ self.state.code.flags }

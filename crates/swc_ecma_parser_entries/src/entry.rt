@@ -12,6 +12,8 @@ ghost use Rattle.swc_ecma_parser_reader.specs.State as reader;
 ghost use Rattle.swc_ecma_parser_reader.specs.State.{GivesAs};
 ghost use Rattle.swc_ecma_parser_reader.specs.Entry.{unmarked, AnswersScript, AnswersStatement, IsRestored, IsSetBack};
 ghost use Rattle.swc_ecma_parser_reader.specs.declared.mark.Mark.TheVariants as mark;
+ghost use Rattle.swc_ecma_parser_state.specs.Contents.{seen, source_of};
+ghost use Rattle.swc_ecma_parser_state.specs.Keeps.{Keeps};
 ghost use Rattle.swc_ecma_parser_state.specs.Opened.{begun};
 
 use crate::program::program_body;
@@ -41,12 +43,13 @@ fn refused<O: Origin, I: Tokens>(
 ) -> (State<I>, Error)
     ensures same { kind_of result.1.kind ≢ OutOfMemory → fault_of result.1 ≡ fault_of error }
     ensures plain { call.scope.mark ≡ None → result.1 ≡ error }
-    ensures back { IsSetBack call result.0 }
-    ensures flags { result.0.code.flags ≡ outer }
-    ensures labels { result.0.scope.labels ≡ [] }
-    ensures noted { result.0.notes.found_module_item ≡ found_module_item }
-    ensures leaves { Leaves O.start result.0 }
-    ensures says { Says result.0.scope.mark (kind_of result.1.kind) }
+    ensures back { IsSetBack call (seen result.0) }
+    ensures flags { result.0.buffer.context ≡ outer }
+    ensures labels { result.0.labels ≡ [] }
+    ensures noted { result.0.found_module_item ≡ found_module_item }
+    ensures leaves { Leaves (seen O.start) (seen result.0) }
+    ensures keeps { Keeps (source_of O.start) (source_of result.0) }
+    ensures says { Says result.0.mark (kind_of result.1.kind) }
     ensures memory { call.scope.mark ≡ Some mark.OutOfMemory → kind_of result.1.kind ≡ OutOfMemory }
 {
     let mut call = call;
@@ -85,12 +88,13 @@ fn script_from<O: Origin, I: Tokens, T: BuildsStatements + BuildsScript>(
     limit: usize,
 ) -> (State<I>, PResult<T::Script>)
     requires { O.start ≡ state }
-    ensures answers { AnswersScript T.script_of limit (unmarked state) result.1 result.0 }
-    ensures outright { state.at.left ≡ [] → IsOk result.1 }
-    ensures refused { OnErr result.1 (IsRestored state result.0) }
-    ensures leaves { Leaves O.start result.0 }
-    ensures says { IfErr result.1 (λ e. Says result.0.scope.mark (kind_of e.kind)) }
-    ensures ahead { lacks_ahead state.at ≡ true → IsErrAnd result.1 (λ e. kind_of e.kind ≡ OutOfMemory) }
+    ensures answers { AnswersScript T.script_of limit (unmarked (seen state)) result.1 (seen result.0) }
+    ensures outright { state.buffer.place.left ≡ [] → IsOk result.1 }
+    ensures refused { OnErr result.1 (IsRestored (seen state) (seen result.0)) }
+    ensures leaves { Leaves (seen O.start) (seen result.0) }
+    ensures keeps { Keeps (source_of O.start) (source_of result.0) }
+    ensures says { IfErr result.1 (λ e. Says result.0.mark (kind_of e.kind)) }
+    ensures ahead { lacks_ahead state.buffer.place ≡ true → IsErrAnd result.1 (λ e. kind_of e.kind ≡ OutOfMemory) }
 {
     let outer = state.flags();
     let found_module_item = state.found_module_item();
@@ -110,12 +114,13 @@ pub fn script<I: Tokens, T: BuildsStatements + BuildsScript>(
     state: State<I>,
     limit: usize,
 ) -> (State<I>, PResult<T::Script>)
-    ensures answers { AnswersScript T.script_of limit (unmarked state) result.1 result.0 }
-    ensures outright { state.at.left ≡ [] → IsOk result.1 }
-    ensures refused { OnErr result.1 (IsRestored state result.0) }
-    ensures leaves { Leaves state result.0 }
-    ensures says { IfErr result.1 (λ e. Says result.0.scope.mark (kind_of e.kind)) }
-    ensures ahead { lacks_ahead state.at ≡ true → IsErrAnd result.1 (λ e. kind_of e.kind ≡ OutOfMemory) }
+    ensures answers { AnswersScript T.script_of limit (unmarked (seen state)) result.1 (seen result.0) }
+    ensures outright { state.buffer.place.left ≡ [] → IsOk result.1 }
+    ensures refused { OnErr result.1 (IsRestored (seen state) (seen result.0)) }
+    ensures leaves { Leaves (seen state) (seen result.0) }
+    ensures keeps { Keeps (source_of state) (source_of result.0) }
+    ensures says { IfErr result.1 (λ e. Says result.0.mark (kind_of e.kind)) }
+    ensures ahead { lacks_ahead state.buffer.place ≡ true → IsErrAnd result.1 (λ e. kind_of e.kind ≡ OutOfMemory) }
 {
     script_from::<Brand, I, T>(alloc, state, limit)
 }
@@ -148,12 +153,13 @@ fn module_from<O: Origin, I: Tokens, T: BuildsStatements + BuildsExport + Builds
     limit: usize,
 ) -> (State<I>, PResult<T::Module>)
     requires { O.start ≡ state }
-    ensures answers { (u : reader.State) × IsEntered (unmarked state) u × AnswersModule T.module_of limit u result.1 result.0 }
-    ensures outright { state.at.left ≡ [] → IsOk result.1 }
-    ensures refused { OnErr result.1 (IsRestored state result.0) }
-    ensures leaves { Leaves O.start result.0 }
-    ensures says { IfErr result.1 (λ e. Says result.0.scope.mark (kind_of e.kind)) }
-    ensures ahead { lacks_ahead state.at ≡ true → IsErrAnd result.1 (λ e. kind_of e.kind ≡ OutOfMemory) }
+    ensures answers { (u : reader.State) × IsEntered (unmarked (seen state)) u × AnswersModule T.module_of limit u result.1 (seen result.0) }
+    ensures outright { state.buffer.place.left ≡ [] → IsOk result.1 }
+    ensures refused { OnErr result.1 (IsRestored (seen state) (seen result.0)) }
+    ensures leaves { Leaves (seen O.start) (seen result.0) }
+    ensures keeps { Keeps (source_of O.start) (source_of result.0) }
+    ensures says { IfErr result.1 (λ e. Says result.0.mark (kind_of e.kind)) }
+    ensures ahead { lacks_ahead state.buffer.place ≡ true → IsErrAnd result.1 (λ e. kind_of e.kind ≡ OutOfMemory) }
 {
     let outer = state.flags();
     let found_module_item = state.found_module_item();
@@ -173,12 +179,13 @@ pub fn module<I: Tokens, T: BuildsStatements + BuildsExport + BuildsVarDecl>(
     state: State<I>,
     limit: usize,
 ) -> (State<I>, PResult<T::Module>)
-    ensures answers { (u : reader.State) × IsEntered (unmarked state) u × AnswersModule T.module_of limit u result.1 result.0 }
-    ensures outright { state.at.left ≡ [] → IsOk result.1 }
-    ensures refused { OnErr result.1 (IsRestored state result.0) }
-    ensures leaves { Leaves state result.0 }
-    ensures says { IfErr result.1 (λ e. Says result.0.scope.mark (kind_of e.kind)) }
-    ensures ahead { lacks_ahead state.at ≡ true → IsErrAnd result.1 (λ e. kind_of e.kind ≡ OutOfMemory) }
+    ensures answers { (u : reader.State) × IsEntered (unmarked (seen state)) u × AnswersModule T.module_of limit u result.1 (seen result.0) }
+    ensures outright { state.buffer.place.left ≡ [] → IsOk result.1 }
+    ensures refused { OnErr result.1 (IsRestored (seen state) (seen result.0)) }
+    ensures leaves { Leaves (seen state) (seen result.0) }
+    ensures keeps { Keeps (source_of state) (source_of result.0) }
+    ensures says { IfErr result.1 (λ e. Says result.0.mark (kind_of e.kind)) }
+    ensures ahead { lacks_ahead state.buffer.place ≡ true → IsErrAnd result.1 (λ e. kind_of e.kind ≡ OutOfMemory) }
 {
     module_from::<Brand, I, T>(alloc, state, limit)
 }
@@ -211,12 +218,13 @@ fn program_from<O: Origin, I: Tokens, T: BuildsStatements + BuildsExport + Build
     limit: usize,
 ) -> (State<I>, PResult<T::Program>)
     requires { O.start ≡ state }
-    ensures answers { AnswersProgram T.program_of limit (unmarked state) result.1 result.0 }
-    ensures outright { state.at.left ≡ [] → IsOk result.1 }
-    ensures refused { OnErr result.1 (IsRestored state result.0) }
-    ensures leaves { Leaves O.start result.0 }
-    ensures says { IfErr result.1 (λ e. Says result.0.scope.mark (kind_of e.kind)) }
-    ensures ahead { lacks_ahead state.at ≡ true → IsErrAnd result.1 (λ e. kind_of e.kind ≡ OutOfMemory) }
+    ensures answers { AnswersProgram T.program_of limit (unmarked (seen state)) result.1 (seen result.0) }
+    ensures outright { state.buffer.place.left ≡ [] → IsOk result.1 }
+    ensures refused { OnErr result.1 (IsRestored (seen state) (seen result.0)) }
+    ensures leaves { Leaves (seen O.start) (seen result.0) }
+    ensures keeps { Keeps (source_of O.start) (source_of result.0) }
+    ensures says { IfErr result.1 (λ e. Says result.0.mark (kind_of e.kind)) }
+    ensures ahead { lacks_ahead state.buffer.place ≡ true → IsErrAnd result.1 (λ e. kind_of e.kind ≡ OutOfMemory) }
 {
     let outer = state.flags();
     let found_module_item = state.found_module_item();
@@ -236,12 +244,13 @@ pub fn program<I: Tokens, T: BuildsStatements + BuildsExport + BuildsVarDecl>(
     state: State<I>,
     limit: usize,
 ) -> (State<I>, PResult<T::Program>)
-    ensures answers { AnswersProgram T.program_of limit (unmarked state) result.1 result.0 }
-    ensures outright { state.at.left ≡ [] → IsOk result.1 }
-    ensures refused { OnErr result.1 (IsRestored state result.0) }
-    ensures leaves { Leaves state result.0 }
-    ensures says { IfErr result.1 (λ e. Says result.0.scope.mark (kind_of e.kind)) }
-    ensures ahead { lacks_ahead state.at ≡ true → IsErrAnd result.1 (λ e. kind_of e.kind ≡ OutOfMemory) }
+    ensures answers { AnswersProgram T.program_of limit (unmarked (seen state)) result.1 (seen result.0) }
+    ensures outright { state.buffer.place.left ≡ [] → IsOk result.1 }
+    ensures refused { OnErr result.1 (IsRestored (seen state) (seen result.0)) }
+    ensures leaves { Leaves (seen state) (seen result.0) }
+    ensures keeps { Keeps (source_of state) (source_of result.0) }
+    ensures says { IfErr result.1 (λ e. Says result.0.mark (kind_of e.kind)) }
+    ensures ahead { lacks_ahead state.buffer.place ≡ true → IsErrAnd result.1 (λ e. kind_of e.kind ≡ OutOfMemory) }
 {
     program_from::<Brand, I, T>(alloc, state, limit)
 }
@@ -306,12 +315,13 @@ fn item_from<O: Origin, I: Tokens, T: BuildsStatements + BuildsExport + BuildsVa
     limit: usize,
 ) -> (State<I>, PResult<T::Item>)
     requires { O.start ≡ state }
-    ensures answers { AnswersItem T.item_of limit (unmarked state) result.1 result.0 }
-    ensures at_end { state.at.left ≡ [] → IsErrAnd result.1 (λ e. fault_of e ≡ reader.fault_at (reader.end_of state.at.last) Eof) }
-    ensures refused { OnErr result.1 (IsRestored state result.0) }
-    ensures leaves { Leaves O.start result.0 }
-    ensures says { IfErr result.1 (λ e. Says result.0.scope.mark (kind_of e.kind)) }
-    ensures ahead { lacks_ahead state.at ≡ true → IsErrAnd result.1 (λ e. kind_of e.kind ≡ OutOfMemory) }
+    ensures answers { AnswersItem T.item_of limit (unmarked (seen state)) result.1 (seen result.0) }
+    ensures at_end { state.buffer.place.left ≡ [] → IsErrAnd result.1 (λ e. fault_of e ≡ reader.fault_at (reader.end_of state.buffer.place.last) Eof) }
+    ensures refused { OnErr result.1 (IsRestored (seen state) (seen result.0)) }
+    ensures leaves { Leaves (seen O.start) (seen result.0) }
+    ensures keeps { Keeps (source_of O.start) (source_of result.0) }
+    ensures says { IfErr result.1 (λ e. Says result.0.mark (kind_of e.kind)) }
+    ensures ahead { lacks_ahead state.buffer.place ≡ true → IsErrAnd result.1 (λ e. kind_of e.kind ≡ OutOfMemory) }
 {
     let outer = state.flags();
     let found_module_item = state.found_module_item();
@@ -331,12 +341,13 @@ pub fn item<I: Tokens, T: BuildsStatements + BuildsExport + BuildsVarDecl>(
     state: State<I>,
     limit: usize,
 ) -> (State<I>, PResult<T::Item>)
-    ensures answers { AnswersItem T.item_of limit (unmarked state) result.1 result.0 }
-    ensures at_end { state.at.left ≡ [] → IsErrAnd result.1 (λ e. fault_of e ≡ reader.fault_at (reader.end_of state.at.last) Eof) }
-    ensures refused { OnErr result.1 (IsRestored state result.0) }
-    ensures leaves { Leaves state result.0 }
-    ensures says { IfErr result.1 (λ e. Says result.0.scope.mark (kind_of e.kind)) }
-    ensures ahead { lacks_ahead state.at ≡ true → IsErrAnd result.1 (λ e. kind_of e.kind ≡ OutOfMemory) }
+    ensures answers { AnswersItem T.item_of limit (unmarked (seen state)) result.1 (seen result.0) }
+    ensures at_end { state.buffer.place.left ≡ [] → IsErrAnd result.1 (λ e. fault_of e ≡ reader.fault_at (reader.end_of state.buffer.place.last) Eof) }
+    ensures refused { OnErr result.1 (IsRestored (seen state) (seen result.0)) }
+    ensures leaves { Leaves (seen state) (seen result.0) }
+    ensures keeps { Keeps (source_of state) (source_of result.0) }
+    ensures says { IfErr result.1 (λ e. Says result.0.mark (kind_of e.kind)) }
+    ensures ahead { lacks_ahead state.buffer.place ≡ true → IsErrAnd result.1 (λ e. kind_of e.kind ≡ OutOfMemory) }
 {
     item_from::<Brand, I, T>(alloc, state, limit)
 }
@@ -373,12 +384,13 @@ fn statement_from<O: Origin, I: Tokens, T: BuildsStatements>(
     at: Position,
 ) -> (State<I>, PResult<T::Stmt>)
     requires { O.start ≡ state }
-    ensures answers { AnswersStatement T.stmt_of limit at.include_decl at.top_level (unmarked state) result.1 result.0 }
-    ensures at_end { state.at.left ≡ [] → IsErrAnd result.1 (λ e. fault_of e ≡ reader.fault_at (reader.end_of state.at.last) Eof) }
-    ensures refused { OnErr result.1 (IsRestored state result.0) }
-    ensures leaves { Leaves O.start result.0 }
-    ensures says { IfErr result.1 (λ e. Says result.0.scope.mark (kind_of e.kind)) }
-    ensures ahead { lacks_ahead state.at ≡ true → IsErrAnd result.1 (λ e. kind_of e.kind ≡ OutOfMemory) }
+    ensures answers { AnswersStatement T.stmt_of limit at.include_decl at.top_level (unmarked (seen state)) result.1 (seen result.0) }
+    ensures at_end { state.buffer.place.left ≡ [] → IsErrAnd result.1 (λ e. fault_of e ≡ reader.fault_at (reader.end_of state.buffer.place.last) Eof) }
+    ensures refused { OnErr result.1 (IsRestored (seen state) (seen result.0)) }
+    ensures leaves { Leaves (seen O.start) (seen result.0) }
+    ensures keeps { Keeps (source_of O.start) (source_of result.0) }
+    ensures says { IfErr result.1 (λ e. Says result.0.mark (kind_of e.kind)) }
+    ensures ahead { lacks_ahead state.buffer.place ≡ true → IsErrAnd result.1 (λ e. kind_of e.kind ≡ OutOfMemory) }
 {
     let outer = state.flags();
     let found_module_item = state.found_module_item();
@@ -399,12 +411,13 @@ pub fn statement<I: Tokens, T: BuildsStatements>(
     limit: usize,
     at: Position,
 ) -> (State<I>, PResult<T::Stmt>)
-    ensures answers { AnswersStatement T.stmt_of limit at.include_decl at.top_level (unmarked state) result.1 result.0 }
-    ensures at_end { state.at.left ≡ [] → IsErrAnd result.1 (λ e. fault_of e ≡ reader.fault_at (reader.end_of state.at.last) Eof) }
-    ensures refused { OnErr result.1 (IsRestored state result.0) }
-    ensures leaves { Leaves state result.0 }
-    ensures says { IfErr result.1 (λ e. Says result.0.scope.mark (kind_of e.kind)) }
-    ensures ahead { lacks_ahead state.at ≡ true → IsErrAnd result.1 (λ e. kind_of e.kind ≡ OutOfMemory) }
+    ensures answers { AnswersStatement T.stmt_of limit at.include_decl at.top_level (unmarked (seen state)) result.1 (seen result.0) }
+    ensures at_end { state.buffer.place.left ≡ [] → IsErrAnd result.1 (λ e. fault_of e ≡ reader.fault_at (reader.end_of state.buffer.place.last) Eof) }
+    ensures refused { OnErr result.1 (IsRestored (seen state) (seen result.0)) }
+    ensures leaves { Leaves (seen state) (seen result.0) }
+    ensures keeps { Keeps (source_of state) (source_of result.0) }
+    ensures says { IfErr result.1 (λ e. Says result.0.mark (kind_of e.kind)) }
+    ensures ahead { lacks_ahead state.buffer.place ≡ true → IsErrAnd result.1 (λ e. kind_of e.kind ≡ OutOfMemory) }
 {
     statement_from::<Brand, I, T>(alloc, state, limit, at)
 }

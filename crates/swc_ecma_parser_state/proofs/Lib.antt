@@ -3,4 +3,6 @@ pub mod Taken
 pub mod Contexts
 pub mod Words
 pub mod Rejects
+mod Held
+mod Keeps
 mod Underway

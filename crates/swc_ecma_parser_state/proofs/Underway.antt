@@ -6,32 +6,34 @@ use Rattle.swc_ecma_parser_error.specs.Kind.{Fault, fault_of, faults_of}
 use Rattle.swc_ecma_parser_grammar.specs.Notes.{as_note}
 use Rattle.swc_ecma_parser_input.specs.declared.context.Context.{Context}
 use Rattle.swc_ecma_parser_input.specs.Buffered as buffered
-use Rattle.swc_ecma_parser_input.specs.Buffered.{Buffered}
+use Rattle.swc_ecma_parser_input.specs.Buffered.{Buffered, behind}
 use Rattle.swc_ecma_parser_input.specs.Drawn.{Drawn}
 use Rattle.swc_ecma_parser_input.specs.Place.{first, second, after, lacks_memory}
 use Rattle.swc_ecma_parser_input.specs.Setting.{setting_of}
 use Rattle.swc_ecma_parser_reader.specs.Calls.{lacks_ahead, marks_memory, Left}
 use Rattle.swc_ecma_parser_reader.specs.Notes.{held_of}
-use Rattle.swc_ecma_parser_reader.specs.State.{State}
 use Rattle.swc_ecma_parser_reader.specs.declared.mark.Mark.{Mark}
 use Rattle.swc_ecma_parser_reader.specs.declared.mark.Mark.TheVariants as mark
 use Rattle.swc_ecma_parser_reader.proofs.Calls.{left_first, left_marked, left_recorded, left_held, left_released, left_taken}
 use Rattle.swc_ecma_parser_state.specs.CallView.{IsSettled, LeftBy}
+use Rattle.swc_ecma_parser_state.specs.Contents.{Contents, seen, source_of}
+use Rattle.swc_ecma_parser_state.specs.Keeps.{Keeps}
 use Rattle.swc_ecma_parser_state.specs.Opened.{mark_ahead}
+use Rattle.swc_ecma_parser_state.proofs.Keeps.{keeps_self, keeps_alike, keeps_recorded, keeps_held, keeps_released}
 
 -- what is underway, whatever stands around it
-abbrev pub Underway : State → Buffered → Option Mark → Type 0
-Underway s b m = IsSettled b × LeftBy s b m
+abbrev pub Underway : Contents → Buffered → Option Mark → Type 0
+Underway start b m = IsSettled b × LeftBy (seen start) b m × Keeps (source_of start) (behind b)
 
 held_of_faults : (hs : List Error) → map as_note (faults_of hs) ≡ held_of hs
 held_of_faults [] = refl
 held_of_faults (h ∷ hs) = ap (λ z. as_note (fault_of h) ∷ z) (held_of_faults hs)
 
-module _ (s : State) where
+module _ (start : Contents) where
   -- ---- as a call begins
 
-  pub begins : (m : Option Mark) → m ≡ mark_ahead s.at → Left s s.at s.faults s.code.setting m s.notes.held_back
-  begins m e = left_first s m (λ h. by_memory (lacks_ahead s.at) (ap marks_memory (sym e) ∙ h))
+  pub begins : (m : Option Mark) → m ≡ mark_ahead start.buffer.place → LeftBy (seen start) start.buffer m × Keeps (source_of start) (source_of start)
+  begins m e = (left_first (seen start) m (λ h. by_memory (lacks_ahead start.buffer.place) (ap marks_memory (sym e) ∙ h)), keeps_self (source_of start))
     where
       by_memory : (b : Bool) → marks_memory (cond b (Some mark.OutOfMemory) None) ≡ false → b ≡ false
       by_memory true h = h
@@ -39,57 +41,63 @@ module _ (s : State) where
 
   -- ---- a mark
 
-  pub marks : (b : Buffered) (m : Option Mark) → Underway s b m → Underway s b (Some mark.OutOfMemory)
-  marks b m h = (h.0, left_marked s (setting_of b.syntax) b.place (faults_of b.recorded) (held_of b.held_back) m (Some mark.OutOfMemory) (λ e. absurd (true≢false e)) h.1)
+  pub marks : (b : Buffered) (m : Option Mark) → Underway start b m → Underway start b (Some mark.OutOfMemory)
+  marks b m h =
+      (h.0, left_marked (seen start) (setting_of b.syntax) b.place (faults_of b.recorded) (held_of b.held_back) m (Some mark.OutOfMemory) (λ e. absurd (true≢false e)) h.1, h.2)
 
-  pub marks_depth : (b : Buffered) (m : Option Mark) → marks_memory m ≡ false → Underway s b m → Underway s b (Some mark.TooDeep)
-  marks_depth b m e h = (h.0, left_marked s (setting_of b.syntax) b.place (faults_of b.recorded) (held_of b.held_back) m (Some mark.TooDeep) (λ _. e) h.1)
+  pub marks_depth : (b : Buffered) (m : Option Mark) → marks_memory m ≡ false → Underway start b m → Underway start b (Some mark.TooDeep)
+  marks_depth b m e h = (h.0, left_marked (seen start) (setting_of b.syntax) b.place (faults_of b.recorded) (held_of b.held_back) m (Some mark.TooDeep) (λ _. e) h.1, h.2)
 
   -- ---- a context is set
 
-  released : (c : Context) (b : Buffered) (m : Option Mark) → Underway s b m → LeftBy s (record (buffered.released b) { context = c }) m
+  released : (c : Context) (b : Buffered) (m : Option Mark) → Underway start b m → LeftBy (seen start) (record (buffered.released b) { context = c }) m
   released c b m h =
-      subst (λ fs. Left s b.place fs (setting_of b.syntax) m []) (sym (map-append fault_of b.recorded b.held_back))
-      (left_released s (setting_of b.syntax) b.place (faults_of b.recorded) (faults_of b.held_back) (held_of b.held_back) m (held_of_faults b.held_back) h.1)
+      subst (λ fs. Left (seen start) b.place fs (setting_of b.syntax) m []) (sym (map-append fault_of b.recorded b.held_back))
+      (left_released (seen start) (setting_of b.syntax) b.place (faults_of b.recorded) (faults_of b.held_back) (held_of b.held_back) m (held_of_faults b.held_back) h.1)
 
-  pub sets : (c : Context) (b d : Buffered) (m : Option Mark) → d ≡ buffered.with_context c b → Underway s b m → Underway s d m
-  sets c b d m e h = subst (λ z. Underway s z m) (sym e) (by_module c.«module» refl)
+  pub sets : (c : Context) (b d : Buffered) (m : Option Mark) → d ≡ buffered.with_context c b → Underway start b m → Underway start d m
+  sets c b d m e h = subst (λ z. Underway start z m) (sym e) (by_module c.«module» refl)
     where
-      by_module : (k : Bool) → c.«module» ≡ k → Underway s (cond k (record (buffered.released b) { context = c }) (record b { context = c })) m
-      by_module true g = ((λ _. refl), released c b m h)
-      by_module false g = ((λ i. absurd (true≢false (sym i ∙ g))), h.1)
+      by_module : (k : Bool) → c.«module» ≡ k → Underway start (cond k (record (buffered.released b) { context = c }) (record b { context = c })) m
+      by_module true g =
+          ((λ _. refl), released c b m h, keeps_released (source_of start) (behind b) (behind (record (buffered.released b) { context = c })) refl refl h.2 refl)
+      by_module false g =
+          ((λ i. absurd (true≢false (sym i ∙ g))), h.1, keeps_alike (source_of start) (behind b) (behind (record b { context = c })) refl refl refl refl h.2)
 
   -- ---- a fault
 
-  pub records : (f : Error) (b d : Buffered) (m : Option Mark) → d ≡ buffered.recording f b → Underway s b m → Underway s d m
-  records f b d m e h = subst (λ z. Underway s z m) (sym e) (
+  pub records : (f : Error) (b d : Buffered) (m : Option Mark) → d ≡ buffered.recording f b → Underway start b m → Underway start d m
+  records f b d m e h = subst (λ z. Underway start z m) (sym e) (
     h.0,
-    subst (λ fs. Left s b.place fs (setting_of b.syntax) m (held_of b.held_back)) (sym (map-append fault_of b.recorded (f ∷ [])))
-        (left_recorded s (setting_of b.syntax) b.place (faults_of b.recorded) (fault_of f ∷ []) (held_of b.held_back) m h.1),
+    subst (λ fs. Left (seen start) b.place fs (setting_of b.syntax) m (held_of b.held_back)) (sym (map-append fault_of b.recorded (f ∷ [])))
+        (left_recorded (seen start) (setting_of b.syntax) b.place (faults_of b.recorded) (fault_of f ∷ []) (held_of b.held_back) m h.1),
+    keeps_recorded (source_of start) (behind b) (behind (buffered.recording f b)) refl refl h.2 (f ∷ []) refl refl,
   )
 
-  holding : (f : Error) (b : Buffered) (m : Option Mark) → b.context.«module» ≡ false → Underway s b m → Underway s (record b { held_back = b.held_back ++ f ∷ [] }) m
+  holding : (f : Error) (b : Buffered) (m : Option Mark) → b.context.«module» ≡ false → Underway start b m → Underway start (record b { held_back = b.held_back ++ f ∷ [] }) m
   holding f b m e h = (
     (λ g. absurd (true≢false (sym g ∙ e))),
-    subst (λ hs. Left s b.place (faults_of b.recorded) (setting_of b.syntax) m hs) (sym (map-append (λ x. as_note (fault_of x)) b.held_back (f ∷ [])))
-        (left_held s (setting_of b.syntax) b.place (faults_of b.recorded) (held_of b.held_back) (as_note (fault_of f) ∷ []) m h.1),
+    subst (λ hs. Left (seen start) b.place (faults_of b.recorded) (setting_of b.syntax) m hs) (sym (map-append (λ x. as_note (fault_of x)) b.held_back (f ∷ [])))
+        (left_held (seen start) (setting_of b.syntax) b.place (faults_of b.recorded) (held_of b.held_back) (as_note (fault_of f) ∷ []) m h.1),
+    keeps_held (source_of start) (behind b) (behind (record b { held_back = b.held_back ++ f ∷ [] })) refl refl h.2 (f ∷ []) refl refl,
   )
 
-  pub holds_back : (f : Error) (b d : Buffered) (m : Option Mark) → d ≡ buffered.holding_back f b → Underway s b m → Underway s d m
-  holds_back f b d m e h = subst (λ z. Underway s z m) (sym e) (by_module b.context.«module» refl)
+  pub holds_back : (f : Error) (b d : Buffered) (m : Option Mark) → d ≡ buffered.holding_back f b → Underway start b m → Underway start d m
+  holds_back f b d m e h = subst (λ z. Underway start z m) (sym e) (by_module b.context.«module» refl)
     where
-      by_module : (k : Bool) → b.context.«module» ≡ k → Underway s (cond k (buffered.recording f b) (record b { held_back = b.held_back ++ f ∷ [] })) m
+      by_module : (k : Bool) → b.context.«module» ≡ k → Underway start (cond k (buffered.recording f b) (record b { held_back = b.held_back ++ f ∷ [] })) m
       by_module true g = records f b (buffered.recording f b) m refl h
       by_module false g = holding f b m g h
 
   -- ---- a token is taken
 
   pub takes : (b d : Buffered) (m n : Option Mark) → d ≡ record b { place = record (after b.place) { left = d.place.left } } → first d.place.left ≡ second b.place.left
-      → Drawn (after b.place).left d.place.left → (marks_memory n ≡ false → (marks_memory m ≡ false) × (lacks_memory (second d.place.left) ≡ false)) → Underway s b m → Underway s d n
+      → Drawn (after b.place).left d.place.left → (marks_memory n ≡ false → (marks_memory m ≡ false) × (lacks_memory (second d.place.left) ≡ false)) → Underway start b m → Underway start d n
   takes b d m n kept f drawn e h =
       let at : d.place ≡ record (after b.place) { left = d.place.left } = ap (λ z. z.place) kept in
-      subst (λ z. Underway s z n) (sym kept) (
+      subst (λ z. Underway start z n) (sym kept) (
         h.0,
-        subst (λ c. Left s c (faults_of b.recorded) (setting_of b.syntax) n (held_of b.held_back)) at
-            (left_taken s (setting_of b.syntax) b.place d.place (faults_of b.recorded) (held_of b.held_back) m n e f h.1 (ap (λ c. c.last) at) drawn),
+        subst (λ c. Left (seen start) c (faults_of b.recorded) (setting_of b.syntax) n (held_of b.held_back)) at
+            (left_taken (seen start) (setting_of b.syntax) b.place d.place (faults_of b.recorded) (held_of b.held_back) m n e f h.1 (ap (λ c. c.last) at) drawn),
+        keeps_alike (source_of start) (behind b) (behind (record b { place = record (after b.place) { left = d.place.left } })) refl refl refl refl h.2,
       )

@@ -1,3 +1,5 @@
+pub mod Contents
+pub mod Keeps
 pub mod View
 pub mod FirstError
 pub mod Taken

@@ -1,25 +1,33 @@
 -- States over sources that nothing was read from, and as a call begins.
 use Rattle.std.specs.Prelude.{if◌then◌else◌, false, [], Option, Some, None}
-use Rattle.swc_ecma_parser_error.specs.Kind.{faults_of}
-use Rattle.swc_ecma_parser_input.specs.Setting.{setting_of, plain}
+use Rattle.swc_ecma_parser_input.specs.Setting.{plain}
 use Rattle.swc_ecma_parser_input.specs.TokenSource.{TokenSource, with_context, of_list}
 use Rattle.swc_ecma_parser_input.specs.Place.{Place, outset}
 use Rattle.swc_ecma_parser_input.specs.declared.context.Context.{Context}
 use Rattle.swc_ecma_parser_reader.specs.Calls.{lacks_ahead}
-use Rattle.swc_ecma_parser_reader.specs.Notes.{held_of}
 use Rattle.swc_ecma_parser_reader.specs.declared.mark.Mark.{Mark}
 use Rattle.swc_ecma_parser_reader.specs.declared.mark.Mark.TheVariants as mark
 use Rattle.swc_ecma_parser_reader.specs.State.{State}
+use Rattle.swc_ecma_parser_state.specs.Contents.{Contents, seen}
 
 -- the source's own context is set on it once more
-abbrev pub opened : TokenSource → State
-opened s = record {
-  at = outset s.start s.left;
-  code = record { flags = s.context; setting = setting_of s.syntax };
-  scope = record { labels = []; mark = None };
-  faults = faults_of (with_context s.context s).recorded;
-  notes = record { held_back = held_of (with_context s.context s).held_back; found_module_item = false };
+abbrev pub fresh : TokenSource → Contents
+fresh s = record {
+  buffer = record {
+    place = outset s.start s.left;
+    context = s.context;
+    syntax = s.syntax;
+    start = s.start;
+    recorded = (with_context s.context s).recorded;
+    held_back = (with_context s.context s).held_back;
+  };
+  labels = [];
+  found_module_item = false;
+  mark = None;
 }
+
+abbrev pub opened : TokenSource → State
+opened s = seen (fresh s)
 
 -- no flag is on
 abbrev pub plain_context : Context
@@ -39,8 +47,8 @@ plain_context = record {
 }
 
 -- over no tokens at all
-abbrev pub blank : State
-blank = opened (of_list plain_context plain [])
+abbrev pub blank : Contents
+blank = fresh (of_list plain_context plain [])
 
 -- As a call begins: nothing is marked, but that memory ran out for one of the two tokens that are read ahead.
 abbrev pub mark_ahead : Place → Option Mark

@@ -9,6 +9,8 @@ ghost use Rattle.swc_ecma_parser_reader.specs.Calls.{Leaves, Says, marks_memory}
 ghost use Rattle.swc_ecma_parser_reader.specs.Entry.{IsLater};
 ghost use Rattle.swc_ecma_parser_reader.specs.State as reader;
 ghost use Rattle.swc_ecma_parser_reader.specs.declared.mark.Mark.TheVariants as mark;
+ghost use Rattle.swc_ecma_parser_state.specs.Contents.{seen, source_of};
+ghost use Rattle.swc_ecma_parser_state.specs.Keeps.{Keeps};
 
 use crate::state::{Call, Origin, State};
 use swc_ecma_parser_common::Span;
@@ -26,8 +28,9 @@ impl<O: Origin, I: Tokens> Call<O, I> {
 
     /// Ends the call.
     pub fn end(self) -> State<I>
-        ensures state { result ≡ self }
-        ensures leaves { Leaves O.start result }
+        ensures state { seen result ≡ self }
+        ensures leaves { Leaves (seen O.start) (seen result) }
+        ensures keeps { Keeps (source_of O.start) (source_of result) }
     {
         let Call {
             buffer,

@@ -1,12 +1,12 @@
 //! How a state is made and given back, and how a call begins.
 
-ghost use Rattle.std.specs.Prelude.{◌≡◌, ◌||◌, false, [], length, drop, IfOk, IfErr};
-ghost use Rattle.swc_ecma_parser_error.specs.Kind.{faults_of, IsOutOfMemory};
+ghost use Rattle.std.specs.Prelude.{◌≡◌, false, [], length, IfOk, IfErr};
+ghost use Rattle.swc_ecma_parser_error.specs.Kind.{IsOutOfMemory};
 ghost use Rattle.swc_ecma_parser_input.specs.Place as place;
-ghost use Rattle.swc_ecma_parser_input.specs.Setting.{setting_of};
-ghost use Rattle.swc_ecma_parser_reader.specs.Notes.{held_of};
+ghost use Rattle.swc_ecma_parser_reader.specs.Calls.{lacks_ahead};
 ghost use Rattle.swc_ecma_parser_reader.specs.State.{end_of};
-ghost use Rattle.swc_ecma_parser_state.specs.Opened.{opened, begun, mark_ahead};
+ghost use Rattle.swc_ecma_parser_state.specs.Contents.{seen, source_of};
+ghost use Rattle.swc_ecma_parser_state.specs.Opened.{fresh, begun, mark_ahead};
 
 use crate::call::no_memory;
 use crate::state::{Call, Origin, State};
@@ -20,10 +20,12 @@ use swc_ecma_parser_reader::Mark;
 impl<I: Tokens> State<I> {
     /// Sets the source's own context on it once more, and draws its first tokens.
     pub fn new(alloc: Global, input: I) -> State<I>
-        ensures kept { result ≡ record (opened (I.seen input)) { at = place.outset (I.seen input).start result.at.left } }
-        ensures left { place.lacks_memory (place.first result.at.left) ≡ false
-            → place.lacks_memory (place.second result.at.left) ≡ false → result ≡ opened (I.seen input) }
-        ensures len { length result.at.left ≡ length (I.seen input).left }
+        ensures kept { result ≡ record (fresh (I.seen input)) {
+          buffer = record (fresh (I.seen input)).buffer { place = place.outset (I.seen input).start result.buffer.place.left };
+        } }
+        ensures left { place.lacks_memory (place.first result.buffer.place.left) ≡ false
+            → place.lacks_memory (place.second result.buffer.place.left) ≡ false → result ≡ fresh (I.seen input) }
+        ensures len { length result.buffer.place.left ≡ length (I.seen input).left }
     {
         let mut input = input;
         let context = input.ctx();
@@ -38,43 +40,43 @@ impl<I: Tokens> State<I> {
 
     /// What stands around.
     pub fn flags(&self) -> Context
-        ensures { result ≡ self.now.code.flags }
+        ensures { result ≡ self.now.buffer.context }
     {
         self.buffer.ctx()
     }
 
     /// The labels around.
     pub fn labels(&self) -> &[Atom]
-        ensures { result.now ≡ self.now.scope.labels }
+        ensures { result.now ≡ self.now.labels }
     {
         self.labels.as_slice()
     }
 
     /// Whether something was read that makes a program a module.
     pub fn found_module_item(&self) -> bool
-        ensures { result ≡ self.now.notes.found_module_item }
+        ensures { result ≡ self.now.found_module_item }
     {
         self.found_module_item
     }
 
     /// What the last call met that no recovery may hide.
     pub fn mark(&self) -> Option<Mark>
-        ensures { result ≡ self.now.scope.mark }
+        ensures { result ≡ self.now.mark }
     {
         self.mark
     }
 
     /// Whether memory ran out for one of the two tokens that were read ahead.
     pub fn lacks_memory(&self) -> bool
-        ensures { result ≡ (place.lacks_memory (place.first self.now.at.left) || place.lacks_memory (place.second self.now.at.left)) }
+        ensures { result ≡ lacks_ahead self.now.buffer.place }
     {
         self.buffer.cur_is_out_of_memory() || self.buffer.is_out_of_memory()
     }
 
     /// Hands out the recorded faults, in order.
     pub fn take_errors(&mut self) -> Vec<Error>
-        ensures errors { faults_of result.items ≡ self.old.faults }
-        ensures state { self.new ≡ record self.old { faults = [] } }
+        ensures errors { result.items ≡ self.old.buffer.recorded }
+        ensures state { self.new ≡ record self.old { buffer = record self.old.buffer { recorded = [] } } }
     {
         self.buffer.take_errors()
     }
@@ -83,7 +85,7 @@ impl<I: Tokens> State<I> {
     pub fn try_clone(&self) -> PResult<State<I>>
         ensures ok { IfOk result (λ it. it ≡ self.now) }
         ensures err { IfErr result IsOutOfMemory }
-        ensures place { IfErr result (λ e. e.span ≡ end_of self.now.at.last) }
+        ensures place { IfErr result (λ e. e.span ≡ end_of self.now.buffer.place.last) }
     {
         let Ok(buffer) = self.buffer.try_clone() else {
             return Err(no_memory(self.buffer.last_span()));
@@ -101,11 +103,7 @@ impl<I: Tokens> State<I> {
 
     /// The source, without the tokens that were read ahead: at most two.
     pub fn into_input(self) -> I
-        ensures syntax { setting_of (I.seen result).syntax ≡ self.code.setting }
-        ensures left { (I.seen result).left ≡ drop 2 self.at.left }
-        ensures context { (I.seen result).context ≡ self.code.flags }
-        ensures faults { faults_of (I.seen result).recorded ≡ self.faults }
-        ensures held_back { held_of (I.seen result).held_back ≡ self.notes.held_back }
+        ensures { I.seen result ≡ source_of self }
     {
         let State {
             buffer,
@@ -118,7 +116,7 @@ impl<I: Tokens> State<I> {
 
     /// What is marked as a call begins.
     fn mark_ahead(&self) -> Option<Mark>
-        ensures { result ≡ mark_ahead self.now.at }
+        ensures { result ≡ mark_ahead self.now.buffer.place }
     {
         if self.lacks_memory() {
             return Some(Mark::OutOfMemory);
@@ -129,7 +127,7 @@ impl<I: Tokens> State<I> {
     /// Begins a call: nothing is marked, but that memory ran out for one of the two tokens that were read ahead.
     pub fn begin<O: Origin>(self) -> Call<O, I>
         requires { O.start ≡ self }
-        ensures { result ≡ begun self }
+        ensures { result ≡ begun (seen self) }
     {
         let mark = self.mark_ahead();
         let State {

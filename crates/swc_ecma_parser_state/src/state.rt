@@ -15,14 +15,15 @@ pub struct State<I: Tokens> {
 }
 
 impl<I: Tokens> Model for State<I> {
-    ghost use Rattle.swc_ecma_parser_reader.specs.State.{State as Seen};
+    ghost use Rattle.swc_ecma_parser_state.specs.Contents.{Contents};
 
-    ghost Value = { Seen };
+    ghost Value = { Contents };
 
     ghost use Rattle.std.specs.Coded.{codes};
+    ghost use Rattle.swc_ecma_parser_error.specs.contracts.error.Error as error;
     ghost use Rattle.swc_ecma_parser_token.specs.contracts.token.TokenAndSpan as token;
 
-    ghost coded = { Prim.hlevel (codes, token.the_row.coded) };
+    ghost coded = { Prim.hlevel (codes, error.the_row.coded, token.the_row.coded) };
 
     ghost use Rattle.swc_ecma_parser_state.specs.View.{view_of, IsSettled};
 
@@ -33,10 +34,10 @@ impl<I: Tokens> Model for State<I> {
 
 /// Where a call began: what it leaves is told from there.
 pub trait Origin {
-    ghost use Rattle.swc_ecma_parser_reader.specs.State.{State};
+    ghost use Rattle.swc_ecma_parser_state.specs.Contents.{Contents};
 
     /// The state as it began.
-    ghost start: { State };
+    ghost start: { Contents };
 }
 
 impl Origin for Brand {

@@ -14,47 +14,48 @@ use Rattle.swc_ecma_parser.specs.Parsing.{Parsing}
 use Rattle.swc_ecma_parser_reader.specs.State.{State}
 use Rattle.swc_ecma_parser_module_reader.specs.Entry.{IsEntered}
 use Rattle.swc_ecma_parser_span_order.proofs.Leaves.{leaves_in_order}
+use Rattle.swc_ecma_parser_state.specs.Contents.{seen}
 use Rattle.swc_ecma_parser.proofs.Kept.{kept_is, lasts, tells, scope_told, walked_told}
 use Rattle.swc_ecma_parser.proofs.parser.Parser.parse_module.Goals as goal
 
 pub returns-clause-sound : goal.returns-clause-sound
-returns-clause-sound g c = let (u, i, h) = c.module-state.ensures.answers in rw (← (kept_is _ _ _ _ (sym c.take.ensures.value ∙ c.unwrap-state.ensures) c.self.view_is)) ((u, i, modules.sound _ view_module c.self.inside.limit c.unwrap-state.result u i c.module-state.result.1 c.module-state.result.0 h))
+returns-clause-sound g c = let (u, i, h) = c.module-state.ensures.answers in rw (← (kept_is _ _ _ _ (sym c.take.ensures.value ∙ c.unwrap-state.ensures) c.self.view_is)) ((u, i, modules.sound _ view_module c.self.inside.limit (seen c.unwrap-state.result) u i c.module-state.result.1 (seen c.module-state.result.0) h))
 
 pub returns-clause-complete : goal.returns-clause-complete
-returns-clause-complete g c = let (u, i, h) = c.module-state.ensures.answers in subst (λ (p : Parsing). (w : State) × IsEntered (unmarked p.state) w × CompletesModule view_module p.limit w c.module-state.result.1 c.module-state.result.0) (kept_is _ _ _ _ (sym c.take.ensures.value ∙ c.unwrap-state.ensures) c.self.view_is) ((u, i, module_completes _ view_module c.self.inside.limit c.unwrap-state.result u c.module-state.result.1 c.module-state.result.0 i h))
+returns-clause-complete g c = let (u, i, h) = c.module-state.ensures.answers in subst (λ (p : Parsing). (w : State) × IsEntered (unmarked p.state) w × CompletesModule view_module p.limit w c.module-state.result.1 (seen c.module-state.result.0)) (kept_is _ _ _ _ (sym c.take.ensures.value ∙ c.unwrap-state.ensures) c.self.view_is) ((u, i, module_completes _ view_module c.self.inside.limit (seen c.unwrap-state.result) u c.module-state.result.1 (seen c.module-state.result.0) i h))
 
 pub returns-clause-fits : goal.returns-clause-fits
-returns-clause-fits g c = let (u, i, h) = c.module-state.ensures.answers in rw (← (kept_is _ _ _ _ (sym c.take.ensures.value ∙ c.unwrap-state.ensures) c.self.view_is)) (modules.fits _ view_module c.self.inside.limit c.unwrap-state.result u i c.module-state.result.1 c.module-state.result.0 h)
+returns-clause-fits g c = let (u, i, h) = c.module-state.ensures.answers in rw (← (kept_is _ _ _ _ (sym c.take.ensures.value ∙ c.unwrap-state.ensures) c.self.view_is)) (modules.fits _ view_module c.self.inside.limit (seen c.unwrap-state.result) u i c.module-state.result.1 (seen c.module-state.result.0) h)
 
 pub returns-clause-error_token : goal.returns-clause-error_token
-returns-clause-error_token g c = let (u, i, h) = c.module-state.ensures.answers in rw (← (kept_is _ _ _ _ (sym c.take.ensures.value ∙ c.unwrap-state.ensures) c.self.view_is)) (modules.of_error_token _ view_module c.self.inside.limit c.unwrap-state.result u i c.module-state.result.1 c.module-state.result.0 h)
+returns-clause-error_token g c = let (u, i, h) = c.module-state.ensures.answers in rw (← (kept_is _ _ _ _ (sym c.take.ensures.value ∙ c.unwrap-state.ensures) c.self.view_is)) (modules.of_error_token _ view_module c.self.inside.limit (seen c.unwrap-state.result) u i c.module-state.result.1 (seen c.module-state.result.0) h)
 
 pub returns-clause-stays : goal.returns-clause-stays
-returns-clause-stays g c = let (u, i, h) = c.module-state.ensures.answers in rw (← (kept_is _ _ _ _ (sym c.take.ensures.value ∙ c.unwrap-state.ensures) c.self.view_is)) (modules.stays _ view_module c.self.inside.limit c.unwrap-state.result u i c.module-state.result.1 c.module-state.result.0 h)
+returns-clause-stays g c = let (u, i, h) = c.module-state.ensures.answers in rw (← (kept_is _ _ _ _ (sym c.take.ensures.value ∙ c.unwrap-state.ensures) c.self.view_is)) (modules.stays _ view_module c.self.inside.limit (seen c.unwrap-state.result) u i c.module-state.result.1 (seen c.module-state.result.0) h)
 
 pub returns-clause-decides : goal.returns-clause-decides
-returns-clause-decides g c = let (u, i, h) = c.module-state.ensures.answers in rw (← (kept_is _ _ _ _ (sym c.take.ensures.value ∙ c.unwrap-state.ensures) c.self.view_is)) (λ from ordered. (u, i, module_decided _ view_module c.self.inside.limit c.unwrap-state.result u c.module-state.result.1 c.module-state.result.0 from ordered i h))
+returns-clause-decides g c = let (u, i, h) = c.module-state.ensures.answers in rw (← (kept_is _ _ _ _ (sym c.take.ensures.value ∙ c.unwrap-state.ensures) c.self.view_is)) (λ from ordered. (u, i, module_decided _ view_module c.self.inside.limit (seen c.unwrap-state.result) u c.module-state.result.1 (seen c.module-state.result.0) from ordered i h))
 
 pub returns-clause-forward : goal.returns-clause-forward
-returns-clause-forward g c = let (u, i, h) = c.module-state.ensures.answers in rw (← (kept_is _ _ _ _ (sym c.take.ensures.value ∙ c.unwrap-state.ensures) c.self.view_is)) (λ o. module_answers_forward _ view_module c.self.inside.limit u (ap in_order i.at ∙ o) c.module-state.result.1 c.module-state.result.0 h)
+returns-clause-forward g c = let (u, i, h) = c.module-state.ensures.answers in rw (← (kept_is _ _ _ _ (sym c.take.ensures.value ∙ c.unwrap-state.ensures) c.self.view_is)) (λ o. module_answers_forward _ view_module c.self.inside.limit u (ap in_order i.at ∙ o) c.module-state.result.1 (seen c.module-state.result.0) h)
 
 pub returns-clause-items_in_order : goal.returns-clause-items_in_order
 returns-clause-items_in_order g c = let (u, i, h) = c.module-state.ensures.answers in rw (← (kept_is _ _ _ _ (sym c.take.ensures.value ∙ c.unwrap-state.ensures) c.self.view_is)) (λ o. module_items_in_order _ view_module c.self.inside.limit u (ap in_order i.at ∙ o) c.module-state.result.1 c.module-state.result.0 h)
 
 pub returns-clause-memory : goal.returns-clause-memory
-returns-clause-memory g c = let (u, i, h) = c.module-state.ensures.answers in rw (← (kept_is _ _ _ _ (sym c.take.ensures.value ∙ c.unwrap-state.ensures) c.self.view_is)) (lasts _ c.unwrap-state.result c.module-state.result.1 c.module-state.result.0 (scope_told c.module-state.result.1 c.module-state.result.0 (modules.sound _ view_module c.self.inside.limit c.unwrap-state.result u i c.module-state.result.1 c.module-state.result.0 h) (λ x p. ap (λ z. z.mark) (p.scope ∙ i.scope))) (modules.stays _ view_module c.self.inside.limit c.unwrap-state.result u i c.module-state.result.1 c.module-state.result.0 h) c.module-state.ensures.leaves)
+returns-clause-memory g c = let (u, i, h) = c.module-state.ensures.answers in rw (← (kept_is _ _ _ _ (sym c.take.ensures.value ∙ c.unwrap-state.ensures) c.self.view_is)) (lasts _ (seen c.unwrap-state.result) c.module-state.result.1 (seen c.module-state.result.0) (scope_told c.module-state.result.1 (seen c.module-state.result.0) (modules.sound _ view_module c.self.inside.limit (seen c.unwrap-state.result) u i c.module-state.result.1 (seen c.module-state.result.0) h) (λ x p. ap (λ z. z.mark) (p.scope ∙ i.scope))) (modules.stays _ view_module c.self.inside.limit (seen c.unwrap-state.result) u i c.module-state.result.1 (seen c.module-state.result.0) h) c.module-state.ensures.leaves)
 
 pub returns-clause-mark : goal.returns-clause-mark
-returns-clause-mark g c = let (u, i, h) = c.module-state.ensures.answers in tells _ c.unwrap-state.result c.module-state.result.1 c.module-state.result.0 (scope_told c.module-state.result.1 c.module-state.result.0 (modules.sound _ view_module c.self.inside.limit c.unwrap-state.result u i c.module-state.result.1 c.module-state.result.0 h) (λ x p. ap (λ z. z.mark) (p.scope ∙ i.scope))) c.module-state.ensures.says
+returns-clause-mark g c = let (u, i, h) = c.module-state.ensures.answers in tells _ (seen c.unwrap-state.result) c.module-state.result.1 (seen c.module-state.result.0) (scope_told c.module-state.result.1 (seen c.module-state.result.0) (modules.sound _ view_module c.self.inside.limit (seen c.unwrap-state.result) u i c.module-state.result.1 (seen c.module-state.result.0) h) (λ x p. ap (λ z. z.mark) (p.scope ∙ i.scope))) c.module-state.ensures.says
 
 pub returns-clause-walk : goal.returns-clause-walk
-returns-clause-walk g c = let (u, i, h) = c.module-state.ensures.answers in rw (← (kept_is _ _ _ _ (sym c.take.ensures.value ∙ c.unwrap-state.ensures) c.self.view_is)) (walked_told view_module (whole_module_walk c.unwrap-state.result) c.unwrap-state.result c.module-state.result.0 c.module-state.result.1 (modules.sound _ view_module c.self.inside.limit c.unwrap-state.result u i c.module-state.result.1 c.module-state.result.0 h) (λ x p added is none counts kept. module_walked c.self.inside.limit (unmarked c.unwrap-state.result) (view_module x) c.module-state.result.0 added is counts kept none u i p))
+returns-clause-walk g c = let (u, i, h) = c.module-state.ensures.answers in rw (← (kept_is _ _ _ _ (sym c.take.ensures.value ∙ c.unwrap-state.ensures) c.self.view_is)) (walked_told view_module (whole_module_walk (seen c.unwrap-state.result)) (seen c.unwrap-state.result) (seen c.module-state.result.0) c.module-state.result.1 (modules.sound _ view_module c.self.inside.limit (seen c.unwrap-state.result) u i c.module-state.result.1 (seen c.module-state.result.0) h) (λ x p added is none counts kept. module_walked c.self.inside.limit (unmarked (seen c.unwrap-state.result)) (view_module x) (seen c.module-state.result.0) added is counts kept none u i p))
 
 pub returns-clause-leaves : goal.returns-clause-leaves
 returns-clause-leaves g c = rw (← (kept_is _ _ _ _ (sym c.take.ensures.value ∙ c.unwrap-state.ensures) c.self.view_is)) (c.module-state.ensures.leaves)
 
 pub returns-clause-order : goal.returns-clause-order
-returns-clause-order g c = rw (← (kept_is _ _ _ _ (sym c.take.ensures.value ∙ c.unwrap-state.ensures) c.self.view_is)) (leaves_in_order c.unwrap-state.result c.module-state.result.0 c.module-state.ensures.leaves)
+returns-clause-order g c = rw (← (kept_is _ _ _ _ (sym c.take.ensures.value ∙ c.unwrap-state.ensures) c.self.view_is)) (leaves_in_order (seen c.unwrap-state.result) (seen c.module-state.result.0) c.module-state.ensures.leaves)
 
 pub returns-clause-refused : goal.returns-clause-refused
 returns-clause-refused g c = rw (← (kept_is _ _ _ _ (sym c.take.ensures.value ∙ c.unwrap-state.ensures) c.self.view_is)) (c.module-state.ensures.refused)
@@ -64,3 +65,6 @@ returns-clause-ahead g c = rw (← (kept_is _ _ _ _ (sym c.take.ensures.value �
 
 pub returns-clause-outright : goal.returns-clause-outright
 returns-clause-outright g c = rw (← (kept_is _ _ _ _ (sym c.take.ensures.value ∙ c.unwrap-state.ensures) c.self.view_is)) (c.module-state.ensures.outright)
+
+pub returns-clause-keeps : goal.returns-clause-keeps
+returns-clause-keeps g c = rw (← (kept_is _ _ _ _ (sym c.take.ensures.value ∙ c.unwrap-state.ensures) c.self.view_is)) (c.module-state.ensures.keeps)

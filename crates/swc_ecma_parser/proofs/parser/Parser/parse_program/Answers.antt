@@ -12,47 +12,48 @@ use Rattle.swc_ecma_parser_module_reader.specs.ProgramEntry.{program_walk}
 use Rattle.swc_ecma_parser_exactness.specs.Completes.{CompletesProgram}
 use Rattle.swc_ecma_parser.specs.Parsing.{Parsing}
 use Rattle.swc_ecma_parser_span_order.proofs.Leaves.{leaves_in_order}
+use Rattle.swc_ecma_parser_state.specs.Contents.{seen}
 use Rattle.swc_ecma_parser.proofs.Kept.{kept_is, lasts, tells, scope_told, walked_told}
 use Rattle.swc_ecma_parser.proofs.parser.Parser.parse_program.Goals as goal
 
 pub returns-clause-sound : goal.returns-clause-sound
-returns-clause-sound g c = rw (← (kept_is _ _ _ _ (sym c.take.ensures.value ∙ c.unwrap-state.ensures) c.self.view_is)) (programs.sound _ view_program c.self.inside.limit (unmarked c.unwrap-state.result) c.program-state.result.1 c.program-state.result.0 c.program-state.ensures.answers)
+returns-clause-sound g c = rw (← (kept_is _ _ _ _ (sym c.take.ensures.value ∙ c.unwrap-state.ensures) c.self.view_is)) (programs.sound _ view_program c.self.inside.limit (unmarked (seen c.unwrap-state.result)) c.program-state.result.1 (seen c.program-state.result.0) c.program-state.ensures.answers)
 
 pub returns-clause-complete : goal.returns-clause-complete
-returns-clause-complete g c = subst (λ (p : Parsing). CompletesProgram view_program p.limit (unmarked p.state) c.program-state.result.1 c.program-state.result.0) (kept_is _ _ _ _ (sym c.take.ensures.value ∙ c.unwrap-state.ensures) c.self.view_is) (program_completes _ view_program c.self.inside.limit (unmarked c.unwrap-state.result) c.program-state.result.1 c.program-state.result.0 c.program-state.ensures.answers)
+returns-clause-complete g c = subst (λ (p : Parsing). CompletesProgram view_program p.limit (unmarked p.state) c.program-state.result.1 (seen c.program-state.result.0)) (kept_is _ _ _ _ (sym c.take.ensures.value ∙ c.unwrap-state.ensures) c.self.view_is) (program_completes _ view_program c.self.inside.limit (unmarked (seen c.unwrap-state.result)) c.program-state.result.1 (seen c.program-state.result.0) c.program-state.ensures.answers)
 
 pub returns-clause-fits : goal.returns-clause-fits
-returns-clause-fits g c = rw (← (kept_is _ _ _ _ (sym c.take.ensures.value ∙ c.unwrap-state.ensures) c.self.view_is)) (answers.fits _ view_program c.self.inside.limit (unmarked c.unwrap-state.result) c.program-state.result.1 c.program-state.result.0 c.program-state.ensures.answers)
+returns-clause-fits g c = rw (← (kept_is _ _ _ _ (sym c.take.ensures.value ∙ c.unwrap-state.ensures) c.self.view_is)) (answers.fits _ view_program c.self.inside.limit (unmarked (seen c.unwrap-state.result)) c.program-state.result.1 (seen c.program-state.result.0) c.program-state.ensures.answers)
 
 pub returns-clause-error_token : goal.returns-clause-error_token
-returns-clause-error_token g c = rw (← (kept_is _ _ _ _ (sym c.take.ensures.value ∙ c.unwrap-state.ensures) c.self.view_is)) (answers.of_error_token _ view_program c.self.inside.limit (unmarked c.unwrap-state.result) c.program-state.result.1 c.program-state.result.0 c.program-state.ensures.answers)
+returns-clause-error_token g c = rw (← (kept_is _ _ _ _ (sym c.take.ensures.value ∙ c.unwrap-state.ensures) c.self.view_is)) (answers.of_error_token _ view_program c.self.inside.limit (unmarked (seen c.unwrap-state.result)) c.program-state.result.1 (seen c.program-state.result.0) c.program-state.ensures.answers)
 
 pub returns-clause-stays : goal.returns-clause-stays
-returns-clause-stays g c = rw (← (kept_is _ _ _ _ (sym c.take.ensures.value ∙ c.unwrap-state.ensures) c.self.view_is)) (answers.stays _ view_program c.self.inside.limit c.unwrap-state.result c.program-state.result.1 c.program-state.result.0 c.program-state.ensures.answers)
+returns-clause-stays g c = rw (← (kept_is _ _ _ _ (sym c.take.ensures.value ∙ c.unwrap-state.ensures) c.self.view_is)) (answers.stays _ view_program c.self.inside.limit (seen c.unwrap-state.result) c.program-state.result.1 (seen c.program-state.result.0) c.program-state.ensures.answers)
 
 pub returns-clause-decides : goal.returns-clause-decides
-returns-clause-decides g c = rw (← (kept_is _ _ _ _ (sym c.take.ensures.value ∙ c.unwrap-state.ensures) c.self.view_is)) (λ from ordered. program_decided _ view_program c.self.inside.limit (unmarked c.unwrap-state.result) c.program-state.result.1 c.program-state.result.0 from ordered c.program-state.ensures.answers)
+returns-clause-decides g c = rw (← (kept_is _ _ _ _ (sym c.take.ensures.value ∙ c.unwrap-state.ensures) c.self.view_is)) (λ from ordered. program_decided _ view_program c.self.inside.limit (unmarked (seen c.unwrap-state.result)) c.program-state.result.1 (seen c.program-state.result.0) from ordered c.program-state.ensures.answers)
 
 pub returns-clause-forward : goal.returns-clause-forward
-returns-clause-forward g c = rw (← (kept_is _ _ _ _ (sym c.take.ensures.value ∙ c.unwrap-state.ensures) c.self.view_is)) (λ o. program_answers_forward _ view_program c.self.inside.limit (unmarked c.unwrap-state.result) o c.program-state.result.1 c.program-state.result.0 c.program-state.ensures.answers)
+returns-clause-forward g c = rw (← (kept_is _ _ _ _ (sym c.take.ensures.value ∙ c.unwrap-state.ensures) c.self.view_is)) (λ o. program_answers_forward _ view_program c.self.inside.limit (unmarked (seen c.unwrap-state.result)) o c.program-state.result.1 (seen c.program-state.result.0) c.program-state.ensures.answers)
 
 pub returns-clause-items_in_order : goal.returns-clause-items_in_order
 returns-clause-items_in_order g c = rw (← (kept_is _ _ _ _ (sym c.take.ensures.value ∙ c.unwrap-state.ensures) c.self.view_is)) (λ o. program_items_in_order _ view_program c.self.inside.limit (unmarked c.unwrap-state.result) o c.program-state.result.1 c.program-state.result.0 c.program-state.ensures.answers)
 
 pub returns-clause-memory : goal.returns-clause-memory
-returns-clause-memory g c = rw (← (kept_is _ _ _ _ (sym c.take.ensures.value ∙ c.unwrap-state.ensures) c.self.view_is)) (lasts _ c.unwrap-state.result c.program-state.result.1 c.program-state.result.0 (scope_told c.program-state.result.1 c.program-state.result.0 (programs.sound _ view_program c.self.inside.limit (unmarked c.unwrap-state.result) c.program-state.result.1 c.program-state.result.0 c.program-state.ensures.answers) (λ x p. ap (λ z. z.mark) p.scope)) (answers.stays _ view_program c.self.inside.limit c.unwrap-state.result c.program-state.result.1 c.program-state.result.0 c.program-state.ensures.answers) c.program-state.ensures.leaves)
+returns-clause-memory g c = rw (← (kept_is _ _ _ _ (sym c.take.ensures.value ∙ c.unwrap-state.ensures) c.self.view_is)) (lasts _ (seen c.unwrap-state.result) c.program-state.result.1 (seen c.program-state.result.0) (scope_told c.program-state.result.1 (seen c.program-state.result.0) (programs.sound _ view_program c.self.inside.limit (unmarked (seen c.unwrap-state.result)) c.program-state.result.1 (seen c.program-state.result.0) c.program-state.ensures.answers) (λ x p. ap (λ z. z.mark) p.scope)) (answers.stays _ view_program c.self.inside.limit (seen c.unwrap-state.result) c.program-state.result.1 (seen c.program-state.result.0) c.program-state.ensures.answers) c.program-state.ensures.leaves)
 
 pub returns-clause-mark : goal.returns-clause-mark
-returns-clause-mark g c = tells _ c.unwrap-state.result c.program-state.result.1 c.program-state.result.0 (scope_told c.program-state.result.1 c.program-state.result.0 (programs.sound _ view_program c.self.inside.limit (unmarked c.unwrap-state.result) c.program-state.result.1 c.program-state.result.0 c.program-state.ensures.answers) (λ x p. ap (λ z. z.mark) p.scope)) c.program-state.ensures.says
+returns-clause-mark g c = tells _ (seen c.unwrap-state.result) c.program-state.result.1 (seen c.program-state.result.0) (scope_told c.program-state.result.1 (seen c.program-state.result.0) (programs.sound _ view_program c.self.inside.limit (unmarked (seen c.unwrap-state.result)) c.program-state.result.1 (seen c.program-state.result.0) c.program-state.ensures.answers) (λ x p. ap (λ z. z.mark) p.scope)) c.program-state.ensures.says
 
 pub returns-clause-walk : goal.returns-clause-walk
-returns-clause-walk g c = rw (← (kept_is _ _ _ _ (sym c.take.ensures.value ∙ c.unwrap-state.ensures) c.self.view_is)) (walked_told view_program (program_walk c.unwrap-state.result) c.unwrap-state.result c.program-state.result.0 c.program-state.result.1 (programs.sound _ view_program c.self.inside.limit (unmarked c.unwrap-state.result) c.program-state.result.1 c.program-state.result.0 c.program-state.ensures.answers) (λ x p added is none counts kept. program_walked c.self.inside.limit (unmarked c.unwrap-state.result) (view_program x) c.program-state.result.0 added is counts kept none p))
+returns-clause-walk g c = rw (← (kept_is _ _ _ _ (sym c.take.ensures.value ∙ c.unwrap-state.ensures) c.self.view_is)) (walked_told view_program (program_walk (seen c.unwrap-state.result)) (seen c.unwrap-state.result) (seen c.program-state.result.0) c.program-state.result.1 (programs.sound _ view_program c.self.inside.limit (unmarked (seen c.unwrap-state.result)) c.program-state.result.1 (seen c.program-state.result.0) c.program-state.ensures.answers) (λ x p added is none counts kept. program_walked c.self.inside.limit (unmarked (seen c.unwrap-state.result)) (view_program x) (seen c.program-state.result.0) added is counts kept none p))
 
 pub returns-clause-leaves : goal.returns-clause-leaves
 returns-clause-leaves g c = rw (← (kept_is _ _ _ _ (sym c.take.ensures.value ∙ c.unwrap-state.ensures) c.self.view_is)) (c.program-state.ensures.leaves)
 
 pub returns-clause-order : goal.returns-clause-order
-returns-clause-order g c = rw (← (kept_is _ _ _ _ (sym c.take.ensures.value ∙ c.unwrap-state.ensures) c.self.view_is)) (leaves_in_order c.unwrap-state.result c.program-state.result.0 c.program-state.ensures.leaves)
+returns-clause-order g c = rw (← (kept_is _ _ _ _ (sym c.take.ensures.value ∙ c.unwrap-state.ensures) c.self.view_is)) (leaves_in_order (seen c.unwrap-state.result) (seen c.program-state.result.0) c.program-state.ensures.leaves)
 
 pub returns-clause-refused : goal.returns-clause-refused
 returns-clause-refused g c = rw (← (kept_is _ _ _ _ (sym c.take.ensures.value ∙ c.unwrap-state.ensures) c.self.view_is)) (c.program-state.ensures.refused)
@@ -62,3 +63,6 @@ returns-clause-ahead g c = rw (← (kept_is _ _ _ _ (sym c.take.ensures.value �
 
 pub returns-clause-outright : goal.returns-clause-outright
 returns-clause-outright g c = rw (← (kept_is _ _ _ _ (sym c.take.ensures.value ∙ c.unwrap-state.ensures) c.self.view_is)) (c.program-state.ensures.outright)
+
+pub returns-clause-keeps : goal.returns-clause-keeps
+returns-clause-keeps g c = rw (← (kept_is _ _ _ _ (sym c.take.ensures.value ∙ c.unwrap-state.ensures) c.self.view_is)) (c.program-state.ensures.keeps)
