@@ -1,0 +1,10 @@
+//! A worked example: a tool's own type in the place of a statement, and functions that are written once for every such type.
+#![tactic(auto)]
+
+mod part;
+mod prologue;
+#[cfg(test)]
+mod tests;
+
+pub use part::Part;
+pub use prologue::{is_strict, keep};
