@@ -6,7 +6,7 @@ use Rattle.swc_ecma_parser_entries.proofs.SetBack.{program_told}
 use Rattle.swc_ecma_parser_entries.proofs.entry.program_from.Goals as goal
 
 pub returns-in-Ok-clause-answers : goal.returns-in-Ok-clause-answers
-returns-in-Ok-clause-answers g c = subst (λ z. AnswersProgram g.T.BuildsItem.program_of c.args.limit (unmarked (seen c.args.state)) (Ok c.in-Ok.program) z) (sym c.end.ensures.state) (c.in-Ok.ensures.answers (seen c.args.state) c.begin-call.ensures)
+returns-in-Ok-clause-answers g c = subst (λ z. AnswersProgram g.T.BuildsItem.program_of c.args.limit (unmarked (seen c.args.state)) (Ok c.in-Ok.program) z) (sym c.end.ensures.state) (c.in-Ok.ensures.answers (seen c.args.state) c.begin-call.ensures c.flags-outer.ensures)
 
 pub returns-in-Ok-clause-ahead : goal.returns-in-Ok-clause-ahead
 returns-in-Ok-clause-ahead g c = λ h. absurd (c.in-Ok.ensures.ahead (seen c.args.state) c.begin-call.ensures h)
