@@ -4,6 +4,8 @@ use Rattle.swc_ecma_parser_reader.specs.Entry.{unmarked}
 use Rattle.swc_ecma_parser_module_reader.proofs.Answers as modules
 use Rattle.swc_ecma_parser_exactness.proofs.Completed.{module_completes}
 use Rattle.swc_ecma_parser_exactness.proofs.Decided.{module_decided}
+use Rattle.swc_ecma_parser_input.specs.Place.{Place}
+use Rattle.swc_ecma_parser_span_order.specs.Follows.{ItemsInOrder}
 use Rattle.swc_ecma_parser_span_order.specs.Forward.{in_order}
 use Rattle.swc_ecma_parser_module_span_order.proofs.Entries.{module_answers_forward}
 use Rattle.swc_ecma_parser_module_span_order.proofs.Follows.{module_items_in_order}
@@ -40,7 +42,7 @@ pub returns-clause-forward : goal.returns-clause-forward
 returns-clause-forward g c = let (u, i, h) = c.module-state.ensures.answers in rw (← (kept_is _ _ _ _ (sym c.take.ensures.value ∙ c.unwrap-state.ensures) c.self.view_is)) (λ o. module_answers_forward _ view_module c.self.inside.limit u (ap in_order i.at ∙ o) c.module-state.result.1 (seen c.module-state.result.0) h)
 
 pub returns-clause-items_in_order : goal.returns-clause-items_in_order
-returns-clause-items_in_order g c = let (u, i, h) = c.module-state.ensures.answers in rw (← (kept_is _ _ _ _ (sym c.take.ensures.value ∙ c.unwrap-state.ensures) c.self.view_is)) (λ o. module_items_in_order _ view_module c.self.inside.limit u (ap in_order i.at ∙ o) c.module-state.result.1 c.module-state.result.0 h)
+returns-clause-items_in_order g c = let (u, i, h) = c.module-state.ensures.answers in rw (← (kept_is _ _ _ _ (sym c.take.ensures.value ∙ c.unwrap-state.ensures) c.self.view_is)) (λ o. subst (λ (a : Place). ItemsInOrder view_module a c.module-state.result.1 (seen c.module-state.result.0).at) i.at (module_items_in_order _ view_module c.self.inside.limit u (ap in_order i.at ∙ o) c.module-state.result.1 (seen c.module-state.result.0) h))
 
 pub returns-clause-memory : goal.returns-clause-memory
 returns-clause-memory g c = let (u, i, h) = c.module-state.ensures.answers in rw (← (kept_is _ _ _ _ (sym c.take.ensures.value ∙ c.unwrap-state.ensures) c.self.view_is)) (lasts _ (seen c.unwrap-state.result) c.module-state.result.1 (seen c.module-state.result.0) (scope_told c.module-state.result.1 (seen c.module-state.result.0) (modules.sound _ view_module c.self.inside.limit (seen c.unwrap-state.result) u i c.module-state.result.1 (seen c.module-state.result.0) h) (λ x p. ap (λ z. z.mark) (p.scope ∙ i.scope))) (modules.stays _ view_module c.self.inside.limit (seen c.unwrap-state.result) u i c.module-state.result.1 (seen c.module-state.result.0) h) c.module-state.ensures.leaves)

@@ -37,7 +37,7 @@ pub returns-clause-forward : goal.returns-clause-forward
 returns-clause-forward g c = rw (← (kept_is _ _ _ _ (sym c.take.ensures.value ∙ c.unwrap-state.ensures) c.self.view_is)) (λ o. item_answers_forward _ view_module_item c.self.inside.limit (unmarked (seen c.unwrap-state.result)) o c.item-state.result.1 (seen c.item-state.result.0) c.item-state.ensures.answers)
 
 pub returns-clause-items_in_order : goal.returns-clause-items_in_order
-returns-clause-items_in_order g c = rw (← (kept_is _ _ _ _ (sym c.take.ensures.value ∙ c.unwrap-state.ensures) c.self.view_is)) (λ o. item_in_order _ view_module_item c.self.inside.limit (unmarked c.unwrap-state.result) o c.item-state.result.1 c.item-state.result.0 c.item-state.ensures.answers)
+returns-clause-items_in_order g c = rw (← (kept_is _ _ _ _ (sym c.take.ensures.value ∙ c.unwrap-state.ensures) c.self.view_is)) (λ o. item_in_order _ view_module_item c.self.inside.limit (unmarked (seen c.unwrap-state.result)) o c.item-state.result.1 (seen c.item-state.result.0) c.item-state.ensures.answers)
 
 pub returns-clause-memory : goal.returns-clause-memory
 returns-clause-memory g c = rw (← (kept_is _ _ _ _ (sym c.take.ensures.value ∙ c.unwrap-state.ensures) c.self.view_is)) (lasts _ (seen c.unwrap-state.result) c.item-state.result.1 (seen c.item-state.result.0) (scope_told c.item-state.result.1 (seen c.item-state.result.0) (items.sound _ view_module_item c.self.inside.limit (unmarked (seen c.unwrap-state.result)) c.item-state.result.1 (seen c.item-state.result.0) c.item-state.ensures.answers) (λ x p. ap (λ z. z.mark) p.scope)) (items.stays _ view_module_item c.self.inside.limit (seen c.unwrap-state.result) c.item-state.result.1 (seen c.item-state.result.0) c.item-state.ensures.answers) c.item-state.ensures.leaves)

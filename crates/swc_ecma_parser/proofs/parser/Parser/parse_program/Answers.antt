@@ -38,7 +38,7 @@ pub returns-clause-forward : goal.returns-clause-forward
 returns-clause-forward g c = rw (← (kept_is _ _ _ _ (sym c.take.ensures.value ∙ c.unwrap-state.ensures) c.self.view_is)) (λ o. program_answers_forward _ view_program c.self.inside.limit (unmarked (seen c.unwrap-state.result)) o c.program-state.result.1 (seen c.program-state.result.0) c.program-state.ensures.answers)
 
 pub returns-clause-items_in_order : goal.returns-clause-items_in_order
-returns-clause-items_in_order g c = rw (← (kept_is _ _ _ _ (sym c.take.ensures.value ∙ c.unwrap-state.ensures) c.self.view_is)) (λ o. program_items_in_order _ view_program c.self.inside.limit (unmarked c.unwrap-state.result) o c.program-state.result.1 c.program-state.result.0 c.program-state.ensures.answers)
+returns-clause-items_in_order g c = rw (← (kept_is _ _ _ _ (sym c.take.ensures.value ∙ c.unwrap-state.ensures) c.self.view_is)) (λ o. program_items_in_order _ view_program c.self.inside.limit (unmarked (seen c.unwrap-state.result)) o c.program-state.result.1 (seen c.program-state.result.0) c.program-state.ensures.answers)
 
 pub returns-clause-memory : goal.returns-clause-memory
 returns-clause-memory g c = rw (← (kept_is _ _ _ _ (sym c.take.ensures.value ∙ c.unwrap-state.ensures) c.self.view_is)) (lasts _ (seen c.unwrap-state.result) c.program-state.result.1 (seen c.program-state.result.0) (scope_told c.program-state.result.1 (seen c.program-state.result.0) (programs.sound _ view_program c.self.inside.limit (unmarked (seen c.unwrap-state.result)) c.program-state.result.1 (seen c.program-state.result.0) c.program-state.ensures.answers) (λ x p. ap (λ z. z.mark) p.scope)) (answers.stays _ view_program c.self.inside.limit (seen c.unwrap-state.result) c.program-state.result.1 (seen c.program-state.result.0) c.program-state.ensures.answers) c.program-state.ensures.leaves)

@@ -38,7 +38,7 @@ pub returns-clause-forward : goal.returns-clause-forward
 returns-clause-forward g c = rw (← (kept_is _ _ _ _ (sym c.take.ensures.value ∙ c.unwrap-state.ensures) c.self.view_is)) (λ o. script_answers_forward _ view_script c.self.inside.limit (seen c.unwrap-state.result) o c.script-state.result.1 (seen c.script-state.result.0) c.script-state.ensures.answers)
 
 pub returns-clause-items_in_order : goal.returns-clause-items_in_order
-returns-clause-items_in_order g c = rw (← (kept_is _ _ _ _ (sym c.take.ensures.value ∙ c.unwrap-state.ensures) c.self.view_is)) (λ o. script_items_in_order _ view_script c.self.inside.limit c.unwrap-state.result o c.script-state.result.1 c.script-state.result.0 c.script-state.ensures.answers)
+returns-clause-items_in_order g c = rw (← (kept_is _ _ _ _ (sym c.take.ensures.value ∙ c.unwrap-state.ensures) c.self.view_is)) (λ o. script_items_in_order _ view_script c.self.inside.limit (seen c.unwrap-state.result) o c.script-state.result.1 (seen c.script-state.result.0) c.script-state.ensures.answers)
 
 pub returns-clause-memory : goal.returns-clause-memory
 returns-clause-memory g c = rw (← (kept_is _ _ _ _ (sym c.take.ensures.value ∙ c.unwrap-state.ensures) c.self.view_is)) (lasts _ (seen c.unwrap-state.result) c.script-state.result.1 (seen c.script-state.result.0) (scope_told c.script-state.result.1 (seen c.script-state.result.0) (entries.entry_sound _ view_script c.self.inside.limit (unmarked (seen c.unwrap-state.result)) c.script-state.result.1 (seen c.script-state.result.0) c.script-state.ensures.answers) (λ x p. ap (λ z. z.mark) p.scope)) (keeps.script_stays _ view_script c.self.inside.limit (seen c.unwrap-state.result) c.script-state.result.1 (seen c.script-state.result.0) c.script-state.ensures.answers) c.script-state.ensures.leaves)

@@ -38,7 +38,7 @@ pub returns-clause-forward : goal.returns-clause-forward
 returns-clause-forward g c = rw (← (kept_is _ _ _ _ (sym c.take.ensures.value ∙ c.unwrap-state.ensures) c.self.view_is)) (λ o. statement_answers_forward _ view_stmt c.self.inside.limit (seen c.unwrap-state.result) o false c.args.top_level c.statement-state.result.1 (seen c.statement-state.result.0) c.statement-state.ensures.answers)
 
 pub returns-clause-items_in_order : goal.returns-clause-items_in_order
-returns-clause-items_in_order g c = rw (← (kept_is _ _ _ _ (sym c.take.ensures.value ∙ c.unwrap-state.ensures) c.self.view_is)) (λ o. statement_in_order _ view_stmt c.self.inside.limit c.unwrap-state.result o false c.args.top_level c.statement-state.result.1 c.statement-state.result.0 c.statement-state.ensures.answers)
+returns-clause-items_in_order g c = rw (← (kept_is _ _ _ _ (sym c.take.ensures.value ∙ c.unwrap-state.ensures) c.self.view_is)) (λ o. statement_in_order _ view_stmt c.self.inside.limit (seen c.unwrap-state.result) o false c.args.top_level c.statement-state.result.1 (seen c.statement-state.result.0) c.statement-state.ensures.answers)
 
 pub returns-clause-memory : goal.returns-clause-memory
 returns-clause-memory g c = rw (← (kept_is _ _ _ _ (sym c.take.ensures.value ∙ c.unwrap-state.ensures) c.self.view_is)) (lasts _ (seen c.unwrap-state.result) c.statement-state.result.1 (seen c.statement-state.result.0) (scope_told c.statement-state.result.1 (seen c.statement-state.result.0) (statements.statement_sound _ view_stmt c.self.inside.limit false c.args.top_level (unmarked (seen c.unwrap-state.result)) c.statement-state.result.1 (seen c.statement-state.result.0) c.statement-state.ensures.answers) (λ x p. ap (λ z. z.mark) p.scope)) (keeps.statement_stays _ view_stmt c.self.inside.limit (seen c.unwrap-state.result) false c.args.top_level c.statement-state.result.1 (seen c.statement-state.result.0) c.statement-state.ensures.answers) c.statement-state.ensures.leaves)
