@@ -1,0 +1,11 @@
+s/^swc_ecma_parser_left$/swc_ecma_parser_left_sides/
+s/^swc_ecma_parser_inner$/swc_ecma_parser_shared/
+s/^swc_ecma_parser_groups$/swc_ecma_parser_parentheses/
+s/^swc_ecma_parser_core$/swc_ecma_parser_knot/
+s/^swc_ecma_parser_forward$/swc_ecma_parser_span_order/
+s/^swc_ecma_parser_module_forward$/swc_ecma_parser_module_span_order/
+s/^swc_ecma_parser_source$/swc_ecma_parser_cursor/
+s/^ecma_values$/ecma_test_values/
+s/^ecma_trees$/ecma_test_trees/
+s/^ecma_entries$/ecma_test_entries/
+s/^ecma_lexer_rows$/ecma_test_lexer/
