@@ -34,7 +34,7 @@ fn compared(alloc: Global, text: &Atom) -> [Option<bool>; 4] {
 
 /// Compares a text, and prints it.
 fn texts(alloc: Global) -> Result<([Option<bool>; 4], String), AllocError> {
-    let text = Atom::from_string(String::from_str(alloc, "a")?);
+    let text = Atom::from_string(String::from_str(alloc, "a")?)?;
     let printed = format!(in alloc; "{text}")?;
     Ok((compared(alloc, &text), printed))
 }

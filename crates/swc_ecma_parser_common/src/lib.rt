@@ -4,6 +4,7 @@
 mod atom;
 mod boxed;
 mod comment;
+mod short;
 mod span;
 
 pub use atom::Atom;

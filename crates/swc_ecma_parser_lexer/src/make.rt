@@ -90,7 +90,7 @@ fn string_token(alloc: Global, quote: char, raw: &str, span: Span) -> Result<Tok
         let raw = Atom::new(alloc, raw)?;
         Ok(Token::Str { value, raw })
     } else if is_well_escaped(quote, raw) {
-        let value = Atom::from_string(value_of(alloc, quote, raw)?);
+        let value = Atom::from_string(value_of(alloc, quote, raw)?)?;
         let raw = Atom::new(alloc, raw)?;
         Ok(Token::Str { value, raw })
     } else {
