@@ -45,6 +45,34 @@ fn texts_are_equal_where_their_characters_are(rt: HostRuntime) {
     shows(&rt, rt.alloc(), texts(rt.alloc()), wanted);
 }
 
+/// How many bytes a text has, and whether one made of it, one made of a `String` and a copy have its characters.
+fn kept(alloc: Global, text: &str) -> Result<(usize, bool), AllocError> {
+    let made = Atom::new(alloc, text)?;
+    let owned = Atom::from_string(String::from_str(alloc, text)?)?;
+    let copy = owned.try_clone()?;
+    let is_kept = made.as_str() == text && owned == made && copy == made;
+    Ok((copy.as_str().len(), is_kept))
+}
+
+#[test]
+fn texts_are_kept_at_any_length(rt: HostRuntime) {
+    let alloc = rt.alloc();
+    let found = [
+        kept(alloc, ""),
+        kept(alloc, "abcdefghijklmnopqrstuv"),
+        kept(alloc, "abcdefghijklmnopqrstuvw"),
+        kept(alloc, "abcdefghijklmnopqrst\u{e9}"),
+        kept(alloc, "abcdefghijklmnopqrstu\u{e9}"),
+        kept(
+            alloc,
+            "\u{65e5}\u{65e5}\u{65e5}\u{65e5}\u{65e5}\u{65e5}\u{65e5}\u{65e5}",
+        ),
+    ];
+    let wanted =
+        "[Ok((0, true)), Ok((22, true)), Ok((23, true)), Ok((22, true)), Ok((23, true)), Ok((24, true))]\n";
+    shows(&rt, alloc, found, wanted);
+}
+
 /// Compares a box of 5 with one more and with one of 6, and takes what it holds.
 fn boxes(alloc: Global) -> Result<(Option<bool>, Option<bool>, u32, u32), AllocError> {
     let boxed = Boxed::new(alloc, 5u32)?;
