@@ -56,7 +56,8 @@ fn of_shape<'a>(shape: &str, bytes: &str) -> Result<Command<'a>, Fault>
 
 /// The command of these words.
 fn command_of(words: &[String]) -> Result<Command<'_>, Fault>
-    ensures usage { length words.now ≢ 2 → file_asked words.now ≡ None → IsErrOf result Fault.Usage }
+    ensures usage { length words.now ≢ 2 → file_asked words.now ≡ None
+        → IsErrOf result Fault.Usage }
     ensures file { IfOk result (λ command. file_of command ≡ file_asked words.now) }
     ensures known { OnSome (file_asked words.now) (IsOk result) }
 {
@@ -82,8 +83,11 @@ fn command_of(words: &[String]) -> Result<Command<'_>, Fault>
 /// Accepts a shape and a number of bytes, or the word `file` and a name, behind which `module` may stand. A word that is not UTF-8
 /// is none of those that the program knows.
 pub fn accept(words: &io::Result<Vec<String>>) -> Result<Command<'_>, Fault>
-    ensures usage { IfOk words.now (λ words. length words.items ≢ 2 → file_asked words.items ≡ None → IsErrOf result Fault.Usage) }
-    ensures file { IfOk words.now (λ words. IfOk result (λ command. file_of command ≡ file_asked words.items)) }
+    ensures usage { IfOk words.now
+        (λ words. length words.items ≢ 2 → file_asked words.items ≡ None
+        → IsErrOf result Fault.Usage) }
+    ensures file { IfOk words.now
+        (λ words. IfOk result (λ command. file_of command ≡ file_asked words.items)) }
     ensures known { IfOk words.now (λ words. OnSome (file_asked words.items) (IsOk result)) }
 {
     match words {

@@ -73,7 +73,8 @@ fn recorded(error: &Error) -> Fault
 fn clean(answer: PResult<Program>, faults: &[Error]) -> Result<Program, Fault>
     ensures clean { IfOk result (λ program. (answer ≡ Ok program) × (faults.now ≡ [])) }
     ensures tree { IfOk answer (λ program. faults.now ≡ [] → result ≡ Ok program) }
-    ensures recorded { IfOk answer (λ _. IfSome (slice_get faults.now 0) (λ first. IsErrAnd result (TellsRecord first))) }
+    ensures recorded { IfOk answer
+        (λ _. IfSome (slice_get faults.now 0) (λ first. IsErrAnd result (TellsRecord first))) }
     ensures refused { IfErr answer (λ error. IsErrAnd result (TellsRefusal error)) }
 {
     match answer {
@@ -90,7 +91,9 @@ fn clean(answer: PResult<Program>, faults: &[Error]) -> Result<Program, Fault>
 
 /// Has a parser read a whole text. An answer with no fault beside it is exactly what the tokens spell, unless memory ran out.
 fn read<I: Tokens>(parser: &mut Parser<I>, goal: Goal) -> PResult<Program>
-    ensures script { goal ≡ Goal.Script → DecidesScript view_program parser.old.limit (unmarked parser.old.state) result parser.new.state }
+    ensures script { goal ≡ Goal.Script
+        → DecidesScript view_program parser.old.limit (unmarked parser.old.state) result
+        parser.new.state }
     ensures module { goal ≡ Goal.Module → (from : ℕ) → Ordered from parser.old.state.at → (u : State) × IsEntered (unmarked parser.old.state) u
         × DecidesModule view_program parser.old.limit u result parser.new.state }
 {
@@ -110,7 +113,8 @@ fn read<I: Tokens>(parser: &mut Parser<I>, goal: Goal) -> PResult<Program>
 /// it as the answer, unless the text is too long or memory runs out.
 pub fn parse(alloc: Global, text: &str, goal: Goal) -> Result<Program, Fault>
     ensures clean { IfOk result (λ program. figures.SpellsAs goal text.now (view_program program)) }
-    ensures spelled { (x : Tree) → figures.SpellsAs goal text.now x → MatchResult result (λ program. x ≡ view_program program) TellsWant }
+    ensures spelled { (x : Tree) → figures.SpellsAs goal text.now x
+        → MatchResult result (λ program. x ≡ view_program program) TellsWant }
 {
     let input = input_of(text)?;
     let mut parser = Parser::new(alloc, Syntax::default(), input, false);

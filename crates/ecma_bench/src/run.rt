@@ -17,8 +17,12 @@ fn answer<R: Files + CpuClock + AllocGlobal, W: Write>(
     words: &io::Result<Vec<String>>,
     output: &mut W,
 ) -> Result<(), Fault>
-    ensures usage { IfOk words.now (λ words. length words.items ≢ 2 → file_asked words.items ≡ None → IsErrOf result Fault.Usage) }
-    ensures unwritten { IfOk words.now (λ words. length words.items ≢ 2 → file_asked words.items ≡ None → output.new ≡ output.old) }
+    ensures usage { IfOk words.now
+        (λ words. length words.items ≢ 2 → file_asked words.items ≡ None
+        → IsErrOf result Fault.Usage) }
+    ensures unwritten { IfOk words.now
+        (λ words. length words.items ≢ 2 → file_asked words.items ≡ None → output.new
+        ≡ output.old) }
 {
     let report = measure(rt, accept(words)?)?;
     if writeln!(output, "{report}").is_err() || output.flush().is_err() {
@@ -48,8 +52,11 @@ pub fn run<R: Files + CpuClock + AllocGlobal, W: Write, E: Write>(
     errors: &mut E,
 ) -> u8
     ensures status { result ≤ 2 }
-    ensures usage { IfOk words.now (λ words. length words.items ≢ 2 → file_asked words.items ≡ None → result ≡ 2) }
-    ensures unwritten { IfOk words.now (λ words. length words.items ≢ 2 → file_asked words.items ≡ None → output.new ≡ output.old) }
+    ensures usage { IfOk words.now
+        (λ words. length words.items ≢ 2 → file_asked words.items ≡ None → result ≡ 2) }
+    ensures unwritten { IfOk words.now
+        (λ words. length words.items ≢ 2 → file_asked words.items ≡ None → output.new
+        ≡ output.old) }
 {
     let outcome = answer(rt, words, output);
     if let Err(fault) = outcome {

@@ -35,10 +35,14 @@ fn goal_asked(words: &[String]) -> Option<Goal>
 /// What the words ask for. A word that is not UTF-8 is none of those that the program knows.
 pub fn accept(words: &io::Result<Vec<String>>) -> Result<Goal, Fault>
     ensures ok { IfOk result (λ goal. IsOkAnd words.now (λ words. asked words.items ≡ Some goal)) }
-    ensures known { IfOk words.now (λ words. (goal : _) → asked words.items ≡ Some goal → result ≡ Ok goal) }
-    ensures usage { IfOk words.now (λ words. asked words.items ≡ None → IsErrOf result Fault.Usage) }
-    ensures memory { IfErr words.now (λ e. error_kind e ≡ ErrorKind.OutOfMemory → IsErrOf result Fault.OutOfMemory) }
-    ensures other { IfErr words.now (λ e. error_kind e ≢ ErrorKind.OutOfMemory → IsErrOf result Fault.Usage) }
+    ensures known { IfOk words.now
+        (λ words. (goal : _) → asked words.items ≡ Some goal → result ≡ Ok goal) }
+    ensures usage { IfOk words.now
+        (λ words. asked words.items ≡ None → IsErrOf result Fault.Usage) }
+    ensures memory { IfErr words.now
+        (λ e. error_kind e ≡ ErrorKind.OutOfMemory → IsErrOf result Fault.OutOfMemory) }
+    ensures other { IfErr words.now
+        (λ e. error_kind e ≢ ErrorKind.OutOfMemory → IsErrOf result Fault.Usage) }
 {
     match words {
         Ok(words) => goal_asked(words.as_slice()).ok_or(Fault::Usage),

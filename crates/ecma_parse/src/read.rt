@@ -14,8 +14,10 @@ const CHUNK: usize = 8192;
 /// One read, repeated where a signal interrupts it.
 fn read_once<R: Read>(reader: &mut R, chunk: &mut [u8]) -> Result<usize, Fault>
     ensures bound { ReadsAtMost result chunk.new }
-    ensures ok { IfOk result (λ n. Consumes (R.remaining reader.old) (R.remaining reader.new) (take n chunk.new)) }
-    ensures end { IfOk result (λ n. n ≡ 0 → 0 < length chunk.old → IsAtEnd (R.remaining reader.new)) }
+    ensures ok { IfOk result
+        (λ n. Consumes (R.remaining reader.old) (R.remaining reader.new) (take n chunk.new)) }
+    ensures end { IfOk result
+        (λ n. n ≡ 0 → 0 < length chunk.old → IsAtEnd (R.remaining reader.new)) }
     ensures err { IfErr result (λ fault. fault ≡ Fault.CannotRead) }
 {
     for _ in 0..u64::MAX {
@@ -35,8 +37,10 @@ fn read_once<R: Read>(reader: &mut R, chunk: &mut [u8]) -> Result<usize, Fault>
 pub fn read_all<R: Read>(alloc: Global, greatest: u32, reader: &mut R) -> Result<Vec<u8>, Fault>
     ensures fits { IfOk result (λ bytes. vec_len bytes ≤ greatest) }
     ensures end { OnOk result (IsAtEnd (R.remaining reader.new)) }
-    ensures long { IsErrOf result Fault.TooLong → IfSome (R.remaining reader.old) (λ xs. greatest < length xs) }
-    ensures whole { IfOk result (λ bytes. IfSome (R.remaining reader.old) (λ xs. bytes.items ≡ xs)) }
+    ensures long { IsErrOf result Fault.TooLong
+        → IfSome (R.remaining reader.old) (λ xs. greatest < length xs) }
+    ensures whole { IfOk result
+        (λ bytes. IfSome (R.remaining reader.old) (λ xs. bytes.items ≡ xs)) }
 {
     let mut bytes = Vec::new(alloc);
     let mut chunk = [0u8; CHUNK];

@@ -35,9 +35,11 @@ fn answer<R: Read, W: Write>(
     input: &mut R,
     output: &mut W,
 ) -> Result<Verdict, Fault>
-    ensures usage { IfOk words.now (λ words. asked words.items ≡ None → IsErrOf result Fault.Usage) }
+    ensures usage { IfOk words.now
+        (λ words. asked words.items ≡ None → IsErrOf result Fault.Usage) }
     ensures unread { IfOk words.now (λ words. asked words.items ≡ None → input.new ≡ input.old) }
-    ensures unwritten { IfOk words.now (λ words. asked words.items ≡ None → output.new ≡ output.old) }
+    ensures unwritten { IfOk words.now
+        (λ words. asked words.items ≡ None → output.new ≡ output.old) }
     ensures fits { OnOk result (IfSome (R.remaining input.old) (λ xs. length xs ≤ greatest)) }
     ensures utf8 { OnOk result (IfSome (R.remaining input.old) IsUtf8) }
     ensures end { OnOk result (IsAtEnd (R.remaining input.new)) }

@@ -75,8 +75,11 @@ fn reported<T: Whole>(
     answer: &PResult<T>,
     faults: &[Error],
 ) -> Result<Report, AllocError>
-    ensures verdict { IfOk result (λ report. report.verdict ≡ verdict_of (seen T.view_of answer.now) (faults_of faults.now)) }
-    ensures lines { IfOk result (λ report. string_bytes report.lines ≡ answer_lines (seen T.view_of answer.now) (faults_of faults.now)) }
+    ensures verdict { IfOk result
+        (λ report. report.verdict ≡ verdict_of (seen T.view_of answer.now) (faults_of faults.now)) }
+    ensures lines { IfOk result
+        (λ report. string_bytes report.lines
+        ≡ answer_lines (seen T.view_of answer.now) (faults_of faults.now)) }
     ensures found { IfOk result (λ _. IfErr answer.now (λ error. ¬ IsOutOfMemory error)) }
 {
     if lacks_memory(answer) {
@@ -102,8 +105,11 @@ fn finished<I: Tokens, T: Whole>(
     parser: &mut Parser<I>,
     answer: PResult<T>,
 ) -> Result<Report, AllocError>
-    ensures verdict { IfOk result (λ report. report.verdict ≡ verdict_of (seen T.view_of answer) parser.old.state.faults) }
-    ensures lines { IfOk result (λ report. string_bytes report.lines ≡ answer_lines (seen T.view_of answer) parser.old.state.faults) }
+    ensures verdict { IfOk result
+        (λ report. report.verdict ≡ verdict_of (seen T.view_of answer) parser.old.state.faults) }
+    ensures lines { IfOk result
+        (λ report. string_bytes report.lines
+        ≡ answer_lines (seen T.view_of answer) parser.old.state.faults) }
     ensures found { IfOk result (λ _. IfErr answer (λ error. ¬ IsOutOfMemory error)) }
 {
     let faults = parser.take_errors();

@@ -62,7 +62,8 @@ pub(crate) fn write_node(out: &mut String, kind: &str, span: Span) -> Result<(),
 
 /// Writes a line of a word, a fault's place and the name of its kind.
 fn write_fault(out: &mut String, word: &str, error: &Error) -> Result<(), AllocError>
-    ensures { OnOk result (string_bytes out.new ≡ string_bytes out.old ++ fault_line word.now (fault_of error.now)) }
+    ensures { OnOk result
+        (string_bytes out.new ≡ string_bytes out.old ++ fault_line word.now (fault_of error.now)) }
 {
     let low = error.span.lo.0;
     let high = error.span.hi.0;
@@ -72,7 +73,8 @@ fn write_fault(out: &mut String, word: &str, error: &Error) -> Result<(), AllocE
 
 /// Writes an item's line.
 fn write_item(out: &mut String, item: &Stmt) -> Result<(), AllocError>
-    ensures { OnOk result (string_bytes out.new ≡ string_bytes out.old ++ item_line (view_stmt item.now)) }
+    ensures { OnOk result
+        (string_bytes out.new ≡ string_bytes out.old ++ item_line (view_stmt item.now)) }
 {
     out.push_str("  ")?;
     write_node(out, kind_name(item), item.span())
@@ -80,7 +82,9 @@ fn write_item(out: &mut String, item: &Stmt) -> Result<(), AllocError>
 
 /// Writes a line for each item.
 fn write_items(out: &mut String, items: &[Stmt]) -> Result<(), AllocError>
-    ensures { OnOk result (string_bytes out.new ≡ string_bytes out.old ++ item_lines (trees (map view_stmt items.now))) }
+    ensures { OnOk result
+        (string_bytes out.new ≡ string_bytes out.old
+        ++ item_lines (trees (map view_stmt items.now))) }
 {
     for item in items {
         write_item(out, item)?;
@@ -90,7 +94,9 @@ fn write_items(out: &mut String, items: &[Stmt]) -> Result<(), AllocError>
 
 /// Writes a line for each fault.
 fn write_faults(out: &mut String, faults: &[Error]) -> Result<(), AllocError>
-    ensures { OnOk result (string_bytes out.new ≡ string_bytes out.old ++ flat_map (fault_line (codes "fault")) (faults_of faults.now)) }
+    ensures { OnOk result
+        (string_bytes out.new ≡ string_bytes out.old
+        ++ flat_map (fault_line (codes "fault")) (faults_of faults.now)) }
 {
     for fault in faults {
         write_fault(out, "fault", fault)?;
@@ -125,7 +131,8 @@ impl Whole for Script {
 
 /// The lines of a tree and of the faults beside it.
 fn tree_lines<T: Whole>(alloc: Global, tree: &T, faults: &[Error]) -> Result<String, AllocError>
-    ensures { IfOk result (λ out. string_bytes out ≡ answer_lines (Ok (T.view_of tree.now)) (faults_of faults.now)) }
+    ensures { IfOk result
+        (λ out. string_bytes out ≡ answer_lines (Ok (T.view_of tree.now)) (faults_of faults.now)) }
 {
     let mut out = String::new(alloc);
     tree.write(&mut out)?;
@@ -135,7 +142,8 @@ fn tree_lines<T: Whole>(alloc: Global, tree: &T, faults: &[Error]) -> Result<Str
 
 /// The lines of the faults, and of why there is no tree.
 fn refusal_lines(alloc: Global, error: &Error, faults: &[Error]) -> Result<String, AllocError>
-    ensures { IfOk result (λ out. string_bytes out ≡ answer_lines (Err (fault_of error.now)) (faults_of faults.now)) }
+    ensures { IfOk result
+        (λ out. string_bytes out ≡ answer_lines (Err (fault_of error.now)) (faults_of faults.now)) }
 {
     let mut out = String::new(alloc);
     write_faults(&mut out, faults)?;
@@ -149,7 +157,9 @@ pub(crate) fn lines<T: Whole>(
     answer: &PResult<T>,
     faults: &[Error],
 ) -> Result<String, AllocError>
-    ensures { IfOk result (λ out. string_bytes out ≡ answer_lines (seen T.view_of answer.now) (faults_of faults.now)) }
+    ensures { IfOk result
+        (λ out. string_bytes out
+        ≡ answer_lines (seen T.view_of answer.now) (faults_of faults.now)) }
 {
     match answer {
         Ok(tree) => tree_lines(alloc, tree, faults),
@@ -159,7 +169,9 @@ pub(crate) fn lines<T: Whole>(
 
 /// The lines of a statement and of the faults beside it.
 fn lines_of_item(alloc: Global, item: &Stmt, faults: &[Error]) -> Result<String, AllocError>
-    ensures { IfOk result (λ out. string_bytes out ≡ statement_lines (Ok (view_stmt item.now)) (faults_of faults.now)) }
+    ensures { IfOk result
+        (λ out. string_bytes out
+        ≡ statement_lines (Ok (view_stmt item.now)) (faults_of faults.now)) }
 {
     let mut out = String::new(alloc);
     write_item(&mut out, item)?;
@@ -173,7 +185,9 @@ pub fn lines_of_statement(
     answer: &PResult<Stmt>,
     faults: &[Error],
 ) -> Result<String, AllocError>
-    ensures { IfOk result (λ out. string_bytes out ≡ statement_lines (seen view_stmt answer.now) (faults_of faults.now)) }
+    ensures { IfOk result
+        (λ out. string_bytes out
+        ≡ statement_lines (seen view_stmt answer.now) (faults_of faults.now)) }
 {
     match answer {
         Ok(item) => lines_of_item(alloc, item, faults),

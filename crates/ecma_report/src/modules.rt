@@ -47,7 +47,8 @@ fn item_kind(item: &ModuleItem) -> &'static str
 
 /// Writes an item's line.
 pub(crate) fn write_item(out: &mut String, item: &ModuleItem) -> Result<(), AllocError>
-    ensures { OnOk result (string_bytes out.new ≡ string_bytes out.old ++ item_line (view_module_item item.now)) }
+    ensures { OnOk result
+        (string_bytes out.new ≡ string_bytes out.old ++ item_line (view_module_item item.now)) }
 {
     out.push_str("  ")?;
     write_node(out, item_kind(item), item.span())
@@ -55,7 +56,9 @@ pub(crate) fn write_item(out: &mut String, item: &ModuleItem) -> Result<(), Allo
 
 /// Writes a line for each item.
 fn write_items(out: &mut String, items: &[ModuleItem]) -> Result<(), AllocError>
-    ensures { OnOk result (string_bytes out.new ≡ string_bytes out.old ++ item_lines (trees (map view_module_item items.now))) }
+    ensures { OnOk result
+        (string_bytes out.new ≡ string_bytes out.old
+        ++ item_lines (trees (map view_module_item items.now))) }
 {
     for item in items {
         write_item(out, item)?;

@@ -19,8 +19,11 @@ use swc_ecma_parser::input::Tokens;
 
 /// Reads one statement, which may be a declaration or not.
 fn statement<I: Tokens>(parser: &mut Parser<I>, may_declare: bool, top_level: bool) -> PResult<Stmt>
-    ensures sound { IfOk result (λ x. SoundStatement parser.old.limit may_declare top_level (unmarked parser.old.state) (view_stmt x) parser.new.state) }
-    ensures complete { CompletesStatement view_stmt parser.old.limit may_declare top_level (unmarked parser.old.state) result parser.new.state }
+    ensures sound { IfOk result
+        (λ x. SoundStatement parser.old.limit may_declare top_level (unmarked parser.old.state)
+        (view_stmt x) parser.new.state) }
+    ensures complete { CompletesStatement view_stmt parser.old.limit may_declare top_level
+        (unmarked parser.old.state) result parser.new.state }
 {
     if may_declare {
         return parser.parse_stmt_list_item(top_level);

@@ -43,7 +43,9 @@ pub(crate) fn texts<T: Whole + Debug>(
     answer: &PResult<T>,
     faults: &[Error],
 ) -> Result<Shown, AllocError>
-    ensures { IfOk result (λ shown. string_bytes shown.lines ≡ answer_lines (seen T.view_of answer.now) (faults_of faults.now)) }
+    ensures { IfOk result
+        (λ shown. string_bytes shown.lines
+        ≡ answer_lines (seen T.view_of answer.now) (faults_of faults.now)) }
 {
     Ok(Shown {
         lines: lines(alloc, answer, faults)?,

@@ -33,7 +33,8 @@ pub fn keep<T: Trees, Y: FromStmt<T> + Drop>(
     items: &mut Vec<Y>,
     stmt: T::Stmt,
 ) -> PResult<()>
-    ensures holds { OnOk result (map Y.held items.new.items ≡ map Y.held items.old.items ++ T.stmt_of stmt ∷ []) }
+    ensures holds { OnOk result
+        (map Y.held items.new.items ≡ map Y.held items.old.items ++ T.stmt_of stmt ∷ []) }
     ensures err { IfErr result IsOutOfMemory }
 {
     let item = Y::from_stmt(alloc, stmt)?;

@@ -63,7 +63,8 @@ impl<I: Tokens> Tokens for Counting<I> {
     }
 
     fn set_ctx(&mut self, context: Context)
-        ensures source { I.seen self.new.input ≡ source.with_context context (I.seen self.old.input) }
+        ensures source { I.seen self.new.input
+            ≡ source.with_context context (I.seen self.old.input) }
         ensures counts { self.new ≡ record self.old { input = self.new.input } }
     {
         self.input.set_ctx(context);
@@ -82,8 +83,10 @@ impl<I: Tokens> Tokens for Counting<I> {
     }
 
     fn add_error(&mut self, error: Error) -> PResult<()>
-        ensures ok { OnOk result (I.seen self.new.input ≡ source.recording error (I.seen self.old.input)) }
-        ensures err { IfErr result (λ e. IsOutOfMemory e × (I.seen self.new.input ≡ I.seen self.old.input)) }
+        ensures ok { OnOk result
+            (I.seen self.new.input ≡ source.recording error (I.seen self.old.input)) }
+        ensures err { IfErr result
+            (λ e. IsOutOfMemory e × (I.seen self.new.input ≡ I.seen self.old.input)) }
         ensures place { IfErr result (λ e. e.span ≡ source.at_start (I.seen self.old.input)) }
         ensures counts { self.new ≡ record self.old { input = self.new.input } }
     {
@@ -91,8 +94,10 @@ impl<I: Tokens> Tokens for Counting<I> {
     }
 
     fn add_module_mode_error(&mut self, error: Error) -> PResult<()>
-        ensures ok { OnOk result (I.seen self.new.input ≡ source.holding_back error (I.seen self.old.input)) }
-        ensures err { IfErr result (λ e. IsOutOfMemory e × (I.seen self.new.input ≡ I.seen self.old.input)) }
+        ensures ok { OnOk result
+            (I.seen self.new.input ≡ source.holding_back error (I.seen self.old.input)) }
+        ensures err { IfErr result
+            (λ e. IsOutOfMemory e × (I.seen self.new.input ≡ I.seen self.old.input)) }
         ensures place { IfErr result (λ e. e.span ≡ source.at_start (I.seen self.old.input)) }
         ensures counts { self.new ≡ record self.old { input = self.new.input } }
     {

@@ -14,7 +14,8 @@ use swc_ecma_parser_input::Tokens;
 /// A script. Unless memory ran out, a tree is answered with nothing recorded exactly where the source's tokens spell it within
 /// the limit; so at most one is spelled.
 pub fn read_script<I: Tokens>(alloc: Global, input: I, limit: u32) -> (PResult<Script>, Vec<Error>)
-    ensures { Headline view_script programs.script limit (I.seen input) result.0 (faults_of result.1.items) }
+    ensures { Headline view_script programs.script limit (I.seen input) result.0
+        (faults_of result.1.items) }
 {
     let mut parser = Parser::new_from_limited(alloc, input, limit);
     let answer = parser.parse_script();
@@ -24,7 +25,8 @@ pub fn read_script<I: Tokens>(alloc: Global, input: I, limit: u32) -> (PResult<S
 
 /// The same of a module.
 pub fn read_module<I: Tokens>(alloc: Global, input: I, limit: u32) -> (PResult<Module>, Vec<Error>)
-    ensures { Headline view_module programs.«module» limit (I.seen input) result.0 (faults_of result.1.items) }
+    ensures { Headline view_module programs.«module» limit (I.seen input) result.0
+        (faults_of result.1.items) }
 {
     let mut parser = Parser::new_from_limited(alloc, input, limit);
     let answer = parser.parse_module();
@@ -38,7 +40,8 @@ pub fn read_program<I: Tokens>(
     input: I,
     limit: u32,
 ) -> (PResult<Program>, Vec<Error>)
-    ensures { Headline view_program programs.program limit (I.seen input) result.0 (faults_of result.1.items) }
+    ensures { Headline view_program programs.program limit (I.seen input) result.0
+        (faults_of result.1.items) }
 {
     let mut parser = Parser::new_from_limited(alloc, input, limit);
     let answer = parser.parse_program();
@@ -52,7 +55,8 @@ pub fn read_module_item<I: Tokens>(
     input: I,
     limit: u32,
 ) -> (PResult<ModuleItem>, Vec<Error>)
-    ensures { Headline view_module_item programs.module_item limit (I.seen input) result.0 (faults_of result.1.items) }
+    ensures { Headline view_module_item programs.module_item limit (I.seen input) result.0
+        (faults_of result.1.items) }
 {
     let mut parser = Parser::new_from_limited(alloc, input, limit);
     let answer = parser.parse_module_item();
@@ -67,7 +71,8 @@ pub fn read_stmt<I: Tokens>(
     limit: u32,
     top_level: bool,
 ) -> (PResult<Stmt>, Vec<Error>)
-    ensures { Headline view_stmt (programs.stmt top_level) limit (I.seen input) result.0 (faults_of result.1.items) }
+    ensures { Headline view_stmt (programs.stmt top_level) limit (I.seen input) result.0
+        (faults_of result.1.items) }
 {
     let mut parser = Parser::new_from_limited(alloc, input, limit);
     let answer = parser.parse_stmt(top_level);
@@ -82,7 +87,8 @@ pub fn read_stmt_list_item<I: Tokens>(
     limit: u32,
     top_level: bool,
 ) -> (PResult<Stmt>, Vec<Error>)
-    ensures { Headline view_stmt (programs.stmt_list_item top_level) limit (I.seen input) result.0 (faults_of result.1.items) }
+    ensures { Headline view_stmt (programs.stmt_list_item top_level) limit (I.seen input) result.0
+        (faults_of result.1.items) }
 {
     let mut parser = Parser::new_from_limited(alloc, input, limit);
     let answer = parser.parse_stmt_list_item(top_level);

@@ -72,10 +72,13 @@ impl<I: Tokens> Parser<I> {
     /// A parser of what a source hands out, whose trees nest at most 1,000 levels deep. It takes no memory.
     pub fn new_from(alloc: Global, input: I) -> Parser<I>
         ensures limit { result.limit ≡ 1000 }
-        ensures kept { result.state ≡ record (opened (I.seen input)) { at = place.outset (I.seen input).start result.state.at.left } }
+        ensures kept { result.state
+            ≡ record (opened (I.seen input))
+            { at = place.outset (I.seen input).start result.state.at.left } }
 
         // The source's own lists, whole; where its code is a module's, what it held back is recorded.
-        ensures source { result.source ≡ record (source_of (fresh (I.seen input))) { left = drop 2 result.state.at.left } }
+        ensures source { result.source
+            ≡ record (source_of (fresh (I.seen input))) { left = drop 2 result.state.at.left } }
         ensures left { place.lacks_memory (place.first result.state.at.left) ≡ false
             → place.lacks_memory (place.second result.state.at.left) ≡ false → result.state ≡ opened (I.seen input) }
         ensures in_order { place.lacks_memory (place.first result.state.at.left) ≡ false
@@ -88,10 +91,13 @@ impl<I: Tokens> Parser<I> {
     /// The same with this limit.
     pub fn new_from_limited(alloc: Global, input: I, limit: u32) -> Parser<I>
         ensures limit { result.limit ≡ limit }
-        ensures kept { result.state ≡ record (opened (I.seen input)) { at = place.outset (I.seen input).start result.state.at.left } }
+        ensures kept { result.state
+            ≡ record (opened (I.seen input))
+            { at = place.outset (I.seen input).start result.state.at.left } }
 
         // The source's own lists, whole; where its code is a module's, what it held back is recorded.
-        ensures source { result.source ≡ record (source_of (fresh (I.seen input))) { left = drop 2 result.state.at.left } }
+        ensures source { result.source
+            ≡ record (source_of (fresh (I.seen input))) { left = drop 2 result.state.at.left } }
         ensures left { place.lacks_memory (place.first result.state.at.left) ≡ false
             → place.lacks_memory (place.second result.state.at.left) ≡ false → result.state ≡ opened (I.seen input) }
         ensures in_order { place.lacks_memory (place.first result.state.at.left) ≡ false
@@ -111,28 +117,36 @@ impl<I: Tokens> Parser<I> {
 
         // Of any answer: it takes the whole list, and its statements stand on its tokens; with no fault recorded the list
         // spells it within the limit; and its tabled faults are its walk where no error token stands and nothing was dropped.
-        ensures sound { IfOk result (λ x. SoundScript self.old.limit (unmarked self.old.state) (view_script x) self.new.state) }
+        ensures sound { IfOk result
+            (λ x. SoundScript self.old.limit (unmarked self.old.state) (view_script x)
+            self.new.state) }
 
         // Each tree within the limit that the language has for the list is the answer, and only it, with its walk recorded.
-        ensures complete { CompletesScript view_script self.old.limit (unmarked self.old.state) result self.new.state }
+        ensures complete { CompletesScript view_script self.old.limit (unmarked self.old.state)
+            result self.new.state }
 
         // Unless memory ran out: a tree is the answer, read up to a place with nothing recorded, exactly where the tokens up to there
         // spell it within the limit.
-        ensures decides { DecidesScript view_script self.old.limit (unmarked self.old.state) result self.new.state }
+        ensures decides { DecidesScript view_script self.old.limit (unmarked self.old.state) result
+            self.new.state }
 
         // Where nothing had been held back, no error token was read and nothing was dropped: the faults of the walk's kinds among
         // those that the call added are the walk.
-        ensures walk { Walked view_script (script_walk self.old.state) self.old.state result self.new.state }
+        ensures walk { Walked view_script (script_walk self.old.state) self.old.state result
+            self.new.state }
 
         // Of tokens in order, whatever is recorded: no span of an answer starts after its end, and what is left is in order.
-        ensures forward { in_order self.old.state.at ≡ true → AnswersForward view_script result self.new.state.at }
+        ensures forward { in_order self.old.state.at ≡ true
+            → AnswersForward view_script result self.new.state.at }
 
         // Of such tokens the answer begins at or behind the end of what was read last before the call, and ends at or before the end of
         // what was read last behind it; each of its items does, and ends at or before the next begins.
-        ensures items_in_order { in_order self.old.state.at ≡ true → ItemsInOrder view_script self.old.state.at result self.new.state.at }
+        ensures items_in_order { in_order self.old.state.at ≡ true
+            → ItemsInOrder view_script self.old.state.at result self.new.state.at }
 
         // Where memory ran out for one of the two tokens that are read ahead, that is the answer.
-        ensures ahead { lacks_ahead self.old.state.at ≡ true → IsErrAnd result (λ e. kind_of e.kind ≡ kinds.OutOfMemory) }
+        ensures ahead { lacks_ahead self.old.state.at ≡ true
+            → IsErrAnd result (λ e. kind_of e.kind ≡ kinds.OutOfMemory) }
 
         // Memory ran out for no token that an answer read, and for neither of the two that are read ahead of it.
         ensures memory { IfOk result (λ x. MemoryLasts self.old.state.at self.new.state.at) }
@@ -196,17 +210,21 @@ impl<I: Tokens> Parser<I> {
 
         // Where nothing had been held back, no error token was read and nothing was dropped: the faults of the walk's kinds among
         // those that the call added are the walk.
-        ensures walk { Walked view_module (whole_module_walk self.old.state) self.old.state result self.new.state }
+        ensures walk { Walked view_module (whole_module_walk self.old.state) self.old.state result
+            self.new.state }
 
         // Of tokens in order, whatever is recorded: no span of an answer starts after its end, and what is left is in order.
-        ensures forward { in_order self.old.state.at ≡ true → AnswersForward view_module result self.new.state.at }
+        ensures forward { in_order self.old.state.at ≡ true
+            → AnswersForward view_module result self.new.state.at }
 
         // Of such tokens the answer begins at or behind the end of what was read last before the call, and ends at or before the end of
         // what was read last behind it; each of its items does, and ends at or before the next begins.
-        ensures items_in_order { in_order self.old.state.at ≡ true → ItemsInOrder view_module self.old.state.at result self.new.state.at }
+        ensures items_in_order { in_order self.old.state.at ≡ true
+            → ItemsInOrder view_module self.old.state.at result self.new.state.at }
 
         // Where memory ran out for one of the two tokens that are read ahead, that is the answer.
-        ensures ahead { lacks_ahead self.old.state.at ≡ true → IsErrAnd result (λ e. kind_of e.kind ≡ kinds.OutOfMemory) }
+        ensures ahead { lacks_ahead self.old.state.at ≡ true
+            → IsErrAnd result (λ e. kind_of e.kind ≡ kinds.OutOfMemory) }
 
         // Memory ran out for no token that an answer read, and for neither of the two that are read ahead of it.
         ensures memory { IfOk result (λ x. MemoryLasts self.old.state.at self.new.state.at) }
@@ -258,30 +276,39 @@ impl<I: Tokens> Parser<I> {
 
         // Of any answer: it takes the whole list; with no fault recorded but what had been held back before, the list spells it
         // within the limit; and its tabled faults are its walk where no error token stands and nothing was dropped.
-        ensures sound { IfOk result (λ x. SoundProgram self.old.limit (unmarked self.old.state) (view_program x) self.new.state) }
+        ensures sound { IfOk result
+            (λ x. SoundProgram self.old.limit (unmarked self.old.state) (view_program x)
+            self.new.state) }
 
         // Each program within the limit that the language has for the list is the answer, and only it, with its walk recorded, and
         // with what had been held back before, if it is a module; where an export begins behind decorators, or has some on both
         // sides of its word, of tokens in order.
-        ensures complete { CompletesProgram view_program self.old.limit (unmarked self.old.state) result self.new.state }
+        ensures complete { CompletesProgram view_program self.old.limit (unmarked self.old.state)
+            result self.new.state }
 
         // The same on tokens in order, unless memory ran out: a tree is the answer, read up to a place with nothing recorded but what
         // had been held back, exactly where the tokens up to there spell it within the limit.
-        ensures decides { (from : ℕ) → Ordered from self.old.state.at → DecidesProgram view_program self.old.limit (unmarked self.old.state) result self.new.state }
+        ensures decides { (from : ℕ) → Ordered from self.old.state.at
+            → DecidesProgram view_program self.old.limit (unmarked self.old.state) result
+            self.new.state }
 
         // Where nothing had been held back, no error token was read and nothing was dropped: the faults of the walk's kinds among
         // those that the call added are the walk.
-        ensures walk { Walked view_program (program_walk self.old.state) self.old.state result self.new.state }
+        ensures walk { Walked view_program (program_walk self.old.state) self.old.state result
+            self.new.state }
 
         // Of tokens in order, whatever is recorded: no span of an answer starts after its end, and what is left is in order.
-        ensures forward { in_order self.old.state.at ≡ true → AnswersForward view_program result self.new.state.at }
+        ensures forward { in_order self.old.state.at ≡ true
+            → AnswersForward view_program result self.new.state.at }
 
         // Of such tokens the answer begins at or behind the end of what was read last before the call, and ends at or before the end of
         // what was read last behind it; each of its items does, and ends at or before the next begins.
-        ensures items_in_order { in_order self.old.state.at ≡ true → ItemsInOrder view_program self.old.state.at result self.new.state.at }
+        ensures items_in_order { in_order self.old.state.at ≡ true
+            → ItemsInOrder view_program self.old.state.at result self.new.state.at }
 
         // Where memory ran out for one of the two tokens that are read ahead, that is the answer.
-        ensures ahead { lacks_ahead self.old.state.at ≡ true → IsErrAnd result (λ e. kind_of e.kind ≡ kinds.OutOfMemory) }
+        ensures ahead { lacks_ahead self.old.state.at ≡ true
+            → IsErrAnd result (λ e. kind_of e.kind ≡ kinds.OutOfMemory) }
 
         // Memory ran out for no token that an answer read, and for neither of the two that are read ahead of it.
         ensures memory { IfOk result (λ x. MemoryLasts self.old.state.at self.new.state.at) }
@@ -333,30 +360,39 @@ impl<I: Tokens> Parser<I> {
         // Of any answer: with no fault recorded but what had been held back, and nothing held back by decorators before its word, the
         // tokens that were taken spell it within the limit, and its walk is empty; where no error token was read and nothing was
         // dropped, its tabled faults are its walk.
-        ensures sound { IfOk result (λ x. SoundItemAlone self.old.limit (unmarked self.old.state) (view_module_item x) self.new.state) }
+        ensures sound { IfOk result
+            (λ x. SoundItemAlone self.old.limit (unmarked self.old.state) (view_module_item x)
+            self.new.state) }
 
         // Each item within the limit that the language has for tokens from here on is the answer, and only it, with its walk
         // recorded, and with what had been held back, if it is an import or an export; of tokens in order, where an export begins
         // behind decorators or has some on both sides of its word.
-        ensures complete { CompletesItem view_module_item self.old.limit (unmarked self.old.state) result self.new.state }
+        ensures complete { CompletesItem view_module_item self.old.limit (unmarked self.old.state)
+            result self.new.state }
 
         // The same on tokens in order, unless memory ran out: a tree is the answer, read up to a place with nothing recorded but what
         // had been held back, exactly where the tokens up to there spell it within the limit.
-        ensures decides { (from : ℕ) → Ordered from self.old.state.at → DecidesItem view_module_item self.old.limit (unmarked self.old.state) result self.new.state }
+        ensures decides { (from : ℕ) → Ordered from self.old.state.at
+            → DecidesItem view_module_item self.old.limit (unmarked self.old.state) result
+            self.new.state }
 
         // Where nothing had been held back, no error token was read and nothing was dropped: the faults of the walk's kinds among
         // those that the call added are the walk.
-        ensures walk { Walked view_module_item (item_walk self.old.state) self.old.state result self.new.state }
+        ensures walk { Walked view_module_item (item_walk self.old.state) self.old.state result
+            self.new.state }
 
         // Of tokens in order, whatever is recorded: no span of an answer starts after its end, and what is left is in order.
-        ensures forward { in_order self.old.state.at ≡ true → AnswersForward view_module_item result self.new.state.at }
+        ensures forward { in_order self.old.state.at ≡ true
+            → AnswersForward view_module_item result self.new.state.at }
 
         // Of such tokens the answer begins at or behind the end of what was read last before the call, and ends at or before the end of
         // what was read last behind it: so the answers of calls in a row lie one behind another.
-        ensures items_in_order { in_order self.old.state.at ≡ true → ItemInOrder view_module_item self.old.state.at result self.new.state.at }
+        ensures items_in_order { in_order self.old.state.at ≡ true
+            → ItemInOrder view_module_item self.old.state.at result self.new.state.at }
 
         // Where memory ran out for one of the two tokens that are read ahead, that is the answer.
-        ensures ahead { lacks_ahead self.old.state.at ≡ true → IsErrAnd result (λ e. kind_of e.kind ≡ kinds.OutOfMemory) }
+        ensures ahead { lacks_ahead self.old.state.at ≡ true
+            → IsErrAnd result (λ e. kind_of e.kind ≡ kinds.OutOfMemory) }
 
         // Memory ran out for no token that an answer read, and for neither of the two that are read ahead of it.
         ensures memory { IfOk result (λ x. MemoryLasts self.old.state.at self.new.state.at) }
@@ -370,7 +406,9 @@ impl<I: Tokens> Parser<I> {
             → IsErrAnd result (λ e. kind_of e.kind ≢ kinds.OutOfMemory → fault_of e ≡ fault_of d) }
 
         // At the end of the list the answer is `Eof`, at the end of what was read last, whatever memory is left.
-        ensures at_end { self.old.state.at.left ≡ [] → IsErrAnd result (λ e. fault_of e ≡ reader.fault_at (reader.end_of self.old.state.at.last) kinds.Eof) }
+        ensures at_end { self.old.state.at.left ≡ []
+            → IsErrAnd result
+            (λ e. fault_of e ≡ reader.fault_at (reader.end_of self.old.state.at.last) kinds.Eof) }
         ensures refused { OnErr result (IsRestored self.old.state self.new.state) }
 
         // Whatever comes but want of memory: the tokens that are left are the last of those that were, what was read last is the
@@ -406,28 +444,36 @@ impl<I: Tokens> Parser<I> {
 
         // Of any answer: it stands on the tokens that were taken; with no fault recorded they spell it within the limit, and its walk
         // is empty; where no error token was read and nothing was dropped, its tabled faults are its walk.
-        ensures sound { IfOk result (λ x. SoundStatement self.old.limit false top_level (unmarked self.old.state) (view_stmt x) self.new.state) }
+        ensures sound { IfOk result
+            (λ x. SoundStatement self.old.limit false top_level (unmarked self.old.state)
+            (view_stmt x) self.new.state) }
 
         // Each tree within the limit that the language has for tokens from here on is the answer, and only it, with its walk recorded.
-        ensures complete { CompletesStatement view_stmt self.old.limit false top_level (unmarked self.old.state) result self.new.state }
+        ensures complete { CompletesStatement view_stmt self.old.limit false top_level
+            (unmarked self.old.state) result self.new.state }
 
         // Unless memory ran out: a tree is the answer, read up to a place with nothing recorded, exactly where the tokens up to there
         // spell it within the limit.
-        ensures decides { DecidesStatement view_stmt self.old.limit false top_level (unmarked self.old.state) result self.new.state }
+        ensures decides { DecidesStatement view_stmt self.old.limit false top_level
+            (unmarked self.old.state) result self.new.state }
 
         // Where nothing had been held back, no error token was read and nothing was dropped: the faults of the walk's kinds among
         // those that the call added are the walk.
-        ensures walk { Walked view_stmt (statement_walk self.old.state) self.old.state result self.new.state }
+        ensures walk { Walked view_stmt (statement_walk self.old.state) self.old.state result
+            self.new.state }
 
         // Of tokens in order, whatever is recorded: no span of an answer starts after its end, and what is left is in order.
-        ensures forward { in_order self.old.state.at ≡ true → AnswersForward view_stmt result self.new.state.at }
+        ensures forward { in_order self.old.state.at ≡ true
+            → AnswersForward view_stmt result self.new.state.at }
 
         // Of such tokens the answer begins at or behind the end of what was read last before the call, and ends at or before the end of
         // what was read last behind it: so the answers of calls in a row lie one behind another.
-        ensures items_in_order { in_order self.old.state.at ≡ true → ItemInOrder view_stmt self.old.state.at result self.new.state.at }
+        ensures items_in_order { in_order self.old.state.at ≡ true
+            → ItemInOrder view_stmt self.old.state.at result self.new.state.at }
 
         // Where memory ran out for one of the two tokens that are read ahead, that is the answer.
-        ensures ahead { lacks_ahead self.old.state.at ≡ true → IsErrAnd result (λ e. kind_of e.kind ≡ kinds.OutOfMemory) }
+        ensures ahead { lacks_ahead self.old.state.at ≡ true
+            → IsErrAnd result (λ e. kind_of e.kind ≡ kinds.OutOfMemory) }
 
         // Memory ran out for no token that an answer read, and for neither of the two that are read ahead of it.
         ensures memory { IfOk result (λ x. MemoryLasts self.old.state.at self.new.state.at) }
@@ -441,7 +487,9 @@ impl<I: Tokens> Parser<I> {
             → IsErrAnd result (λ e. kind_of e.kind ≢ kinds.OutOfMemory → fault_of e ≡ fault_of d) }
 
         // At the end of the list the answer is `Eof`, at the end of what was read last, whatever memory is left.
-        ensures at_end { self.old.state.at.left ≡ [] → IsErrAnd result (λ e. fault_of e ≡ reader.fault_at (reader.end_of self.old.state.at.last) kinds.Eof) }
+        ensures at_end { self.old.state.at.left ≡ []
+            → IsErrAnd result
+            (λ e. fault_of e ≡ reader.fault_at (reader.end_of self.old.state.at.last) kinds.Eof) }
         ensures refused { OnErr result (IsRestored self.old.state self.new.state) }
 
         // Whatever comes but want of memory: the tokens that are left are the last of those that were, what was read last is the
@@ -480,28 +528,36 @@ impl<I: Tokens> Parser<I> {
 
         // Of any answer: it stands on the tokens that were taken; with no fault recorded they spell it within the limit, and its walk
         // is empty; where no error token was read and nothing was dropped, its tabled faults are its walk.
-        ensures sound { IfOk result (λ x. SoundStatement self.old.limit true top_level (unmarked self.old.state) (view_stmt x) self.new.state) }
+        ensures sound { IfOk result
+            (λ x. SoundStatement self.old.limit true top_level (unmarked self.old.state)
+            (view_stmt x) self.new.state) }
 
         // Each tree within the limit that the language has for tokens from here on is the answer, and only it, with its walk recorded.
-        ensures complete { CompletesStatement view_stmt self.old.limit true top_level (unmarked self.old.state) result self.new.state }
+        ensures complete { CompletesStatement view_stmt self.old.limit true top_level
+            (unmarked self.old.state) result self.new.state }
 
         // Unless memory ran out: a tree is the answer, read up to a place with nothing recorded, exactly where the tokens up to there
         // spell it within the limit.
-        ensures decides { DecidesStatement view_stmt self.old.limit true top_level (unmarked self.old.state) result self.new.state }
+        ensures decides { DecidesStatement view_stmt self.old.limit true top_level
+            (unmarked self.old.state) result self.new.state }
 
         // Where nothing had been held back, no error token was read and nothing was dropped: the faults of the walk's kinds among
         // those that the call added are the walk.
-        ensures walk { Walked view_stmt (statement_walk self.old.state) self.old.state result self.new.state }
+        ensures walk { Walked view_stmt (statement_walk self.old.state) self.old.state result
+            self.new.state }
 
         // Of tokens in order, whatever is recorded: no span of an answer starts after its end, and what is left is in order.
-        ensures forward { in_order self.old.state.at ≡ true → AnswersForward view_stmt result self.new.state.at }
+        ensures forward { in_order self.old.state.at ≡ true
+            → AnswersForward view_stmt result self.new.state.at }
 
         // Of such tokens the answer begins at or behind the end of what was read last before the call, and ends at or before the end of
         // what was read last behind it: so the answers of calls in a row lie one behind another.
-        ensures items_in_order { in_order self.old.state.at ≡ true → ItemInOrder view_stmt self.old.state.at result self.new.state.at }
+        ensures items_in_order { in_order self.old.state.at ≡ true
+            → ItemInOrder view_stmt self.old.state.at result self.new.state.at }
 
         // Where memory ran out for one of the two tokens that are read ahead, that is the answer.
-        ensures ahead { lacks_ahead self.old.state.at ≡ true → IsErrAnd result (λ e. kind_of e.kind ≡ kinds.OutOfMemory) }
+        ensures ahead { lacks_ahead self.old.state.at ≡ true
+            → IsErrAnd result (λ e. kind_of e.kind ≡ kinds.OutOfMemory) }
 
         // Memory ran out for no token that an answer read, and for neither of the two that are read ahead of it.
         ensures memory { IfOk result (λ x. MemoryLasts self.old.state.at self.new.state.at) }
@@ -515,7 +571,9 @@ impl<I: Tokens> Parser<I> {
             → IsErrAnd result (λ e. kind_of e.kind ≢ kinds.OutOfMemory → fault_of e ≡ fault_of d) }
 
         // At the end of the list the answer is `Eof`, at the end of what was read last, whatever memory is left.
-        ensures at_end { self.old.state.at.left ≡ [] → IsErrAnd result (λ e. fault_of e ≡ reader.fault_at (reader.end_of self.old.state.at.last) kinds.Eof) }
+        ensures at_end { self.old.state.at.left ≡ []
+            → IsErrAnd result
+            (λ e. fault_of e ≡ reader.fault_at (reader.end_of self.old.state.at.last) kinds.Eof) }
         ensures refused { OnErr result (IsRestored self.old.state self.new.state) }
 
         // Whatever comes but want of memory: the tokens that are left are the last of those that were, what was read last is the
@@ -551,7 +609,9 @@ impl<I: Tokens> Parser<I> {
     /// Whether memory ran out for one of the two tokens that were read ahead, as by the functions that make a parser. A call
     /// of a parser that meets such a token is refused with `OutOfMemory`.
     pub fn lacks_memory(&self) -> bool
-        ensures { result ≡ (place.lacks_memory (place.first self.now.state.at.left) || place.lacks_memory (place.second self.now.state.at.left)) }
+        ensures { result
+            ≡ (place.lacks_memory (place.first self.now.state.at.left)
+            || place.lacks_memory (place.second self.now.state.at.left)) }
     {
         match &self.state {
             Some(state) => state.lacks_memory(),

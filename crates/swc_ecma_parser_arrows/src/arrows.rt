@@ -39,7 +39,15 @@ enum ArrowBody<B, E> {
 
 /// What stands around an expression that is a body.
 fn in_arrow(flags: Context, is_async: bool) -> Context
-    ensures { result ≡ record flags { in_function = true; in_static_block = false; is_break_allowed = false; is_continue_allowed = false; in_async = is_async; in_generator = false } }
+    ensures { result
+        ≡ record flags {
+          in_function = true;
+          in_static_block = false;
+          is_break_allowed = false;
+          is_continue_allowed = false;
+          in_async = is_async;
+          in_generator = false;
+        } }
 {
     Context {
         in_function: true,
@@ -66,9 +74,14 @@ fn arrow_block<
     p: &mut P,
     is_async: bool,
 ) -> PResult<FunctionBody<T::Block>>
-    requires { Nests P.seen T.expr_of T.pat_of T.stmt_of g.now.depth (S.pre g.now.stmt) (S.post g.now.stmt) (E.pre g.now.expr) (E.post g.now.expr) (N.pre g.now.pat) (N.post g.now.pat) }
-    ensures gives { GivesAs (λ body. T.block_of body.block) (rules.function g.now.depth (block_form is_async) (P.seen p.old)) result (P.seen p.new) }
-    ensures directive { IfOk result (λ body. own.misplaced_directive false (T.block_of body.block) ≡ late body.strict_directive) }
+    requires { Nests P.seen T.expr_of T.pat_of T.stmt_of g.now.depth
+        (S.pre g.now.stmt) (S.post g.now.stmt) (E.pre g.now.expr) (E.post g.now.expr)
+        (N.pre g.now.pat) (N.post g.now.pat) }
+    ensures gives { GivesAs (λ body. T.block_of body.block)
+        (rules.function g.now.depth (block_form is_async) (P.seen p.old)) result (P.seen p.new) }
+    ensures directive { IfOk result
+        (λ body. own.misplaced_directive false (T.block_of body.block)
+        ≡ late body.strict_directive) }
 {
     let manner = Manner {
         is_async,
@@ -85,8 +98,12 @@ fn arrow_expr<
     E: Fn(&MakerOf<T>, &mut P, usize, Reading) -> PResult<Cover<T::Expr>>,
     N: Fn(&MakerOf<T>, &mut P, usize, Part) -> PResult<T::Pat>,
 >(g: &Grammar<S, E, N>, t: &MakerOf<T>, p: &mut P, is_async: bool) -> PResult<T::Expr>
-    requires { Nests P.seen T.expr_of T.pat_of T.stmt_of g.now.depth (S.pre g.now.stmt) (S.post g.now.stmt) (E.pre g.now.expr) (E.post g.now.expr) (N.pre g.now.pat) (N.post g.now.pat) }
-    ensures gives { GivesAs T.expr_of (within (λ k. contexts.in_arrow k is_async) (enclosed (rules.expr g.now.depth assignment)) (P.seen p.old)) result (P.seen p.new) }
+    requires { Nests P.seen T.expr_of T.pat_of T.stmt_of g.now.depth
+        (S.pre g.now.stmt) (S.post g.now.stmt) (E.pre g.now.expr) (E.post g.now.expr)
+        (N.pre g.now.pat) (N.post g.now.pat) }
+    ensures gives { GivesAs T.expr_of
+        (within (λ k. contexts.in_arrow k is_async) (enclosed (rules.expr g.now.depth assignment))
+        (P.seen p.old)) result (P.seen p.new) }
     ensures directive { IfOk result (λ e. own.misplaced_directive false (T.expr_of e) ≡ []) }
 {
     let outer = p.flags();
@@ -112,9 +129,15 @@ fn arrow_body<
     p: &mut P,
     is_async: bool,
 ) -> PResult<ArrowBody<T::Block, T::Expr>>
-    requires { Nests P.seen T.expr_of T.pat_of T.stmt_of g.now.depth (S.pre g.now.stmt) (S.post g.now.stmt) (E.pre g.now.expr) (E.post g.now.expr) (N.pre g.now.pat) (N.post g.now.pat) }
-    ensures gives { GivesAs (body_of T.block_of T.expr_of) (arrows.arrow_body (rules.expr g.now.depth) (rules.function g.now.depth) is_async (P.seen p.old)) result (P.seen p.new) }
-    ensures directive { IfOk result (λ body. own.misplaced_directive false (body_of T.block_of T.expr_of body) ≡ late (directive_of body)) }
+    requires { Nests P.seen T.expr_of T.pat_of T.stmt_of g.now.depth
+        (S.pre g.now.stmt) (S.post g.now.stmt) (E.pre g.now.expr) (E.post g.now.expr)
+        (N.pre g.now.pat) (N.post g.now.pat) }
+    ensures gives { GivesAs (body_of T.block_of T.expr_of)
+        (arrows.arrow_body (rules.expr g.now.depth) (rules.function g.now.depth) is_async
+        (P.seen p.old)) result (P.seen p.new) }
+    ensures directive { IfOk result
+        (λ body. own.misplaced_directive false (body_of T.block_of T.expr_of body)
+        ≡ late (directive_of body)) }
 {
     if p.sees(TokenKind::LBrace) {
         let block = arrow_block(g, t, p, is_async)?;
@@ -149,7 +172,10 @@ fn made_arrow<T: BuildsFunction>(
     body: ArrowBody<T::Block, T::Expr>,
     is_async: bool,
 ) -> Result<T::Expr, AllocError>
-    ensures { IfOk result (λ x. T.expr_of x ≡ tree.arrow span (tree.listed (map T.pat_of params.items)) (body_of T.block_of T.expr_of body) is_async) }
+    ensures { IfOk result
+        (λ x. T.expr_of x
+        ≡ tree.arrow span (tree.listed (map T.pat_of params.items))
+        (body_of T.block_of T.expr_of body) is_async) }
 {
     match body {
         ArrowBody::Block(body) => T::block_arrow(alloc, span, params, body.block, is_async),
@@ -173,8 +199,12 @@ pub fn arrow_from<
     start: Span,
     params: Vec<T::Pat>,
 ) -> PResult<T::Expr>
-    requires { Nests P.seen T.expr_of T.pat_of T.stmt_of g.now.depth (S.pre g.now.stmt) (S.post g.now.stmt) (E.pre g.now.expr) (E.post g.now.expr) (N.pre g.now.pat) (N.post g.now.pat) }
-    ensures { GivesAs T.expr_of (arrows.arrow_from (rules.expr g.now.depth) (rules.function g.now.depth) is_async start (map T.pat_of params.items) (P.seen p.old)) result (P.seen p.new) }
+    requires { Nests P.seen T.expr_of T.pat_of T.stmt_of g.now.depth
+        (S.pre g.now.stmt) (S.post g.now.stmt) (E.pre g.now.expr) (E.post g.now.expr)
+        (N.pre g.now.pat) (N.post g.now.pat) }
+    ensures { GivesAs T.expr_of
+        (arrows.arrow_from (rules.expr g.now.depth) (rules.function g.now.depth) is_async start
+        (map T.pat_of params.items) (P.seen p.old)) result (P.seen p.new) }
 {
     if p.had_line_break() {
         return Err(p.refuse_as(SyntaxError::LineBreakBeforeArrow));
@@ -196,8 +226,11 @@ pub fn only_parameter<
     E: Fn(&MakerOf<T>, &mut P, usize, Reading) -> PResult<Cover<T::Expr>>,
     N: Fn(&MakerOf<T>, &mut P, usize, Part) -> PResult<T::Pat>,
 >(g: &Grammar<S, E, N>, t: &MakerOf<T>, p: &mut P) -> PResult<T::Pat>
-    requires { Nests P.seen T.expr_of T.pat_of T.stmt_of g.now.depth (S.pre g.now.stmt) (S.post g.now.stmt) (E.pre g.now.expr) (E.post g.now.expr) (N.pre g.now.pat) (N.post g.now.pat) }
-    ensures { GivesAs T.pat_of (rules.function g.now.depth parameter_form (P.seen p.old)) result (P.seen p.new) }
+    requires { Nests P.seen T.expr_of T.pat_of T.stmt_of g.now.depth
+        (S.pre g.now.stmt) (S.post g.now.stmt) (E.pre g.now.expr) (E.post g.now.expr)
+        (N.pre g.now.pat) (N.post g.now.pat) }
+    ensures { GivesAs T.pat_of (rules.function g.now.depth parameter_form (P.seen p.old)) result
+        (P.seen p.new) }
 {
     (g.pat)(t, p, g.depth, Part::Pattern)
 }
@@ -218,8 +251,12 @@ pub fn arrow_of_one<
     start: Span,
     param: T::Pat,
 ) -> PResult<T::Expr>
-    requires { Nests P.seen T.expr_of T.pat_of T.stmt_of g.now.depth (S.pre g.now.stmt) (S.post g.now.stmt) (E.pre g.now.expr) (E.post g.now.expr) (N.pre g.now.pat) (N.post g.now.pat) }
-    ensures { GivesAs T.expr_of (arrows.arrow_from (rules.expr g.now.depth) (rules.function g.now.depth) is_async start (T.pat_of param ∷ []) (P.seen p.old)) result (P.seen p.new) }
+    requires { Nests P.seen T.expr_of T.pat_of T.stmt_of g.now.depth
+        (S.pre g.now.stmt) (S.post g.now.stmt) (E.pre g.now.expr) (E.post g.now.expr)
+        (N.pre g.now.pat) (N.post g.now.pat) }
+    ensures { GivesAs T.expr_of
+        (arrows.arrow_from (rules.expr g.now.depth) (rules.function g.now.depth) is_async start
+        (T.pat_of param ∷ []) (P.seen p.old)) result (P.seen p.new) }
 {
     let mut params = Vec::new(t.alloc);
     pushed(p, &mut params, param)?;
@@ -236,8 +273,12 @@ pub fn named_arrow<
     E: Fn(&MakerOf<T>, &mut P, usize, Reading) -> PResult<Cover<T::Expr>>,
     N: Fn(&MakerOf<T>, &mut P, usize, Part) -> PResult<T::Pat>,
 >(g: &Grammar<S, E, N>, t: &MakerOf<T>, p: &mut P) -> PResult<T::Expr>
-    requires { Nests P.seen T.expr_of T.pat_of T.stmt_of g.now.depth (S.pre g.now.stmt) (S.post g.now.stmt) (E.pre g.now.expr) (E.post g.now.expr) (N.pre g.now.pat) (N.post g.now.pat) }
-    ensures { GivesAs T.expr_of (arrows.named_arrow (rules.expr g.now.depth) (rules.function g.now.depth) (P.seen p.old)) result (P.seen p.new) }
+    requires { Nests P.seen T.expr_of T.pat_of T.stmt_of g.now.depth
+        (S.pre g.now.stmt) (S.post g.now.stmt) (E.pre g.now.expr) (E.post g.now.expr)
+        (N.pre g.now.pat) (N.post g.now.pat) }
+    ensures { GivesAs T.expr_of
+        (arrows.named_arrow (rules.expr g.now.depth) (rules.function g.now.depth) (P.seen p.old))
+        result (P.seen p.new) }
 {
     let start = p.span();
     let param = only_parameter(g, t, p)?;
@@ -254,8 +295,12 @@ pub fn async_named_arrow<
     E: Fn(&MakerOf<T>, &mut P, usize, Reading) -> PResult<Cover<T::Expr>>,
     N: Fn(&MakerOf<T>, &mut P, usize, Part) -> PResult<T::Pat>,
 >(g: &Grammar<S, E, N>, t: &MakerOf<T>, p: &mut P) -> PResult<T::Expr>
-    requires { Nests P.seen T.expr_of T.pat_of T.stmt_of g.now.depth (S.pre g.now.stmt) (S.post g.now.stmt) (E.pre g.now.expr) (E.post g.now.expr) (N.pre g.now.pat) (N.post g.now.pat) }
-    ensures { GivesAs T.expr_of (async_arrows.async_named_arrow (rules.expr g.now.depth) (rules.function g.now.depth) (P.seen p.old)) result (P.seen p.new) }
+    requires { Nests P.seen T.expr_of T.pat_of T.stmt_of g.now.depth
+        (S.pre g.now.stmt) (S.post g.now.stmt) (E.pre g.now.expr) (E.post g.now.expr)
+        (N.pre g.now.pat) (N.post g.now.pat) }
+    ensures { GivesAs T.expr_of
+        (async_arrows.async_named_arrow (rules.expr g.now.depth) (rules.function g.now.depth)
+        (P.seen p.old)) result (P.seen p.new) }
 {
     let start = p.span();
     p.skip()?;

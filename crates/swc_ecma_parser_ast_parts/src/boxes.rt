@@ -158,7 +158,8 @@ pub fn pattern_elements(
     alloc: Global,
     elems: Vec<Option<Pat>>,
 ) -> Result<Vec<Option<PatBox>>, AllocError>
-    ensures { IfOk result (λ xs. map (part_of (λ b. b.node.tree)) xs.items ≡ map (part_of view_pat) elems.items) }
+    ensures { IfOk result
+        (λ xs. map (part_of (λ b. b.node.tree)) xs.items ≡ map (part_of view_pat) elems.items) }
 {
     all::<Option<PatBox>>(alloc, elems)
 }
@@ -192,7 +193,9 @@ pub fn key_value_pattern(
     key: PropName,
     value: Pat,
 ) -> Result<KeyValuePatProp, AllocError>
-    ensures { IfOk result (λ x. view_key_value_pat_prop x ≡ tree.key_value_pat_prop span (view_prop_name key) (view_pat value)) }
+    ensures { IfOk result
+        (λ x. view_key_value_pat_prop x
+        ≡ tree.key_value_pat_prop span (view_prop_name key) (view_pat value)) }
 {
     let (value, key) = beside(PatBox::new(alloc, value), key)?;
     Ok(KeyValuePatProp { span, key, value })

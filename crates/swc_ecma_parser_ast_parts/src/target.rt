@@ -21,7 +21,8 @@ use swc_ecma_parser_ast::{
 /// An expression as a pattern, with a default where one may stand.
 #[cycle(patterns)]
 pub fn as_pattern(alloc: Global, expr: Expr, defaults: bool) -> Result<Option<Pat>, AllocError>
-    ensures { IfOk result (λ x. targets.as_pattern defaults (view_expr expr) ≡ option_map view_pat x) }
+    ensures { IfOk result
+        (λ x. targets.as_pattern defaults (view_expr expr) ≡ option_map view_pat x) }
 {
     match expr {
         Expr::Array(x) => match elements(alloc, x.elems)? {
@@ -91,7 +92,8 @@ fn element(
 /// An expression in its handle as a pattern in its own.
 #[cycle(patterns)]
 fn part(alloc: Global, expr: ExprBox, defaults: bool) -> Result<Option<PatBox>, AllocError>
-    ensures { IfOk result (λ x. targets.as_pattern defaults expr.node.tree ≡ option_map (λ b. b.node.tree) x) }
+    ensures { IfOk result
+        (λ x. targets.as_pattern defaults expr.node.tree ≡ option_map (λ b. b.node.tree) x) }
 {
     match expr.into_inner() {
         Some(expr) => match as_pattern(alloc, expr, defaults)? {
@@ -151,7 +153,8 @@ fn property(
     prop: PropOrSpread,
     last: bool,
 ) -> Result<Option<ObjectPatProp>, AllocError>
-    ensures { IfOk result (λ x. as_property_at last (view_prop_or_spread prop) ≡ option_map view_object_pat_prop x) }
+    ensures { IfOk result
+        (λ x. as_property_at last (view_prop_or_spread prop) ≡ option_map view_object_pat_prop x) }
 {
     match prop {
         PropOrSpread::Prop(x) => plain_property(alloc, Box::into_inner(x)),
@@ -168,7 +171,8 @@ fn property(
 /// A part of an object that is no spread, as one of a pattern.
 #[cycle(patterns)]
 fn plain_property(alloc: Global, prop: Prop) -> Result<Option<ObjectPatProp>, AllocError>
-    ensures { IfOk result (λ x. targets.as_property (view_prop prop) ≡ option_map view_object_pat_prop x) }
+    ensures { IfOk result
+        (λ x. targets.as_property (view_prop prop) ≡ option_map view_object_pat_prop x) }
 {
     match prop {
         Prop::KeyValue(x) => match beside_found(part(alloc, x.value, true), x.key)? {
@@ -233,7 +237,9 @@ fn named(span: Span, id: Ident, value: Option<ExprBox>) -> ObjectPatProp
 
 /// What takes the rest of an object, a name or a member; the span goes from the dots on.
 fn rest_property(alloc: Global, spread: SpreadElement) -> Result<Option<ObjectPatProp>, AllocError>
-    ensures { IfOk result (λ x. as_property_at true (view_spread_element spread) ≡ option_map view_object_pat_prop x) }
+    ensures { IfOk result
+        (λ x. as_property_at true (view_spread_element spread)
+        ≡ option_map view_object_pat_prop x) }
 {
     match spread.expr.into_inner() {
         Some(expr) => {
@@ -285,7 +291,8 @@ fn leaf(alloc: Global, expr: Expr) -> Result<Pat, AllocError>
 
 /// An assignment as a pattern with its default, where one may stand.
 fn assignment(alloc: Global, assign: AssignExpr, defaults: bool) -> Result<Option<Pat>, AllocError>
-    ensures { IfOk result (λ x. targets.as_pattern defaults (view_assign_expr assign) ≡ option_map view_pat x) }
+    ensures { IfOk result
+        (λ x. targets.as_pattern defaults (view_assign_expr assign) ≡ option_map view_pat x) }
 {
     match (assign.op, defaults) {
         (AssignOp::Assign, true) => Ok(Some(with_default(alloc, assign)?)),

@@ -14,7 +14,8 @@ impl BuildsBlock for Ast {
     ghost block_of = { view_block_stmt };
 
     fn body(alloc: Global, span: Span, stmts: Vec<Stmt>) -> Result<BlockStmt, AllocError>
-        ensures { IfOk result (λ x. view_block_stmt x ≡ tree.block span (tree.listed (map view_stmt stmts.items))) }
+        ensures { IfOk result
+            (λ x. view_block_stmt x ≡ tree.block span (tree.listed (map view_stmt stmts.items))) }
     {
         let stmts = StmtList::new(alloc, stmts)?;
         Ok(BlockStmt { span, stmts })

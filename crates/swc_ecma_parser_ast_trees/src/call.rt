@@ -33,7 +33,9 @@ impl BuildsCall for Ast {
         span: Span,
         elems: Vec<Option<ExprOrSpread>>,
     ) -> Result<Made, AllocError>
-        ensures { IfOk result (λ x. view_made x ≡ tree.array span (tree.listed (map (parts.part_of view_expr_or_spread) elems.items))) }
+        ensures { IfOk result
+            (λ x. view_made x
+            ≡ tree.array span (tree.listed (map (parts.part_of view_expr_or_spread) elems.items))) }
     {
         Made::new(alloc, Expr::Array(ArrayLit { span, elems }))
     }
@@ -97,7 +99,10 @@ impl BuildsCall for Ast {
         callee: Made,
         args: Vec<ExprOrSpread>,
     ) -> Result<Made, AllocError>
-        ensures { IfOk result (λ x. view_made x ≡ tree.call span (view_made callee) (tree.listed (map view_expr_or_spread args.items))) }
+        ensures { IfOk result
+            (λ x. view_made x
+            ≡ tree.call span (view_made callee)
+            (tree.listed (map view_expr_or_spread args.items))) }
     {
         let callee = Callee::Expr(callee.into_handle());
         Made::new(alloc, Expr::Call(CallExpr { span, callee, args }))
@@ -109,7 +114,10 @@ impl BuildsCall for Ast {
         word: Span,
         args: Vec<ExprOrSpread>,
     ) -> Result<Made, AllocError>
-        ensures { IfOk result (λ x. view_made x ≡ tree.call span (tree.super_callee word) (tree.listed (map view_expr_or_spread args.items))) }
+        ensures { IfOk result
+            (λ x. view_made x
+            ≡ tree.call span (tree.super_callee word)
+            (tree.listed (map view_expr_or_spread args.items))) }
     {
         let callee = Callee::Super(Super { span: word });
         Made::new(alloc, Expr::Call(CallExpr { span, callee, args }))
@@ -121,7 +129,10 @@ impl BuildsCall for Ast {
         word: Span,
         args: Vec<ExprOrSpread>,
     ) -> Result<Made, AllocError>
-        ensures { IfOk result (λ x. view_made x ≡ tree.call span (tree.import_callee word) (tree.listed (map view_expr_or_spread args.items))) }
+        ensures { IfOk result
+            (λ x. view_made x
+            ≡ tree.call span (tree.import_callee word)
+            (tree.listed (map view_expr_or_spread args.items))) }
     {
         let callee = Callee::Import(Import { span: word });
         Made::new(alloc, Expr::Call(CallExpr { span, callee, args }))
@@ -133,7 +144,10 @@ impl BuildsCall for Ast {
         callee: Made,
         args: Option<Vec<ExprOrSpread>>,
     ) -> Result<Made, AllocError>
-        ensures { IfOk result (λ x. view_made x ≡ tree.new span (view_made callee) (parts.part_of (λ xs. tree.listed (map view_expr_or_spread xs.items)) args)) }
+        ensures { IfOk result
+            (λ x. view_made x
+            ≡ tree.new span (view_made callee)
+            (parts.part_of (λ xs. tree.listed (map view_expr_or_spread xs.items)) args)) }
     {
         let callee = callee.into_handle();
         Made::new(alloc, Expr::New(NewExpr { span, callee, args }))

@@ -45,7 +45,9 @@ impl BuildsVarDecl for Ast {
         kind: VarDeclKind,
         decls: Vec<VarDeclarator>,
     ) -> Result<Decl, AllocError>
-        ensures { IfOk result (λ x. view_decl x ≡ tree.var span kind (tree.listed (map view_declarator decls.items))) }
+        ensures { IfOk result
+            (λ x. view_decl x
+            ≡ tree.var span kind (tree.listed (map view_declarator decls.items))) }
     {
         Ok(Decl::Var(VarDecl { span, kind, decls }))
     }
@@ -56,7 +58,9 @@ impl BuildsVarDecl for Ast {
         is_await: bool,
         decls: Vec<VarDeclarator>,
     ) -> Result<Decl, AllocError>
-        ensures { IfOk result (λ x. view_decl x ≡ tree.using span is_await (tree.listed (map view_declarator decls.items))) }
+        ensures { IfOk result
+            (λ x. view_decl x
+            ≡ tree.using span is_await (tree.listed (map view_declarator decls.items))) }
     {
         Ok(Decl::Using(UsingDecl {
             span,

@@ -37,7 +37,9 @@ impl BuildsFunction for Ast {
         decorators: Vec<Decorator>,
         pat: Pat,
     ) -> Result<Param, AllocError>
-        ensures { IfOk result (λ x. view_param x ≡ tree.param span (tree.listed (map view_decorator decorators.items)) (view_pat pat)) }
+        ensures { IfOk result
+            (λ x. view_param x
+            ≡ tree.param span (tree.listed (map view_decorator decorators.items)) (view_pat pat)) }
     {
         Ok(Param {
             span,

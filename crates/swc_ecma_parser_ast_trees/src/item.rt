@@ -48,7 +48,8 @@ impl BuildsItem for Ast {
     }
 
     fn module(span: Span, body: Vec<ModuleItem>, shebang: Option<Atom>) -> Module
-        ensures { view_module result ≡ tree.module_program span (tree.listed (map view_module_item body.items)) shebang }
+        ensures { view_module result
+            ≡ tree.module_program span (tree.listed (map view_module_item body.items)) shebang }
     {
         Module {
             span,

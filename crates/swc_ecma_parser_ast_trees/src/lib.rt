@@ -122,7 +122,8 @@ impl BuildsStmt for Ast {
     ghost use Rattle.swc_ecma_parser_model.specs.Tree as tree;
 
     fn block(alloc: Global, span: Span, stmts: Vec<Stmt>) -> Result<Stmt, AllocError>
-        ensures { IfOk result (λ x. view_stmt x ≡ tree.block span (tree.listed (map view_stmt stmts.items))) }
+        ensures { IfOk result
+            (λ x. view_stmt x ≡ tree.block span (tree.listed (map view_stmt stmts.items))) }
     {
         let stmts = StmtList::new(alloc, stmts)?;
         Ok(Stmt::Block(BlockStmt { span, stmts }))
@@ -150,7 +151,8 @@ impl BuildsScript for Ast {
     ghost script_of = { view_script };
 
     fn script(span: Span, body: Vec<Stmt>, shebang: Option<Atom>) -> Script
-        ensures { view_script result ≡ tree.script span (tree.listed (map view_stmt body.items)) shebang }
+        ensures { view_script result
+            ≡ tree.script span (tree.listed (map view_stmt body.items)) shebang }
     {
         Script {
             span,

@@ -73,7 +73,9 @@ impl BuildsFor for Ast {
         kind: VarDeclKind,
         decls: Vec<VarDeclarator>,
     ) -> Result<VarDeclOrExpr, AllocError>
-        ensures { IfOk result (λ x. view_var_decl_or_expr x ≡ tree.var span kind (tree.listed (map view_declarator decls.items))) }
+        ensures { IfOk result
+            (λ x. view_var_decl_or_expr x
+            ≡ tree.var span kind (tree.listed (map view_declarator decls.items))) }
     {
         Ok(VarDeclOrExpr::VarDecl(VarDecl { span, kind, decls }))
     }
@@ -138,7 +140,9 @@ impl BuildsFor for Ast {
         kind: VarDeclKind,
         decls: Vec<VarDeclarator>,
     ) -> Result<ForHead, AllocError>
-        ensures { IfOk result (λ x. view_for_head x ≡ tree.var span kind (tree.listed (map view_declarator decls.items))) }
+        ensures { IfOk result
+            (λ x. view_for_head x
+            ≡ tree.var span kind (tree.listed (map view_declarator decls.items))) }
     {
         Ok(ForHead::VarDecl(VarDecl { span, kind, decls }))
     }
@@ -149,7 +153,9 @@ impl BuildsFor for Ast {
         is_await: bool,
         decls: Vec<VarDeclarator>,
     ) -> Result<ForHead, AllocError>
-        ensures { IfOk result (λ x. view_for_head x ≡ tree.using span is_await (tree.listed (map view_declarator decls.items))) }
+        ensures { IfOk result
+            (λ x. view_for_head x
+            ≡ tree.using span is_await (tree.listed (map view_declarator decls.items))) }
     {
         Ok(ForHead::UsingDecl(UsingDecl {
             span,

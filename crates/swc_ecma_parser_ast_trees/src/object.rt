@@ -19,7 +19,9 @@ impl BuildsObject for Ast {
     ghost prop_of = { view_prop_or_spread };
 
     fn object(alloc: Global, span: Span, props: Vec<PropOrSpread>) -> Result<Made, AllocError>
-        ensures { IfOk result (λ x. view_made x ≡ tree.object span (tree.listed (map view_prop_or_spread props.items))) }
+        ensures { IfOk result
+            (λ x. view_made x
+            ≡ tree.object span (tree.listed (map view_prop_or_spread props.items))) }
     {
         Made::new(alloc, Expr::Object(ObjectLit { span, props }))
     }

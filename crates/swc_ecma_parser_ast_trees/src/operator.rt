@@ -122,7 +122,8 @@ impl BuildsOperator for Ast {
     }
 
     fn seq(alloc: Global, span: Span, exprs: Vec<Made>) -> Result<Made, AllocError>
-        ensures { IfOk result (λ x. view_made x ≡ tree.seq span (tree.listed (map view_made exprs.items))) }
+        ensures { IfOk result
+            (λ x. view_made x ≡ tree.seq span (tree.listed (map view_made exprs.items))) }
     {
         let exprs = all::<ExprBox>(alloc, exprs)?;
         Made::new(alloc, Expr::Seq(SeqExpr { span, exprs }))
@@ -134,7 +135,8 @@ impl BuildsOperator for Ast {
         arg: Option<Made>,
         delegate: bool,
     ) -> Result<Made, AllocError>
-        ensures { IfOk result (λ x. view_made x ≡ tree.yield span (parts.part_of view_made arg) delegate) }
+        ensures { IfOk result
+            (λ x. view_made x ≡ tree.yield span (parts.part_of view_made arg) delegate) }
     {
         let arg = Made::optional(arg);
         let found = YieldExpr {

@@ -19,7 +19,9 @@ impl BuildsPattern for Ast {
     ghost use Rattle.swc_ecma_parser_trees.specs.Parts as parts;
 
     fn array_pat(alloc: Global, span: Span, elems: Vec<Option<Pat>>) -> Result<Pat, AllocError>
-        ensures { IfOk result (λ x. view_pat x ≡ tree.array_pat span (tree.listed (map (parts.part_of view_pat) elems.items))) }
+        ensures { IfOk result
+            (λ x. view_pat x
+            ≡ tree.array_pat span (tree.listed (map (parts.part_of view_pat) elems.items))) }
     {
         let elems = pattern_elements(alloc, elems)?;
         Ok(Pat::Array(ArrayPat { span, elems }))
@@ -98,7 +100,9 @@ impl BuildsObjectPat for Ast {
     ghost pat_prop_of = { view_object_pat_prop };
 
     fn object_pat(alloc: Global, span: Span, props: Vec<ObjectPatProp>) -> Result<Pat, AllocError>
-        ensures { IfOk result (λ x. view_pat x ≡ tree.object_pat span (tree.listed (map view_object_pat_prop props.items))) }
+        ensures { IfOk result
+            (λ x. view_pat x
+            ≡ tree.object_pat span (tree.listed (map view_object_pat_prop props.items))) }
     {
         Ok(Pat::Object(ObjectPat { span, props }))
     }

@@ -24,7 +24,9 @@ impl BuildsVariables for Ast {
         name: Pat,
         init: Option<Made>,
     ) -> Result<VarDeclarator, AllocError>
-        ensures { IfOk result (λ x. view_declarator x ≡ tree.declarator span (view_pat name) (parts.part_of view_made init)) }
+        ensures { IfOk result
+            (λ x. view_declarator x
+            ≡ tree.declarator span (view_pat name) (parts.part_of view_made init)) }
     {
         let init = Made::optional(init);
         Ok(VarDeclarator { span, name, init })
@@ -36,7 +38,9 @@ impl BuildsVariables for Ast {
         kind: VarDeclKind,
         decls: Vec<VarDeclarator>,
     ) -> Result<Stmt, AllocError>
-        ensures { IfOk result (λ x. view_stmt x ≡ tree.var span kind (tree.listed (map view_declarator decls.items))) }
+        ensures { IfOk result
+            (λ x. view_stmt x
+            ≡ tree.var span kind (tree.listed (map view_declarator decls.items))) }
     {
         Ok(Stmt::Decl(Decl::Var(VarDecl { span, kind, decls })))
     }

@@ -107,7 +107,8 @@ fn in_strict(flags: Context) -> Context
 
 /// Turns strict what follows a directive that says so, and says whether the next statement can be a directive too.
 pub fn direct<P: Cursor, T: Trees>(p: &mut P, directives: bool, x: &T::Stmt) -> bool
-    ensures state { P.seen p.new ≡ reader.coded (directed (P.seen p.old).code directives (T.stmt_of x.now)) (P.seen p.old) }
+    ensures state { P.seen p.new
+        ≡ reader.coded (directed (P.seen p.old).code directives (T.stmt_of x.now)) (P.seen p.old) }
     ensures next { result ≡ directs_on directives (T.stmt_of x.now) }
 {
     if directives && T::is_use_strict(x) {
@@ -136,8 +137,12 @@ pub fn body_items<
     E: Fn(&MakerOf<T>, &mut P, usize, Reading) -> PResult<Cover<T::Expr>>,
     N: Fn(&MakerOf<T>, &mut P, usize, Part) -> PResult<T::Pat>,
 >(g: &Grammar<S, E, N>, t: &MakerOf<T>, p: &mut P, body: Body) -> PResult<Vec<T::Stmt>>
-    requires { Nests P.seen T.expr_of T.pat_of T.stmt_of g.now.depth (S.pre g.now.stmt) (S.post g.now.stmt) (E.pre g.now.expr) (E.post g.now.expr) (N.pre g.now.pat) (N.post g.now.pat) }
-    ensures { GivesAs (λ found. map T.stmt_of found.items) (rules.items (rules.stmt g.now.depth nested_item) (ends_of body) (directs_of body) (P.seen p.old)) result (P.seen p.new) }
+    requires { Nests P.seen T.expr_of T.pat_of T.stmt_of g.now.depth
+        (S.pre g.now.stmt) (S.post g.now.stmt) (E.pre g.now.expr) (E.post g.now.expr)
+        (N.pre g.now.pat) (N.post g.now.pat) }
+    ensures { GivesAs (λ found. map T.stmt_of found.items)
+        (rules.items (rules.stmt g.now.depth nested_item) (ends_of body) (directs_of body)
+        (P.seen p.old)) result (P.seen p.new) }
 {
     let mut found = Vec::new(t.alloc);
     let mut directives = has_directives(body);
@@ -159,8 +164,11 @@ pub fn block<
     E: Fn(&MakerOf<T>, &mut P, usize, Reading) -> PResult<Cover<T::Expr>>,
     N: Fn(&MakerOf<T>, &mut P, usize, Part) -> PResult<T::Pat>,
 >(g: &Grammar<S, E, N>, t: &MakerOf<T>, p: &mut P) -> PResult<T::Stmt>
-    requires { Nests P.seen T.expr_of T.pat_of T.stmt_of g.now.depth (S.pre g.now.stmt) (S.post g.now.stmt) (E.pre g.now.expr) (E.post g.now.expr) (N.pre g.now.pat) (N.post g.now.pat) }
-    ensures { GivesAs T.stmt_of (rules.block (rules.stmt g.now.depth nested_item) (P.seen p.old)) result (P.seen p.new) }
+    requires { Nests P.seen T.expr_of T.pat_of T.stmt_of g.now.depth
+        (S.pre g.now.stmt) (S.post g.now.stmt) (E.pre g.now.expr) (E.post g.now.expr)
+        (N.pre g.now.pat) (N.post g.now.pat) }
+    ensures { GivesAs T.stmt_of (rules.block (rules.stmt g.now.depth nested_item) (P.seen p.old))
+        result (P.seen p.new) }
 {
     let start = p.span();
     p.skip()?;
@@ -179,8 +187,12 @@ pub fn braced<
     E: Fn(&MakerOf<T>, &mut P, usize, Reading) -> PResult<Cover<T::Expr>>,
     N: Fn(&MakerOf<T>, &mut P, usize, Part) -> PResult<T::Pat>,
 >(g: &Grammar<S, E, N>, t: &MakerOf<T>, p: &mut P) -> PResult<T::Block>
-    requires { Nests P.seen T.expr_of T.pat_of T.stmt_of g.now.depth (S.pre g.now.stmt) (S.post g.now.stmt) (E.pre g.now.expr) (E.post g.now.expr) (N.pre g.now.pat) (N.post g.now.pat) }
-    ensures { GivesAs T.block_of (rules.braced (rules.stmt g.now.depth nested_item) false (P.seen p.old)) result (P.seen p.new) }
+    requires { Nests P.seen T.expr_of T.pat_of T.stmt_of g.now.depth
+        (S.pre g.now.stmt) (S.post g.now.stmt) (E.pre g.now.expr) (E.post g.now.expr)
+        (N.pre g.now.pat) (N.post g.now.pat) }
+    ensures { GivesAs T.block_of
+        (rules.braced (rules.stmt g.now.depth nested_item) false (P.seen p.old)) result
+        (P.seen p.new) }
 {
     let start = p.span();
     p.expect(TokenKind::LBrace, "{")?;

@@ -54,7 +54,8 @@ fn in_condition(alloc: Global, inner: Error, word: Span) -> Result<SyntaxError, 
 /// The refusal of a condition behind the word `if`. One for want of memory or depth stays as it is.
 #[inline(never)]
 fn labelled<P: Cursor>(alloc: Global, p: &mut P, error: Error, word: Span) -> Error
-    ensures memory { kind_of result.kind ≢ kinds.OutOfMemory → kind_of error.kind ≢ kinds.OutOfMemory }
+    ensures memory { kind_of result.kind ≢ kinds.OutOfMemory → kind_of error.kind
+        ≢ kinds.OutOfMemory }
     ensures gives { kind_of result.kind ≢ kinds.OutOfMemory
         → reader.labelled_as {A = Tree} (Err (fault_of error, P.seen p.old)) ≡ Err (fault_of result, P.seen p.new) }
 {
@@ -78,8 +79,11 @@ fn condition<
     E: Fn(&MakerOf<T>, &mut P, usize, Reading) -> PResult<Cover<T::Expr>>,
     N: Fn(&MakerOf<T>, &mut P, usize, Part) -> PResult<T::Pat>,
 >(g: &Grammar<S, E, N>, t: &MakerOf<T>, p: &mut P, word: Span) -> PResult<T::Expr>
-    requires { Nests P.seen T.expr_of T.pat_of T.stmt_of g.now.depth (S.pre g.now.stmt) (S.post g.now.stmt) (E.pre g.now.expr) (E.post g.now.expr) (N.pre g.now.pat) (N.post g.now.pat) }
-    ensures { GivesAs T.expr_of (rules.condition (rules.expr g.now.depth expression) (P.seen p.old)) result (P.seen p.new) }
+    requires { Nests P.seen T.expr_of T.pat_of T.stmt_of g.now.depth
+        (S.pre g.now.stmt) (S.post g.now.stmt) (E.pre g.now.expr) (E.post g.now.expr)
+        (N.pre g.now.pat) (N.post g.now.pat) }
+    ensures { GivesAs T.expr_of (rules.condition (rules.expr g.now.depth expression) (P.seen p.old))
+        result (P.seen p.new) }
 {
     p.expect(TokenKind::LParen, "(")?;
     let test = match inside(g, t, p, Class::Expression) {
@@ -99,8 +103,12 @@ fn next_link<
     E: Fn(&MakerOf<T>, &mut P, usize, Reading) -> PResult<Cover<T::Expr>>,
     N: Fn(&MakerOf<T>, &mut P, usize, Part) -> PResult<T::Pat>,
 >(g: &Grammar<S, E, N>, t: &MakerOf<T>, p: &mut P) -> PResult<Link<T::Expr, T::Stmt>>
-    requires { Nests P.seen T.expr_of T.pat_of T.stmt_of g.now.depth (S.pre g.now.stmt) (S.post g.now.stmt) (E.pre g.now.expr) (E.post g.now.expr) (N.pre g.now.pat) (N.post g.now.pat) }
-    ensures { GivesAs (link_of T.expr_of T.stmt_of) (rules.link (rules.stmt g.now.depth sub_statement) (rules.expr g.now.depth expression) (P.seen p.old)) result (P.seen p.new) }
+    requires { Nests P.seen T.expr_of T.pat_of T.stmt_of g.now.depth
+        (S.pre g.now.stmt) (S.post g.now.stmt) (E.pre g.now.expr) (E.post g.now.expr)
+        (N.pre g.now.pat) (N.post g.now.pat) }
+    ensures { GivesAs (link_of T.expr_of T.stmt_of)
+        (rules.link (rules.stmt g.now.depth sub_statement) (rules.expr g.now.depth expression)
+        (P.seen p.old)) result (P.seen p.new) }
 {
     let start = p.span();
     p.skip()?;
@@ -119,8 +127,12 @@ fn alternative<
     E: Fn(&MakerOf<T>, &mut P, usize, Reading) -> PResult<Cover<T::Expr>>,
     N: Fn(&MakerOf<T>, &mut P, usize, Part) -> PResult<T::Pat>,
 >(g: &Grammar<S, E, N>, t: &MakerOf<T>, p: &mut P) -> PResult<Option<T::Stmt>>
-    requires { Nests P.seen T.expr_of T.pat_of T.stmt_of g.now.depth (S.pre g.now.stmt) (S.post g.now.stmt) (E.pre g.now.expr) (E.post g.now.expr) (N.pre g.now.pat) (N.post g.now.pat) }
-    ensures { GivesAs (part_of T.stmt_of) (rules.alternative (rules.stmt g.now.depth sub_statement) (P.seen p.old)) result (P.seen p.new) }
+    requires { Nests P.seen T.expr_of T.pat_of T.stmt_of g.now.depth
+        (S.pre g.now.stmt) (S.post g.now.stmt) (E.pre g.now.expr) (E.post g.now.expr)
+        (N.pre g.now.pat) (N.post g.now.pat) }
+    ensures { GivesAs (part_of T.stmt_of)
+        (rules.alternative (rules.stmt g.now.depth sub_statement) (P.seen p.old)) result
+        (P.seen p.new) }
 {
     if !p.sees(TokenKind::Else) {
         return Ok(None);
@@ -145,7 +157,10 @@ fn closed<P: Cursor, T: BuildsControl>(
     link: Link<T::Expr, T::Stmt>,
     alt: Option<T::Stmt>,
 ) -> PResult<T::Stmt>
-    ensures made { IfOk result (λ x. T.stmt_of x ≡ closed_as (P.seen p.old).at.last (link_of T.expr_of T.stmt_of link) (part_of T.stmt_of alt)) }
+    ensures made { IfOk result
+        (λ x. T.stmt_of x
+        ≡ closed_as (P.seen p.old).at.last (link_of T.expr_of T.stmt_of link)
+        (part_of T.stmt_of alt)) }
     ensures state { IfOk result (λ x. P.seen p.new ≡ P.seen p.old) }
     ensures err { IfErr result IsOutOfMemory }
 {
@@ -162,7 +177,10 @@ fn enclosed<P: Cursor, T: BuildsControl>(
     mut links: Vec<Link<T::Expr, T::Stmt>>,
     last: T::Stmt,
 ) -> PResult<T::Stmt>
-    ensures made { IfOk result (λ x. T.stmt_of x ≡ around (P.seen p.old).at.last (map (link_of T.expr_of T.stmt_of) links.items) (T.stmt_of last)) }
+    ensures made { IfOk result
+        (λ x. T.stmt_of x
+        ≡ around (P.seen p.old).at.last (map (link_of T.expr_of T.stmt_of) links.items)
+        (T.stmt_of last)) }
     ensures state { IfOk result (λ x. P.seen p.new ≡ P.seen p.old) }
     ensures err { IfErr result IsOutOfMemory }
 {
@@ -182,8 +200,12 @@ pub fn if_stmt<
     E: Fn(&MakerOf<T>, &mut P, usize, Reading) -> PResult<Cover<T::Expr>>,
     N: Fn(&MakerOf<T>, &mut P, usize, Part) -> PResult<T::Pat>,
 >(g: &Grammar<S, E, N>, t: &MakerOf<T>, p: &mut P) -> PResult<T::Stmt>
-    requires { Nests P.seen T.expr_of T.pat_of T.stmt_of g.now.depth (S.pre g.now.stmt) (S.post g.now.stmt) (E.pre g.now.expr) (E.post g.now.expr) (N.pre g.now.pat) (N.post g.now.pat) }
-    ensures { GivesAs T.stmt_of (rules.if_stmt (rules.stmt g.now.depth sub_statement) (rules.expr g.now.depth expression) (P.seen p.old)) result (P.seen p.new) }
+    requires { Nests P.seen T.expr_of T.pat_of T.stmt_of g.now.depth
+        (S.pre g.now.stmt) (S.post g.now.stmt) (E.pre g.now.expr) (E.post g.now.expr)
+        (N.pre g.now.pat) (N.post g.now.pat) }
+    ensures { GivesAs T.stmt_of
+        (rules.if_stmt (rules.stmt g.now.depth sub_statement) (rules.expr g.now.depth expression)
+        (P.seen p.old)) result (P.seen p.new) }
 {
     let mut links = Vec::new(t.alloc);
     'links: loop {

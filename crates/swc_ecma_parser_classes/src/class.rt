@@ -51,7 +51,9 @@ fn second_constructor<P: Cursor, T: BuildsClass>(
     has_constructor: bool,
     member: &T::Member,
 ) -> PResult<()>
-    ensures { Gives (told (own.second_constructor has_constructor (T.member_of member.now)) (P.seen p.old)) result (P.seen p.new) }
+    ensures { Gives
+        (told (own.second_constructor has_constructor (T.member_of member.now)) (P.seen p.old))
+        result (P.seen p.new) }
 {
     let is_second = has_constructor && T::is_constructor(member);
     let span = T::member_span(member);
@@ -74,8 +76,11 @@ fn members<
     E: Fn(&MakerOf<T>, &mut P, usize, Class) -> PResult<T::Expr>,
     M: Fn(&MakerOf<T>, &mut P, usize, &[T::Member]) -> PResult<T::Member>,
 >(c: &ClassGrammar<E, M>, t: &MakerOf<T>, p: &mut P) -> PResult<Vec<T::Member>>
-    requires { ReadsClass P.seen T.expr_of T.member_of c.now.depth (E.pre c.now.expr) (E.post c.now.expr) (M.pre c.now.member) (M.post c.now.member) }
-    ensures { GivesAs (λ found. map T.member_of found.items) (members.members (rules.expr c.now.depth left_side) (rules.member c.now.depth) (P.seen p.old)) result (P.seen p.new) }
+    requires { ReadsClass P.seen T.expr_of T.member_of c.now.depth (E.pre c.now.expr)
+        (E.post c.now.expr) (M.pre c.now.member) (M.post c.now.member) }
+    ensures { GivesAs (λ found. map T.member_of found.items)
+        (members.members (rules.expr c.now.depth left_side) (rules.member c.now.depth)
+        (P.seen p.old)) result (P.seen p.new) }
 {
     let mut found = Vec::new(t.alloc);
     let mut has_constructor = false;
@@ -95,8 +100,10 @@ fn heritage<
     E: Fn(&MakerOf<T>, &mut P, usize, Class) -> PResult<T::Expr>,
     M: Fn(&MakerOf<T>, &mut P, usize, &[T::Member]) -> PResult<T::Member>,
 >(c: &ClassGrammar<E, M>, t: &MakerOf<T>, p: &mut P) -> PResult<T::Expr>
-    requires { ReadsClass P.seen T.expr_of T.member_of c.now.depth (E.pre c.now.expr) (E.post c.now.expr) (M.pre c.now.member) (M.post c.now.member) }
-    ensures { GivesAs T.expr_of (rules.expr c.now.depth left_side (P.seen p.old)) result (P.seen p.new) }
+    requires { ReadsClass P.seen T.expr_of T.member_of c.now.depth (E.pre c.now.expr)
+        (E.post c.now.expr) (M.pre c.now.member) (M.post c.now.member) }
+    ensures { GivesAs T.expr_of (rules.expr c.now.depth left_side (P.seen p.old)) result
+        (P.seen p.new) }
 {
     (c.expr)(t, p, c.depth, Class::LeftSide)
 }
@@ -110,8 +117,11 @@ fn extended<
     E: Fn(&MakerOf<T>, &mut P, usize, Class) -> PResult<T::Expr>,
     M: Fn(&MakerOf<T>, &mut P, usize, &[T::Member]) -> PResult<T::Member>,
 >(c: &ClassGrammar<E, M>, t: &MakerOf<T>, p: &mut P) -> PResult<Option<T::Expr>>
-    requires { ReadsClass P.seen T.expr_of T.member_of c.now.depth (E.pre c.now.expr) (E.post c.now.expr) (M.pre c.now.member) (M.post c.now.member) }
-    ensures { GivesAs (part_of T.expr_of) (members.extended (rules.expr c.now.depth left_side) (rules.member c.now.depth) (P.seen p.old)) result (P.seen p.new) }
+    requires { ReadsClass P.seen T.expr_of T.member_of c.now.depth (E.pre c.now.expr)
+        (E.post c.now.expr) (M.pre c.now.member) (M.post c.now.member) }
+    ensures { GivesAs (part_of T.expr_of)
+        (members.extended (rules.expr c.now.depth left_side) (rules.member c.now.depth)
+        (P.seen p.old)) result (P.seen p.new) }
 {
     if !p.sees(TokenKind::Extends) {
         return Ok(None);
@@ -129,8 +139,10 @@ fn dropped<
     E: Fn(&MakerOf<T>, &mut P, usize, Class) -> PResult<T::Expr>,
     M: Fn(&MakerOf<T>, &mut P, usize, &[T::Member]) -> PResult<T::Member>,
 >(c: &ClassGrammar<E, M>, t: &MakerOf<T>, p: &mut P) -> PResult<()>
-    requires { ReadsClass P.seen T.expr_of T.member_of c.now.depth (E.pre c.now.expr) (E.post c.now.expr) (M.pre c.now.member) (M.post c.now.member) }
-    ensures { Gives (members.dropped (rules.expr c.now.depth left_side) (P.seen p.old)) result (P.seen p.new) }
+    requires { ReadsClass P.seen T.expr_of T.member_of c.now.depth (E.pre c.now.expr)
+        (E.post c.now.expr) (M.pre c.now.member) (M.post c.now.member) }
+    ensures { Gives (members.dropped (rules.expr c.now.depth left_side) (P.seen p.old)) result
+        (P.seen p.new) }
 {
     let found = found_module_item(t.alloc, p);
     let _dropped = heritage(c, t, p)?;
@@ -147,8 +159,11 @@ fn surplus<
     E: Fn(&MakerOf<T>, &mut P, usize, Class) -> PResult<T::Expr>,
     M: Fn(&MakerOf<T>, &mut P, usize, &[T::Member]) -> PResult<T::Member>,
 >(c: &ClassGrammar<E, M>, t: &MakerOf<T>, p: &mut P) -> PResult<()>
-    requires { ReadsClass P.seen T.expr_of T.member_of c.now.depth (E.pre c.now.expr) (E.post c.now.expr) (M.pre c.now.member) (M.post c.now.member) }
-    ensures { Gives (members.surplus (rules.expr c.now.depth left_side) (rules.member c.now.depth) (P.seen p.old)) result (P.seen p.new) }
+    requires { ReadsClass P.seen T.expr_of T.member_of c.now.depth (E.pre c.now.expr)
+        (E.post c.now.expr) (M.pre c.now.member) (M.post c.now.member) }
+    ensures { Gives
+        (members.surplus (rules.expr c.now.depth left_side) (rules.member c.now.depth)
+        (P.seen p.old)) result (P.seen p.new) }
 {
     if !p.sees(TokenKind::Extends) {
         return Ok(());
@@ -174,8 +189,11 @@ pub fn class_parts_with<
     start: Span,
     decorators: Vec<T::Decorator>,
 ) -> PResult<T::Class>
-    requires { ReadsClass P.seen T.expr_of T.member_of c.now.depth (E.pre c.now.expr) (E.post c.now.expr) (M.pre c.now.member) (M.post c.now.member) }
-    ensures { GivesAs T.class_of (dressed.class_parts_with (rules.expr c.now.depth left_side) (rules.member c.now.depth) (map T.decorator_of decorators.items) start (P.seen p.old)) result (P.seen p.new) }
+    requires { ReadsClass P.seen T.expr_of T.member_of c.now.depth (E.pre c.now.expr)
+        (E.post c.now.expr) (M.pre c.now.member) (M.post c.now.member) }
+    ensures { GivesAs T.class_of
+        (dressed.class_parts_with (rules.expr c.now.depth left_side) (rules.member c.now.depth)
+        (map T.decorator_of decorators.items) start (P.seen p.old)) result (P.seen p.new) }
 {
     let super_class = extended(c, t, p)?;
     surplus(c, t, p)?;
@@ -214,8 +232,11 @@ fn named_class<
     start: Span,
     decorators: Vec<T::Decorator>,
 ) -> PResult<T::Decl>
-    requires { ReadsClass P.seen T.expr_of T.member_of c.now.depth (E.pre c.now.expr) (E.post c.now.expr) (M.pre c.now.member) (M.post c.now.member) }
-    ensures { GivesAs T.decl_of (dressed.named_class_with (rules.expr c.now.depth left_side) (rules.member c.now.depth) (map T.decorator_of decorators.items) start (P.seen p.old)) result (P.seen p.new) }
+    requires { ReadsClass P.seen T.expr_of T.member_of c.now.depth (E.pre c.now.expr)
+        (E.post c.now.expr) (M.pre c.now.member) (M.post c.now.member) }
+    ensures { GivesAs T.decl_of
+        (dressed.named_class_with (rules.expr c.now.depth left_side) (rules.member c.now.depth)
+        (map T.decorator_of decorators.items) start (P.seen p.old)) result (P.seen p.new) }
 {
     p.skip()?;
     let name = p.name(Wanted::Name)?;
@@ -237,8 +258,11 @@ pub fn class_decl_with<
     start: Span,
     decorators: Vec<T::Decorator>,
 ) -> PResult<T::Decl>
-    requires { ReadsClass P.seen T.expr_of T.member_of c.now.depth (E.pre c.now.expr) (E.post c.now.expr) (M.pre c.now.member) (M.post c.now.member) }
-    ensures { GivesAs T.decl_of (dressed.class_decl_with (rules.expr c.now.depth left_side) (rules.member c.now.depth) (map T.decorator_of decorators.items) start (P.seen p.old)) result (P.seen p.new) }
+    requires { ReadsClass P.seen T.expr_of T.member_of c.now.depth (E.pre c.now.expr)
+        (E.post c.now.expr) (M.pre c.now.member) (M.post c.now.member) }
+    ensures { GivesAs T.decl_of
+        (dressed.class_decl_with (rules.expr c.now.depth left_side) (rules.member c.now.depth)
+        (map T.decorator_of decorators.items) start (P.seen p.old)) result (P.seen p.new) }
 {
     let outer = p.flags();
     p.set_flags(in_class(outer));
@@ -256,8 +280,11 @@ fn class_name<
     E: Fn(&MakerOf<T>, &mut P, usize, Class) -> PResult<T::Expr>,
     M: Fn(&MakerOf<T>, &mut P, usize, &[T::Member]) -> PResult<T::Member>,
 >(c: &ClassGrammar<E, M>, t: &MakerOf<T>, p: &mut P) -> PResult<Option<Ident>>
-    requires { ReadsClass P.seen T.expr_of T.member_of c.now.depth (E.pre c.now.expr) (E.post c.now.expr) (M.pre c.now.member) (M.post c.now.member) }
-    ensures { GivesAs (part_of word_of) (members.class_name (rules.expr c.now.depth left_side) (rules.member c.now.depth) (P.seen p.old)) result (P.seen p.new) }
+    requires { ReadsClass P.seen T.expr_of T.member_of c.now.depth (E.pre c.now.expr)
+        (E.post c.now.expr) (M.pre c.now.member) (M.post c.now.member) }
+    ensures { GivesAs (part_of word_of)
+        (members.class_name (rules.expr c.now.depth left_side) (rules.member c.now.depth)
+        (P.seen p.old)) result (P.seen p.new) }
 {
     if !p.name_at() {
         return Ok(None);
@@ -286,8 +313,11 @@ fn unnamed_class<
     p: &mut P,
     decorators: Vec<T::Decorator>,
 ) -> PResult<NamedClass<T::Class>>
-    requires { ReadsClass P.seen T.expr_of T.member_of c.now.depth (E.pre c.now.expr) (E.post c.now.expr) (M.pre c.now.member) (M.post c.now.member) }
-    ensures { GivesAs (class_expr_of T.class_of) (dressed.unnamed_class_with (rules.expr c.now.depth left_side) (rules.member c.now.depth) (map T.decorator_of decorators.items) (P.seen p.old)) result (P.seen p.new) }
+    requires { ReadsClass P.seen T.expr_of T.member_of c.now.depth (E.pre c.now.expr)
+        (E.post c.now.expr) (M.pre c.now.member) (M.post c.now.member) }
+    ensures { GivesAs (class_expr_of T.class_of)
+        (dressed.unnamed_class_with (rules.expr c.now.depth left_side) (rules.member c.now.depth)
+        (map T.decorator_of decorators.items) (P.seen p.old)) result (P.seen p.new) }
 {
     let start = p.span();
     p.skip()?;
@@ -309,8 +339,11 @@ pub fn class_expr_with<
     p: &mut P,
     decorators: Vec<T::Decorator>,
 ) -> PResult<NamedClass<T::Class>>
-    requires { ReadsClass P.seen T.expr_of T.member_of c.now.depth (E.pre c.now.expr) (E.post c.now.expr) (M.pre c.now.member) (M.post c.now.member) }
-    ensures { GivesAs (class_expr_of T.class_of) (dressed.class_expr_with (rules.expr c.now.depth left_side) (rules.member c.now.depth) (map T.decorator_of decorators.items) (P.seen p.old)) result (P.seen p.new) }
+    requires { ReadsClass P.seen T.expr_of T.member_of c.now.depth (E.pre c.now.expr)
+        (E.post c.now.expr) (M.pre c.now.member) (M.post c.now.member) }
+    ensures { GivesAs (class_expr_of T.class_of)
+        (dressed.class_expr_with (rules.expr c.now.depth left_side) (rules.member c.now.depth)
+        (map T.decorator_of decorators.items) (P.seen p.old)) result (P.seen p.new) }
 {
     let outer = p.flags();
     p.set_flags(in_class(outer));

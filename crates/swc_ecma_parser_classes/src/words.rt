@@ -93,7 +93,9 @@ pub fn begins_words<P: Cursor>(p: &P) -> bool
 
 /// Whether a `static` behind another word and a block stand here.
 pub fn begins_static_block<P: Cursor>(p: &P) -> bool
-    ensures { result ≡ (follows.word_at (codes "static") (P.seen p.now).at && looks.sees kind.LBrace (place.after (P.seen p.now).at)) }
+    ensures { result
+        ≡ (follows.word_at (codes "static") (P.seen p.now).at
+        && looks.sees kind.LBrace (place.after (P.seen p.now).at)) }
 {
     p.word_at("static") && p.next_sees(TokenKind::LBrace)
 }

@@ -49,7 +49,8 @@ fn label_text<P: Cursor>(alloc: Global, p: &mut P, label: &Ident) -> PResult<Box
 /// Records so many times that a label stands around already.
 #[tactic(auto, using(swc_ecma_parser_reader::proofs::Plain::told_none, swc_ecma_parser_reader::proofs::Plain::told_more, swc_ecma_parser_reader::proofs::Plain::told_err))]
 fn duplicate<P: Cursor>(alloc: Global, p: &mut P, label: &Ident, times: usize) -> PResult<()>
-    ensures { Gives (rules.told (replicate times (duplicate label.now.span)) (P.seen p.old)) result (P.seen p.new) }
+    ensures { Gives (rules.told (replicate times (duplicate label.now.span)) (P.seen p.old)) result
+        (P.seen p.new) }
 {
     let mut left = times;
     'times: while left > 0 {
@@ -64,7 +65,9 @@ fn duplicate<P: Cursor>(alloc: Global, p: &mut P, label: &Ident, times: usize) -
 #[tactic(auto, using(swc_ecma_parser_reader::proofs::Plain::duplicates_counted))]
 #[inline(never)]
 fn duplicates<P: Cursor>(alloc: Global, p: &mut P, label: &Ident) -> PResult<()>
-    ensures { Gives (rules.told (own.duplicates (P.seen p.old).scope.labels (tree.ident label.now.span label.now.sym)) (P.seen p.old)) result (P.seen p.new) }
+    ensures { Gives
+        (rules.told (own.duplicates (P.seen p.old).scope.labels
+        (tree.ident label.now.span label.now.sym)) (P.seen p.old)) result (P.seen p.new) }
 {
     let times = p.count_labels(label.sym.as_str());
     duplicate(alloc, p, label, times)
@@ -78,7 +81,11 @@ fn labelled_function<P: Cursor>(
     is_starred: bool,
     span: Span,
 ) -> PResult<()>
-    ensures { Gives (rules.told (if is_function then own.only (P.seen p.old).code.flags.strict kinds.LabelledFunctionInStrict span ++ own.only is_starred kinds.LabelledGeneratorOrAsync span else []) (P.seen p.old)) result (P.seen p.new) }
+    ensures { Gives
+        (rules.told (if is_function then own.only (P.seen p.old).code.flags.strict
+        kinds.LabelledFunctionInStrict span
+        ++ own.only is_starred kinds.LabelledGeneratorOrAsync span else []) (P.seen p.old)) result
+        (P.seen p.new) }
 {
     if is_function && p.flags().strict {
         p.fault(SyntaxError::LabelledFunctionInStrict, span)?;
@@ -99,8 +106,11 @@ fn labelled_body<
     E: Fn(&MakerOf<T>, &mut P, usize, Reading) -> PResult<Cover<T::Expr>>,
     N: Fn(&MakerOf<T>, &mut P, usize, Part) -> PResult<T::Pat>,
 >(g: &Grammar<S, E, N>, t: &MakerOf<T>, p: &mut P, label: Atom) -> PResult<T::Stmt>
-    requires { Nests P.seen T.expr_of T.pat_of T.stmt_of g.now.depth (S.pre g.now.stmt) (S.post g.now.stmt) (E.pre g.now.expr) (E.post g.now.expr) (N.pre g.now.pat) (N.post g.now.pat) }
-    ensures { GivesAs T.stmt_of (rules.labelled_body (rules.stmt g.now.depth) label (P.seen p.old)) result (P.seen p.new) }
+    requires { Nests P.seen T.expr_of T.pat_of T.stmt_of g.now.depth
+        (S.pre g.now.stmt) (S.post g.now.stmt) (E.pre g.now.expr) (E.post g.now.expr)
+        (N.pre g.now.pat) (N.post g.now.pat) }
+    ensures { GivesAs T.stmt_of (rules.labelled_body (rules.stmt g.now.depth) label (P.seen p.old))
+        result (P.seen p.new) }
 {
     let at = Position {
         include_decl: p.sees(TokenKind::Function),
@@ -125,8 +135,11 @@ fn labeled_stmt<
     E: Fn(&MakerOf<T>, &mut P, usize, Reading) -> PResult<Cover<T::Expr>>,
     N: Fn(&MakerOf<T>, &mut P, usize, Part) -> PResult<T::Pat>,
 >(g: &Grammar<S, E, N>, t: &MakerOf<T>, p: &mut P) -> PResult<T::Stmt>
-    requires { Nests P.seen T.expr_of T.pat_of T.stmt_of g.now.depth (S.pre g.now.stmt) (S.post g.now.stmt) (E.pre g.now.expr) (E.post g.now.expr) (N.pre g.now.pat) (N.post g.now.pat) }
-    ensures { GivesAs T.stmt_of (rules.labeled_stmt (rules.stmt g.now.depth) (P.seen p.old)) result (P.seen p.new) }
+    requires { Nests P.seen T.expr_of T.pat_of T.stmt_of g.now.depth
+        (S.pre g.now.stmt) (S.post g.now.stmt) (E.pre g.now.expr) (E.post g.now.expr)
+        (N.pre g.now.pat) (N.post g.now.pat) }
+    ensures { GivesAs T.stmt_of (rules.labeled_stmt (rules.stmt g.now.depth) (P.seen p.old)) result
+        (P.seen p.new) }
 {
     let start = p.span();
     let label = p.reference(Wanted::Name)?;
@@ -150,8 +163,12 @@ pub(crate) fn other_stmt<
     E: Fn(&MakerOf<T>, &mut P, usize, Reading) -> PResult<Cover<T::Expr>>,
     N: Fn(&MakerOf<T>, &mut P, usize, Part) -> PResult<T::Pat>,
 >(g: &Grammar<S, E, N>, t: &MakerOf<T>, p: &mut P, at: Position) -> PResult<T::Stmt>
-    requires { Nests P.seen T.expr_of T.pat_of T.stmt_of g.now.depth (S.pre g.now.stmt) (S.post g.now.stmt) (E.pre g.now.expr) (E.post g.now.expr) (N.pre g.now.pat) (N.post g.now.pat) }
-    ensures { GivesAs T.stmt_of (rules.other_stmt (rules.stmt g.now.depth) (rules.expr g.now.depth expression) (rules.operators g.now.depth) at (P.seen p.old)) result (P.seen p.new) }
+    requires { Nests P.seen T.expr_of T.pat_of T.stmt_of g.now.depth
+        (S.pre g.now.stmt) (S.post g.now.stmt) (E.pre g.now.expr) (E.post g.now.expr)
+        (N.pre g.now.pat) (N.post g.now.pat) }
+    ensures { GivesAs T.stmt_of
+        (rules.other_stmt (rules.stmt g.now.depth) (rules.expr g.now.depth expression)
+        (rules.operators g.now.depth) at (P.seen p.old)) result (P.seen p.new) }
 {
     if begins_label(p) {
         return labeled_stmt(g, t, p);
@@ -169,8 +186,14 @@ pub(crate) fn let_stmt<
     E: Fn(&MakerOf<T>, &mut P, usize, Reading) -> PResult<Cover<T::Expr>>,
     N: Fn(&MakerOf<T>, &mut P, usize, Part) -> PResult<T::Pat>,
 >(g: &Grammar<S, E, N>, t: &MakerOf<T>, p: &mut P, at: Position) -> PResult<T::Stmt>
-    requires { Nests P.seen T.expr_of T.pat_of T.stmt_of g.now.depth (S.pre g.now.stmt) (S.post g.now.stmt) (E.pre g.now.expr) (E.post g.now.expr) (N.pre g.now.pat) (N.post g.now.pat) }
-    ensures { GivesAs T.stmt_of (rules.let_stmt (rules.stmt g.now.depth) (rules.expr g.now.depth) (rules.pattern g.now.depth) (rules.head_cover g.now.depth) (rules.parameters g.now.depth) (rules.member g.now.depth) (rules.operators g.now.depth) at (P.seen p.old)) result (P.seen p.new) }
+    requires { Nests P.seen T.expr_of T.pat_of T.stmt_of g.now.depth
+        (S.pre g.now.stmt) (S.post g.now.stmt) (E.pre g.now.expr) (E.post g.now.expr)
+        (N.pre g.now.pat) (N.post g.now.pat) }
+    ensures { GivesAs T.stmt_of
+        (rules.let_stmt (rules.stmt g.now.depth) (rules.expr g.now.depth)
+        (rules.pattern g.now.depth) (rules.head_cover g.now.depth) (rules.parameters g.now.depth)
+        (rules.member g.now.depth) (rules.operators g.now.depth) at (P.seen p.old)) result
+        (P.seen p.new) }
 {
     if at.include_decl && p.is_let_declaration() {
         return variables(g, t, p, VarDeclKind::Let);

@@ -42,8 +42,14 @@ fn using_or_other<
     E: Fn(&MakerOf<T>, &mut P, usize, Reading) -> PResult<Cover<T::Expr>>,
     N: Fn(&MakerOf<T>, &mut P, usize, Part) -> PResult<T::Pat>,
 >(g: &Grammar<S, E, N>, t: &MakerOf<T>, p: &mut P, at: Position) -> PResult<T::Stmt>
-    requires { Nests P.seen T.expr_of T.pat_of T.stmt_of g.now.depth (S.pre g.now.stmt) (S.post g.now.stmt) (E.pre g.now.expr) (E.post g.now.expr) (N.pre g.now.pat) (N.post g.now.pat) }
-    ensures { GivesAs T.stmt_of (rules.using_or_other (rules.stmt g.now.depth) (rules.expr g.now.depth) (rules.pattern g.now.depth) (rules.head_cover g.now.depth) (rules.parameters g.now.depth) (rules.member g.now.depth) (rules.operators g.now.depth) at (P.seen p.old)) result (P.seen p.new) }
+    requires { Nests P.seen T.expr_of T.pat_of T.stmt_of g.now.depth
+        (S.pre g.now.stmt) (S.post g.now.stmt) (E.pre g.now.expr) (E.post g.now.expr)
+        (N.pre g.now.pat) (N.post g.now.pat) }
+    ensures { GivesAs T.stmt_of
+        (rules.using_or_other (rules.stmt g.now.depth) (rules.expr g.now.depth)
+        (rules.pattern g.now.depth) (rules.head_cover g.now.depth) (rules.parameters g.now.depth)
+        (rules.member g.now.depth) (rules.operators g.now.depth) at (P.seen p.old)) result
+        (P.seen p.new) }
 {
     if at.include_decl && p.is_using_declaration() {
         return using_stmt(g, t, p);
@@ -60,8 +66,14 @@ fn async_or_other<
     E: Fn(&MakerOf<T>, &mut P, usize, Reading) -> PResult<Cover<T::Expr>>,
     N: Fn(&MakerOf<T>, &mut P, usize, Part) -> PResult<T::Pat>,
 >(g: &Grammar<S, E, N>, t: &MakerOf<T>, p: &mut P, at: Position) -> PResult<T::Stmt>
-    requires { Nests P.seen T.expr_of T.pat_of T.stmt_of g.now.depth (S.pre g.now.stmt) (S.post g.now.stmt) (E.pre g.now.expr) (E.post g.now.expr) (N.pre g.now.pat) (N.post g.now.pat) }
-    ensures { GivesAs T.stmt_of (rules.async_or_other (rules.stmt g.now.depth) (rules.expr g.now.depth) (rules.pattern g.now.depth) (rules.head_cover g.now.depth) (rules.parameters g.now.depth) (rules.member g.now.depth) (rules.operators g.now.depth) at (P.seen p.old)) result (P.seen p.new) }
+    requires { Nests P.seen T.expr_of T.pat_of T.stmt_of g.now.depth
+        (S.pre g.now.stmt) (S.post g.now.stmt) (E.pre g.now.expr) (E.post g.now.expr)
+        (N.pre g.now.pat) (N.post g.now.pat) }
+    ensures { GivesAs T.stmt_of
+        (rules.async_or_other (rules.stmt g.now.depth) (rules.expr g.now.depth)
+        (rules.pattern g.now.depth) (rules.head_cover g.now.depth) (rules.parameters g.now.depth)
+        (rules.member g.now.depth) (rules.operators g.now.depth) at (P.seen p.old)) result
+        (P.seen p.new) }
 {
     if p.is_async_function() {
         return function_decl(g, t, p);
@@ -86,9 +98,15 @@ pub fn level<
     E: Fn(&MakerOf<T>, &mut P, usize, Reading) -> PResult<Cover<T::Expr>>,
     N: Fn(&MakerOf<T>, &mut P, usize, Part) -> PResult<T::Pat>,
 >(g: &Grammar<S, E, N>, t: &MakerOf<T>, p: &mut P, at: Position) -> PResult<T::Stmt>
-    requires readers { Nests P.seen T.expr_of T.pat_of T.stmt_of g.now.depth (S.pre g.now.stmt) (S.post g.now.stmt) (E.pre g.now.expr) (E.post g.now.expr) (N.pre g.now.pat) (N.post g.now.pat) }
+    requires readers { Nests P.seen T.expr_of T.pat_of T.stmt_of g.now.depth
+        (S.pre g.now.stmt) (S.post g.now.stmt) (E.pre g.now.expr) (E.post g.now.expr)
+        (N.pre g.now.pat) (N.post g.now.pat) }
     requires no_class { looks.kind_at (P.seen p.now).at ≢ kind.Class }
-    ensures { GivesAs T.stmt_of (rules.stmt_level (rules.stmt g.now.depth) (rules.expr g.now.depth) (rules.pattern g.now.depth) (rules.head_cover g.now.depth) (rules.parameters g.now.depth) (rules.member g.now.depth) (rules.operators g.now.depth) at (P.seen p.old)) result (P.seen p.new) }
+    ensures { GivesAs T.stmt_of
+        (rules.stmt_level (rules.stmt g.now.depth) (rules.expr g.now.depth)
+        (rules.pattern g.now.depth) (rules.head_cover g.now.depth) (rules.parameters g.now.depth)
+        (rules.member g.now.depth) (rules.operators g.now.depth) at (P.seen p.old)) result
+        (P.seen p.new) }
 {
     match p.kind() {
         TokenKind::LBrace => block(g, t, p),

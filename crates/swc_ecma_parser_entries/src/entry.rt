@@ -64,9 +64,11 @@ fn script_in<O: Origin, I: Tokens, T: BuildsStatements + BuildsScript>(
     call: &mut Call<O, I>,
     limit: usize,
 ) -> PResult<T::Script>
-    ensures answers { (s : reader.State) → call.old ≡ begun s → AnswersScript T.script_of limit (unmarked s) result call.new }
+    ensures answers { (s : reader.State) → call.old ≡ begun s
+        → AnswersScript T.script_of limit (unmarked s) result call.new }
     ensures outright { (s : reader.State) → call.old ≡ begun s → s.at.left ≡ [] → IsOk result }
-    ensures ahead { (s : reader.State) → call.old ≡ begun s → lacks_ahead s.at ≡ true → IsErrAnd result (λ e. call.new.scope.mark ≡ Some mark.OutOfMemory) }
+    ensures ahead { (s : reader.State) → call.old ≡ begun s → lacks_ahead s.at ≡ true
+        → IsErrAnd result (λ e. call.new.scope.mark ≡ Some mark.OutOfMemory) }
 {
     if call.is_marked() {
         return Err(call.lost());
@@ -88,13 +90,15 @@ fn script_from<O: Origin, I: Tokens, T: BuildsStatements + BuildsScript>(
     limit: usize,
 ) -> (State<I>, PResult<T::Script>)
     requires { O.start ≡ state }
-    ensures answers { AnswersScript T.script_of limit (unmarked (seen state)) result.1 (seen result.0) }
+    ensures answers { AnswersScript T.script_of limit (unmarked (seen state)) result.1
+        (seen result.0) }
     ensures outright { state.buffer.place.left ≡ [] → IsOk result.1 }
     ensures refused { OnErr result.1 (IsRestored (seen state) (seen result.0)) }
     ensures leaves { Leaves (seen O.start) (seen result.0) }
     ensures keeps { Keeps (source_of O.start) (source_of result.0) }
     ensures says { IfErr result.1 (λ e. Says result.0.mark (kind_of e.kind)) }
-    ensures ahead { lacks_ahead state.buffer.place ≡ true → IsErrAnd result.1 (λ e. kind_of e.kind ≡ OutOfMemory) }
+    ensures ahead { lacks_ahead state.buffer.place ≡ true
+        → IsErrAnd result.1 (λ e. kind_of e.kind ≡ OutOfMemory) }
 {
     let outer = state.flags();
     let found_module_item = state.found_module_item();
@@ -114,13 +118,15 @@ pub fn script<I: Tokens, T: BuildsStatements + BuildsScript>(
     state: State<I>,
     limit: usize,
 ) -> (State<I>, PResult<T::Script>)
-    ensures answers { AnswersScript T.script_of limit (unmarked (seen state)) result.1 (seen result.0) }
+    ensures answers { AnswersScript T.script_of limit (unmarked (seen state)) result.1
+        (seen result.0) }
     ensures outright { state.buffer.place.left ≡ [] → IsOk result.1 }
     ensures refused { OnErr result.1 (IsRestored (seen state) (seen result.0)) }
     ensures leaves { Leaves (seen state) (seen result.0) }
     ensures keeps { Keeps (source_of state) (source_of result.0) }
     ensures says { IfErr result.1 (λ e. Says result.0.mark (kind_of e.kind)) }
-    ensures ahead { lacks_ahead state.buffer.place ≡ true → IsErrAnd result.1 (λ e. kind_of e.kind ≡ OutOfMemory) }
+    ensures ahead { lacks_ahead state.buffer.place ≡ true
+        → IsErrAnd result.1 (λ e. kind_of e.kind ≡ OutOfMemory) }
 {
     script_from::<Brand, I, T>(alloc, state, limit)
 }
@@ -131,9 +137,11 @@ fn module_in<O: Origin, I: Tokens, T: BuildsStatements + BuildsExport + BuildsVa
     call: &mut Call<O, I>,
     limit: usize,
 ) -> PResult<T::Module>
-    ensures answers { (s : reader.State) → call.old ≡ begun s → (u : reader.State) × IsEntered (unmarked s) u × AnswersModule T.module_of limit u result call.new }
+    ensures answers { (s : reader.State) → call.old ≡ begun s → (u : reader.State)
+        × IsEntered (unmarked s) u × AnswersModule T.module_of limit u result call.new }
     ensures outright { (s : reader.State) → call.old ≡ begun s → s.at.left ≡ [] → IsOk result }
-    ensures ahead { (s : reader.State) → call.old ≡ begun s → lacks_ahead s.at ≡ true → IsErrAnd result (λ e. call.new.scope.mark ≡ Some mark.OutOfMemory) }
+    ensures ahead { (s : reader.State) → call.old ≡ begun s → lacks_ahead s.at ≡ true
+        → IsErrAnd result (λ e. call.new.scope.mark ≡ Some mark.OutOfMemory) }
 {
     let is_lost = call.is_marked();
     call.enter_module();
@@ -153,13 +161,15 @@ fn module_from<O: Origin, I: Tokens, T: BuildsStatements + BuildsExport + Builds
     limit: usize,
 ) -> (State<I>, PResult<T::Module>)
     requires { O.start ≡ state }
-    ensures answers { (u : reader.State) × IsEntered (unmarked (seen state)) u × AnswersModule T.module_of limit u result.1 (seen result.0) }
+    ensures answers { (u : reader.State) × IsEntered (unmarked (seen state)) u
+        × AnswersModule T.module_of limit u result.1 (seen result.0) }
     ensures outright { state.buffer.place.left ≡ [] → IsOk result.1 }
     ensures refused { OnErr result.1 (IsRestored (seen state) (seen result.0)) }
     ensures leaves { Leaves (seen O.start) (seen result.0) }
     ensures keeps { Keeps (source_of O.start) (source_of result.0) }
     ensures says { IfErr result.1 (λ e. Says result.0.mark (kind_of e.kind)) }
-    ensures ahead { lacks_ahead state.buffer.place ≡ true → IsErrAnd result.1 (λ e. kind_of e.kind ≡ OutOfMemory) }
+    ensures ahead { lacks_ahead state.buffer.place ≡ true
+        → IsErrAnd result.1 (λ e. kind_of e.kind ≡ OutOfMemory) }
 {
     let outer = state.flags();
     let found_module_item = state.found_module_item();
@@ -179,13 +189,15 @@ pub fn module<I: Tokens, T: BuildsStatements + BuildsExport + BuildsVarDecl>(
     state: State<I>,
     limit: usize,
 ) -> (State<I>, PResult<T::Module>)
-    ensures answers { (u : reader.State) × IsEntered (unmarked (seen state)) u × AnswersModule T.module_of limit u result.1 (seen result.0) }
+    ensures answers { (u : reader.State) × IsEntered (unmarked (seen state)) u
+        × AnswersModule T.module_of limit u result.1 (seen result.0) }
     ensures outright { state.buffer.place.left ≡ [] → IsOk result.1 }
     ensures refused { OnErr result.1 (IsRestored (seen state) (seen result.0)) }
     ensures leaves { Leaves (seen state) (seen result.0) }
     ensures keeps { Keeps (source_of state) (source_of result.0) }
     ensures says { IfErr result.1 (λ e. Says result.0.mark (kind_of e.kind)) }
-    ensures ahead { lacks_ahead state.buffer.place ≡ true → IsErrAnd result.1 (λ e. kind_of e.kind ≡ OutOfMemory) }
+    ensures ahead { lacks_ahead state.buffer.place ≡ true
+        → IsErrAnd result.1 (λ e. kind_of e.kind ≡ OutOfMemory) }
 {
     module_from::<Brand, I, T>(alloc, state, limit)
 }
@@ -197,9 +209,11 @@ fn program_in<O: Origin, I: Tokens, T: BuildsStatements + BuildsExport + BuildsV
     limit: usize,
     outer: Context,
 ) -> PResult<T::Program>
-    ensures answers { (s : reader.State) → call.old ≡ begun s → outer ≡ s.code.flags → AnswersProgram T.program_of limit (unmarked s) result call.new }
+    ensures answers { (s : reader.State) → call.old ≡ begun s → outer ≡ s.code.flags
+        → AnswersProgram T.program_of limit (unmarked s) result call.new }
     ensures outright { (s : reader.State) → call.old ≡ begun s → s.at.left ≡ [] → IsOk result }
-    ensures ahead { (s : reader.State) → call.old ≡ begun s → lacks_ahead s.at ≡ true → IsErrAnd result (λ e. call.new.scope.mark ≡ Some mark.OutOfMemory) }
+    ensures ahead { (s : reader.State) → call.old ≡ begun s → lacks_ahead s.at ≡ true
+        → IsErrAnd result (λ e. call.new.scope.mark ≡ Some mark.OutOfMemory) }
 {
     if call.is_marked() {
         return Err(call.lost());
@@ -218,13 +232,15 @@ fn program_from<O: Origin, I: Tokens, T: BuildsStatements + BuildsExport + Build
     limit: usize,
 ) -> (State<I>, PResult<T::Program>)
     requires { O.start ≡ state }
-    ensures answers { AnswersProgram T.program_of limit (unmarked (seen state)) result.1 (seen result.0) }
+    ensures answers { AnswersProgram T.program_of limit (unmarked (seen state)) result.1
+        (seen result.0) }
     ensures outright { state.buffer.place.left ≡ [] → IsOk result.1 }
     ensures refused { OnErr result.1 (IsRestored (seen state) (seen result.0)) }
     ensures leaves { Leaves (seen O.start) (seen result.0) }
     ensures keeps { Keeps (source_of O.start) (source_of result.0) }
     ensures says { IfErr result.1 (λ e. Says result.0.mark (kind_of e.kind)) }
-    ensures ahead { lacks_ahead state.buffer.place ≡ true → IsErrAnd result.1 (λ e. kind_of e.kind ≡ OutOfMemory) }
+    ensures ahead { lacks_ahead state.buffer.place ≡ true
+        → IsErrAnd result.1 (λ e. kind_of e.kind ≡ OutOfMemory) }
 {
     let outer = state.flags();
     let found_module_item = state.found_module_item();
@@ -244,20 +260,23 @@ pub fn program<I: Tokens, T: BuildsStatements + BuildsExport + BuildsVarDecl>(
     state: State<I>,
     limit: usize,
 ) -> (State<I>, PResult<T::Program>)
-    ensures answers { AnswersProgram T.program_of limit (unmarked (seen state)) result.1 (seen result.0) }
+    ensures answers { AnswersProgram T.program_of limit (unmarked (seen state)) result.1
+        (seen result.0) }
     ensures outright { state.buffer.place.left ≡ [] → IsOk result.1 }
     ensures refused { OnErr result.1 (IsRestored (seen state) (seen result.0)) }
     ensures leaves { Leaves (seen state) (seen result.0) }
     ensures keeps { Keeps (source_of state) (source_of result.0) }
     ensures says { IfErr result.1 (λ e. Says result.0.mark (kind_of e.kind)) }
-    ensures ahead { lacks_ahead state.buffer.place ≡ true → IsErrAnd result.1 (λ e. kind_of e.kind ≡ OutOfMemory) }
+    ensures ahead { lacks_ahead state.buffer.place ≡ true
+        → IsErrAnd result.1 (λ e. kind_of e.kind ≡ OutOfMemory) }
 {
     program_from::<Brand, I, T>(alloc, state, limit)
 }
 
 /// Makes module code of what begins with an import or an export.
 fn begin_item<O: Origin, I: Tokens>(call: &mut Call<O, I>)
-    ensures { (recorded : List Fault) × (map as_note recorded ≡ held_at call.old) × (call.new ≡ begun_item recorded call.old) }
+    ensures { (recorded : List Fault) × (map as_note recorded ≡ held_at call.old)
+        × (call.new ≡ begun_item recorded call.old) }
 {
     if !begins_module(call) {
         return;
@@ -271,7 +290,9 @@ fn item_alone<O: Origin, I: Tokens, T: BuildsStatements + BuildsExport + BuildsV
     call: &mut Call<O, I>,
     limit: usize,
 ) -> PResult<T::Item>
-    ensures { (recorded : List Fault) × GivesAs (λ x. (T.item_of x, map as_note recorded)) (item_whole limit recorded call.old) result call.new }
+    ensures { (recorded : List Fault)
+        × GivesAs (λ x. (T.item_of x, map as_note recorded)) (item_whole limit recorded call.old)
+        result call.new }
 {
     if !begins_decorators(call) {
         begin_item(call);
@@ -291,10 +312,12 @@ fn item_in<O: Origin, I: Tokens, T: BuildsStatements + BuildsExport + BuildsVarD
     call: &mut Call<O, I>,
     limit: usize,
 ) -> PResult<T::Item>
-    ensures answers { (s : reader.State) → call.old ≡ begun s → AnswersItem T.item_of limit (unmarked s) result call.new }
+    ensures answers { (s : reader.State) → call.old ≡ begun s
+        → AnswersItem T.item_of limit (unmarked s) result call.new }
     ensures at_end { (s : reader.State) → call.old ≡ begun s → s.at.left ≡ []
         → (call.new.scope.mark ≡ None) × IsErrAnd result (λ e. fault_of e ≡ reader.fault_at (reader.end_of s.at.last) Eof) }
-    ensures ahead { (s : reader.State) → call.old ≡ begun s → lacks_ahead s.at ≡ true → IsErrAnd result (λ e. call.new.scope.mark ≡ Some mark.OutOfMemory) }
+    ensures ahead { (s : reader.State) → call.old ≡ begun s → lacks_ahead s.at ≡ true
+        → IsErrAnd result (λ e. call.new.scope.mark ≡ Some mark.OutOfMemory) }
 {
     if call.is_marked() {
         return Err(call.lost());
@@ -316,12 +339,15 @@ fn item_from<O: Origin, I: Tokens, T: BuildsStatements + BuildsExport + BuildsVa
 ) -> (State<I>, PResult<T::Item>)
     requires { O.start ≡ state }
     ensures answers { AnswersItem T.item_of limit (unmarked (seen state)) result.1 (seen result.0) }
-    ensures at_end { state.buffer.place.left ≡ [] → IsErrAnd result.1 (λ e. fault_of e ≡ reader.fault_at (reader.end_of state.buffer.place.last) Eof) }
+    ensures at_end { state.buffer.place.left ≡ []
+        → IsErrAnd result.1
+        (λ e. fault_of e ≡ reader.fault_at (reader.end_of state.buffer.place.last) Eof) }
     ensures refused { OnErr result.1 (IsRestored (seen state) (seen result.0)) }
     ensures leaves { Leaves (seen O.start) (seen result.0) }
     ensures keeps { Keeps (source_of O.start) (source_of result.0) }
     ensures says { IfErr result.1 (λ e. Says result.0.mark (kind_of e.kind)) }
-    ensures ahead { lacks_ahead state.buffer.place ≡ true → IsErrAnd result.1 (λ e. kind_of e.kind ≡ OutOfMemory) }
+    ensures ahead { lacks_ahead state.buffer.place ≡ true
+        → IsErrAnd result.1 (λ e. kind_of e.kind ≡ OutOfMemory) }
 {
     let outer = state.flags();
     let found_module_item = state.found_module_item();
@@ -342,12 +368,15 @@ pub fn item<I: Tokens, T: BuildsStatements + BuildsExport + BuildsVarDecl>(
     limit: usize,
 ) -> (State<I>, PResult<T::Item>)
     ensures answers { AnswersItem T.item_of limit (unmarked (seen state)) result.1 (seen result.0) }
-    ensures at_end { state.buffer.place.left ≡ [] → IsErrAnd result.1 (λ e. fault_of e ≡ reader.fault_at (reader.end_of state.buffer.place.last) Eof) }
+    ensures at_end { state.buffer.place.left ≡ []
+        → IsErrAnd result.1
+        (λ e. fault_of e ≡ reader.fault_at (reader.end_of state.buffer.place.last) Eof) }
     ensures refused { OnErr result.1 (IsRestored (seen state) (seen result.0)) }
     ensures leaves { Leaves (seen state) (seen result.0) }
     ensures keeps { Keeps (source_of state) (source_of result.0) }
     ensures says { IfErr result.1 (λ e. Says result.0.mark (kind_of e.kind)) }
-    ensures ahead { lacks_ahead state.buffer.place ≡ true → IsErrAnd result.1 (λ e. kind_of e.kind ≡ OutOfMemory) }
+    ensures ahead { lacks_ahead state.buffer.place ≡ true
+        → IsErrAnd result.1 (λ e. kind_of e.kind ≡ OutOfMemory) }
 {
     item_from::<Brand, I, T>(alloc, state, limit)
 }
@@ -359,10 +388,13 @@ fn statement_in<O: Origin, I: Tokens, T: BuildsStatements>(
     limit: usize,
     at: Position,
 ) -> PResult<T::Stmt>
-    ensures answers { (s : reader.State) → call.old ≡ begun s → AnswersStatement T.stmt_of limit at.include_decl at.top_level (unmarked s) result call.new }
+    ensures answers { (s : reader.State) → call.old ≡ begun s
+        → AnswersStatement T.stmt_of limit at.include_decl at.top_level (unmarked s) result
+        call.new }
     ensures at_end { (s : reader.State) → call.old ≡ begun s → s.at.left ≡ []
         → (call.new.scope.mark ≡ None) × IsErrAnd result (λ e. fault_of e ≡ reader.fault_at (reader.end_of s.at.last) Eof) }
-    ensures ahead { (s : reader.State) → call.old ≡ begun s → lacks_ahead s.at ≡ true → IsErrAnd result (λ e. call.new.scope.mark ≡ Some mark.OutOfMemory) }
+    ensures ahead { (s : reader.State) → call.old ≡ begun s → lacks_ahead s.at ≡ true
+        → IsErrAnd result (λ e. call.new.scope.mark ≡ Some mark.OutOfMemory) }
 {
     if call.is_marked() {
         return Err(call.lost());
@@ -384,13 +416,17 @@ fn statement_from<O: Origin, I: Tokens, T: BuildsStatements>(
     at: Position,
 ) -> (State<I>, PResult<T::Stmt>)
     requires { O.start ≡ state }
-    ensures answers { AnswersStatement T.stmt_of limit at.include_decl at.top_level (unmarked (seen state)) result.1 (seen result.0) }
-    ensures at_end { state.buffer.place.left ≡ [] → IsErrAnd result.1 (λ e. fault_of e ≡ reader.fault_at (reader.end_of state.buffer.place.last) Eof) }
+    ensures answers { AnswersStatement T.stmt_of limit at.include_decl at.top_level
+        (unmarked (seen state)) result.1 (seen result.0) }
+    ensures at_end { state.buffer.place.left ≡ []
+        → IsErrAnd result.1
+        (λ e. fault_of e ≡ reader.fault_at (reader.end_of state.buffer.place.last) Eof) }
     ensures refused { OnErr result.1 (IsRestored (seen state) (seen result.0)) }
     ensures leaves { Leaves (seen O.start) (seen result.0) }
     ensures keeps { Keeps (source_of O.start) (source_of result.0) }
     ensures says { IfErr result.1 (λ e. Says result.0.mark (kind_of e.kind)) }
-    ensures ahead { lacks_ahead state.buffer.place ≡ true → IsErrAnd result.1 (λ e. kind_of e.kind ≡ OutOfMemory) }
+    ensures ahead { lacks_ahead state.buffer.place ≡ true
+        → IsErrAnd result.1 (λ e. kind_of e.kind ≡ OutOfMemory) }
 {
     let outer = state.flags();
     let found_module_item = state.found_module_item();
@@ -411,13 +447,17 @@ pub fn statement<I: Tokens, T: BuildsStatements>(
     limit: usize,
     at: Position,
 ) -> (State<I>, PResult<T::Stmt>)
-    ensures answers { AnswersStatement T.stmt_of limit at.include_decl at.top_level (unmarked (seen state)) result.1 (seen result.0) }
-    ensures at_end { state.buffer.place.left ≡ [] → IsErrAnd result.1 (λ e. fault_of e ≡ reader.fault_at (reader.end_of state.buffer.place.last) Eof) }
+    ensures answers { AnswersStatement T.stmt_of limit at.include_decl at.top_level
+        (unmarked (seen state)) result.1 (seen result.0) }
+    ensures at_end { state.buffer.place.left ≡ []
+        → IsErrAnd result.1
+        (λ e. fault_of e ≡ reader.fault_at (reader.end_of state.buffer.place.last) Eof) }
     ensures refused { OnErr result.1 (IsRestored (seen state) (seen result.0)) }
     ensures leaves { Leaves (seen state) (seen result.0) }
     ensures keeps { Keeps (source_of state) (source_of result.0) }
     ensures says { IfErr result.1 (λ e. Says result.0.mark (kind_of e.kind)) }
-    ensures ahead { lacks_ahead state.buffer.place ≡ true → IsErrAnd result.1 (λ e. kind_of e.kind ≡ OutOfMemory) }
+    ensures ahead { lacks_ahead state.buffer.place ≡ true
+        → IsErrAnd result.1 (λ e. kind_of e.kind ≡ OutOfMemory) }
 {
     statement_from::<Brand, I, T>(alloc, state, limit, at)
 }

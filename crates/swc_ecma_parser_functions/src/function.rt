@@ -48,7 +48,8 @@ pub struct Manner {
 
 /// What stands around the name of a function that is an expression.
 fn named_by(flags: Context, manner: Manner) -> Context
-    ensures { result ≡ record flags { in_async = manner.is_async; in_generator = manner.is_generator } }
+    ensures { result
+        ≡ record flags { in_async = manner.is_async; in_generator = manner.is_generator } }
 {
     Context {
         in_async: manner.is_async,
@@ -59,7 +60,14 @@ fn named_by(flags: Context, manner: Manner) -> Context
 
 /// What stands around parameters.
 fn in_parameters(flags: Context, manner: Manner) -> Context
-    ensures { result ≡ record flags { in_parameters = true; in_function = false; in_async = manner.is_async; in_generator = manner.is_generator; include_in_expr = true } }
+    ensures { result
+        ≡ record flags {
+          in_parameters = true;
+          in_function = false;
+          in_async = manner.is_async;
+          in_generator = manner.is_generator;
+          include_in_expr = true;
+        } }
 {
     Context {
         in_parameters: true,
@@ -73,7 +81,16 @@ fn in_parameters(flags: Context, manner: Manner) -> Context
 
 /// What stands around the statements of a body.
 fn in_body(flags: Context, manner: Manner) -> Context
-    ensures { result ≡ record flags { in_function = true; in_static_block = false; is_break_allowed = false; is_continue_allowed = false; in_async = manner.is_async; in_generator = manner.is_generator; include_in_expr = true } }
+    ensures { result
+        ≡ record flags {
+          in_function = true;
+          in_static_block = false;
+          is_break_allowed = false;
+          is_continue_allowed = false;
+          in_async = manner.is_async;
+          in_generator = manner.is_generator;
+          include_in_expr = true;
+        } }
 {
     Context {
         in_function: true,
@@ -113,8 +130,12 @@ pub fn parameters_inside<
     E: Fn(&MakerOf<T>, &mut P, usize, Reading) -> PResult<Cover<T::Expr>>,
     N: Fn(&MakerOf<T>, &mut P, usize, Part) -> PResult<T::Pat>,
 >(g: &Grammar<S, E, N>, t: &MakerOf<T>, p: &mut P, manner: Manner) -> PResult<Vec<T::Pat>>
-    requires { Nests P.seen T.expr_of T.pat_of T.stmt_of g.now.depth (S.pre g.now.stmt) (S.post g.now.stmt) (E.pre g.now.expr) (E.post g.now.expr) (N.pre g.now.pat) (N.post g.now.pat) }
-    ensures { GivesAs (λ found. map T.pat_of found.items) (within (λ k. contexts.in_parameters k manner.is_async manner.is_generator) (rules.parameters g.now.depth) (P.seen p.old)) result (P.seen p.new) }
+    requires { Nests P.seen T.expr_of T.pat_of T.stmt_of g.now.depth
+        (S.pre g.now.stmt) (S.post g.now.stmt) (E.pre g.now.expr) (E.post g.now.expr)
+        (N.pre g.now.pat) (N.post g.now.pat) }
+    ensures { GivesAs (λ found. map T.pat_of found.items)
+        (within (λ k. contexts.in_parameters k manner.is_async manner.is_generator)
+        (rules.parameters g.now.depth) (P.seen p.old)) result (P.seen p.new) }
 {
     let outer = p.flags();
     p.set_flags(in_parameters(outer, manner));
@@ -132,9 +153,15 @@ fn block<
     E: Fn(&MakerOf<T>, &mut P, usize, Reading) -> PResult<Cover<T::Expr>>,
     N: Fn(&MakerOf<T>, &mut P, usize, Part) -> PResult<T::Pat>,
 >(g: &Grammar<S, E, N>, t: &MakerOf<T>, p: &mut P) -> PResult<FunctionBody<T::Block>>
-    requires { Nests P.seen T.expr_of T.pat_of T.stmt_of g.now.depth (S.pre g.now.stmt) (S.post g.now.stmt) (E.pre g.now.expr) (E.post g.now.expr) (N.pre g.now.pat) (N.post g.now.pat) }
-    ensures gives { GivesAs (λ body. T.block_of body.block) (rules.braced (rules.stmt g.now.depth nested_item) true (P.seen p.old)) result (P.seen p.new) }
-    ensures directive { IfOk result (λ body. own.misplaced_directive false (T.block_of body.block) ≡ late body.strict_directive) }
+    requires { Nests P.seen T.expr_of T.pat_of T.stmt_of g.now.depth
+        (S.pre g.now.stmt) (S.post g.now.stmt) (E.pre g.now.expr) (E.post g.now.expr)
+        (N.pre g.now.pat) (N.post g.now.pat) }
+    ensures gives { GivesAs (λ body. T.block_of body.block)
+        (rules.braced (rules.stmt g.now.depth nested_item) true (P.seen p.old)) result
+        (P.seen p.new) }
+    ensures directive { IfOk result
+        (λ body. own.misplaced_directive false (T.block_of body.block)
+        ≡ late body.strict_directive) }
 {
     let start = p.span();
     p.expect(TokenKind::LBrace, "{")?;
@@ -163,9 +190,16 @@ pub fn inner_body<
     p: &mut P,
     manner: Manner,
 ) -> PResult<FunctionBody<T::Block>>
-    requires { Nests P.seen T.expr_of T.pat_of T.stmt_of g.now.depth (S.pre g.now.stmt) (S.post g.now.stmt) (E.pre g.now.expr) (E.post g.now.expr) (N.pre g.now.pat) (N.post g.now.pat) }
-    ensures gives { GivesAs (λ body. T.block_of body.block) (within (λ k. contexts.in_body k manner.is_async manner.is_generator) (enclosed (rules.braced (rules.stmt g.now.depth nested_item) true)) (P.seen p.old)) result (P.seen p.new) }
-    ensures directive { IfOk result (λ body. own.misplaced_directive false (T.block_of body.block) ≡ late body.strict_directive) }
+    requires { Nests P.seen T.expr_of T.pat_of T.stmt_of g.now.depth
+        (S.pre g.now.stmt) (S.post g.now.stmt) (E.pre g.now.expr) (E.post g.now.expr)
+        (N.pre g.now.pat) (N.post g.now.pat) }
+    ensures gives { GivesAs (λ body. T.block_of body.block)
+        (within (λ k. contexts.in_body k manner.is_async manner.is_generator)
+        (enclosed (rules.braced (rules.stmt g.now.depth nested_item) true)) (P.seen p.old)) result
+        (P.seen p.new) }
+    ensures directive { IfOk result
+        (λ body. own.misplaced_directive false (T.block_of body.block)
+        ≡ late body.strict_directive) }
 {
     let outer = p.flags();
     p.set_flags(in_body(outer, manner));
@@ -190,9 +224,15 @@ pub fn function_body<
     p: &mut P,
     manner: Manner,
 ) -> PResult<FunctionBody<T::Block>>
-    requires { Nests P.seen T.expr_of T.pat_of T.stmt_of g.now.depth (S.pre g.now.stmt) (S.post g.now.stmt) (E.pre g.now.expr) (E.post g.now.expr) (N.pre g.now.pat) (N.post g.now.pat) }
-    ensures gives { GivesAs (λ body. T.block_of body.block) (rules.function_body (rules.stmt g.now.depth nested_item) (rules.parameters g.now.depth) manner.is_async manner.is_generator (P.seen p.old)) result (P.seen p.new) }
-    ensures directive { IfOk result (λ body. own.misplaced_directive false (T.block_of body.block) ≡ late body.strict_directive) }
+    requires { Nests P.seen T.expr_of T.pat_of T.stmt_of g.now.depth
+        (S.pre g.now.stmt) (S.post g.now.stmt) (E.pre g.now.expr) (E.post g.now.expr)
+        (N.pre g.now.pat) (N.post g.now.pat) }
+    ensures gives { GivesAs (λ body. T.block_of body.block)
+        (rules.function_body (rules.stmt g.now.depth nested_item) (rules.parameters g.now.depth)
+        manner.is_async manner.is_generator (P.seen p.old)) result (P.seen p.new) }
+    ensures directive { IfOk result
+        (λ body. own.misplaced_directive false (T.block_of body.block)
+        ≡ late body.strict_directive) }
 {
     inner_body(g, t, p, manner)
 }
@@ -203,7 +243,8 @@ pub fn as_params<P: Cursor, T: BuildsFunction + BuildsPattern>(
     p: &mut P,
     pats: Vec<T::Pat>,
 ) -> PResult<Vec<T::Param>>
-    ensures made { IfOk result (λ params. map T.param_of params.items ≡ map parameter (map T.pat_of pats.items)) }
+    ensures made { IfOk result
+        (λ params. map T.param_of params.items ≡ map parameter (map T.pat_of pats.items)) }
     ensures state { IfOk result (λ params. P.seen p.new ≡ P.seen p.old) }
     ensures err { IfErr result IsOutOfMemory }
 {
@@ -226,7 +267,8 @@ pub fn are_plain<T: BuildsFunction>(params: &[T::Param]) -> bool
 /// Records a directive that says a body is strict, where a parameter is no plain name.
 pub fn misdirected<P: Cursor>(p: &mut P, is_plain: bool, directive: Option<Span>) -> PResult<()>
     ensures plain { is_plain ≡ true → Gives (rules.told [] (P.seen p.old)) result (P.seen p.new) }
-    ensures late { is_plain ≡ false → Gives (rules.told (late directive) (P.seen p.old)) result (P.seen p.new) }
+    ensures late { is_plain ≡ false
+        → Gives (rules.told (late directive) (P.seen p.old)) result (P.seen p.new) }
 {
     match directive {
         Some(span) if !is_plain => p.fault(SyntaxError::IllegalLanguageModeDirective, span),
@@ -275,8 +317,13 @@ pub fn function_parts_with<
     start: Span,
     decorators: Vec<T::Decorator>,
 ) -> PResult<T::Function>
-    requires { Nests P.seen T.expr_of T.pat_of T.stmt_of g.now.depth (S.pre g.now.stmt) (S.post g.now.stmt) (E.pre g.now.expr) (E.post g.now.expr) (N.pre g.now.pat) (N.post g.now.pat) }
-    ensures { GivesAs T.function_of (dressed.function_parts_with (rules.stmt g.now.depth nested_item) (rules.parameters g.now.depth) (map T.decorator_of decorators.items) manner.is_async manner.is_generator start (P.seen p.old)) result (P.seen p.new) }
+    requires { Nests P.seen T.expr_of T.pat_of T.stmt_of g.now.depth
+        (S.pre g.now.stmt) (S.post g.now.stmt) (E.pre g.now.expr) (E.post g.now.expr)
+        (N.pre g.now.pat) (N.post g.now.pat) }
+    ensures { GivesAs T.function_of
+        (dressed.function_parts_with (rules.stmt g.now.depth nested_item)
+        (rules.parameters g.now.depth) (map T.decorator_of decorators.items) manner.is_async
+        manner.is_generator start (P.seen p.old)) result (P.seen p.new) }
 {
     let pats = parameters_inside(g, t, p, manner)?;
     let FunctionBody {
@@ -313,8 +360,12 @@ pub fn function_parts<
     manner: Manner,
     start: Span,
 ) -> PResult<T::Function>
-    requires { Nests P.seen T.expr_of T.pat_of T.stmt_of g.now.depth (S.pre g.now.stmt) (S.post g.now.stmt) (E.pre g.now.expr) (E.post g.now.expr) (N.pre g.now.pat) (N.post g.now.pat) }
-    ensures { GivesAs T.function_of (rules.function_parts (rules.stmt g.now.depth nested_item) (rules.parameters g.now.depth) manner.is_async manner.is_generator start (P.seen p.old)) result (P.seen p.new) }
+    requires { Nests P.seen T.expr_of T.pat_of T.stmt_of g.now.depth
+        (S.pre g.now.stmt) (S.post g.now.stmt) (E.pre g.now.expr) (E.post g.now.expr)
+        (N.pre g.now.pat) (N.post g.now.pat) }
+    ensures { GivesAs T.function_of
+        (rules.function_parts (rules.stmt g.now.depth nested_item) (rules.parameters g.now.depth)
+        manner.is_async manner.is_generator start (P.seen p.old)) result (P.seen p.new) }
 {
     function_parts_with(g, t, p, manner, start, Vec::new(t.alloc))
 }
@@ -329,8 +380,12 @@ pub fn function_decl<
     E: Fn(&MakerOf<T>, &mut P, usize, Reading) -> PResult<Cover<T::Expr>>,
     N: Fn(&MakerOf<T>, &mut P, usize, Part) -> PResult<T::Pat>,
 >(g: &Grammar<S, E, N>, t: &MakerOf<T>, p: &mut P) -> PResult<T::Stmt>
-    requires { Nests P.seen T.expr_of T.pat_of T.stmt_of g.now.depth (S.pre g.now.stmt) (S.post g.now.stmt) (E.pre g.now.expr) (E.post g.now.expr) (N.pre g.now.pat) (N.post g.now.pat) }
-    ensures { GivesAs T.stmt_of (rules.function_decl (rules.stmt g.now.depth nested_item) (rules.parameters g.now.depth) (P.seen p.old)) result (P.seen p.new) }
+    requires { Nests P.seen T.expr_of T.pat_of T.stmt_of g.now.depth
+        (S.pre g.now.stmt) (S.post g.now.stmt) (E.pre g.now.expr) (E.post g.now.expr)
+        (N.pre g.now.pat) (N.post g.now.pat) }
+    ensures { GivesAs T.stmt_of
+        (rules.function_decl (rules.stmt g.now.depth nested_item) (rules.parameters g.now.depth)
+        (P.seen p.old)) result (P.seen p.new) }
 {
     let start = p.span();
     let is_async = function_word(p)?;
@@ -354,8 +409,12 @@ pub fn function_stmt<
     E: Fn(&MakerOf<T>, &mut P, usize, Reading) -> PResult<Cover<T::Expr>>,
     N: Fn(&MakerOf<T>, &mut P, usize, Part) -> PResult<T::Pat>,
 >(g: &Grammar<S, E, N>, t: &MakerOf<T>, p: &mut P, at: Position) -> PResult<T::Stmt>
-    requires { Nests P.seen T.expr_of T.pat_of T.stmt_of g.now.depth (S.pre g.now.stmt) (S.post g.now.stmt) (E.pre g.now.expr) (E.post g.now.expr) (N.pre g.now.pat) (N.post g.now.pat) }
-    ensures { GivesAs T.stmt_of (rules.function_stmt (rules.stmt g.now.depth nested_item) (rules.parameters g.now.depth) at (P.seen p.old)) result (P.seen p.new) }
+    requires { Nests P.seen T.expr_of T.pat_of T.stmt_of g.now.depth
+        (S.pre g.now.stmt) (S.post g.now.stmt) (E.pre g.now.expr) (E.post g.now.expr)
+        (N.pre g.now.pat) (N.post g.now.pat) }
+    ensures { GivesAs T.stmt_of
+        (rules.function_stmt (rules.stmt g.now.depth nested_item) (rules.parameters g.now.depth) at
+        (P.seen p.old)) result (P.seen p.new) }
 {
     if !at.include_decl {
         let word = p.span();
@@ -367,7 +426,8 @@ pub fn function_stmt<
 /// The name of a function that is an expression, read in the function's own code, if there is one.
 #[inline(never)]
 fn own_name<P: Cursor>(p: &mut P, manner: Manner) -> PResult<Option<Ident>>
-    ensures { GivesAs (part_of word_of) (rules.own_name manner.is_async manner.is_generator (P.seen p.old)) result (P.seen p.new) }
+    ensures { GivesAs (part_of word_of)
+        (rules.own_name manner.is_async manner.is_generator (P.seen p.old)) result (P.seen p.new) }
 {
     let outer = p.flags();
     p.set_flags(named_by(outer, manner));
@@ -390,8 +450,11 @@ pub fn function_expr<
     E: Fn(&MakerOf<T>, &mut P, usize, Reading) -> PResult<Cover<T::Expr>>,
     N: Fn(&MakerOf<T>, &mut P, usize, Part) -> PResult<T::Pat>,
 >(g: &Grammar<S, E, N>, t: &MakerOf<T>, p: &mut P) -> PResult<T::Expr>
-    requires { Nests P.seen T.expr_of T.pat_of T.stmt_of g.now.depth (S.pre g.now.stmt) (S.post g.now.stmt) (E.pre g.now.expr) (E.post g.now.expr) (N.pre g.now.pat) (N.post g.now.pat) }
-    ensures { GivesAs T.expr_of (rules.function g.now.depth expression_form (P.seen p.old)) result (P.seen p.new) }
+    requires { Nests P.seen T.expr_of T.pat_of T.stmt_of g.now.depth
+        (S.pre g.now.stmt) (S.post g.now.stmt) (E.pre g.now.expr) (E.post g.now.expr)
+        (N.pre g.now.pat) (N.post g.now.pat) }
+    ensures { GivesAs T.expr_of (rules.function g.now.depth expression_form (P.seen p.old)) result
+        (P.seen p.new) }
 {
     let start = p.span();
     let is_async = function_word(p)?;

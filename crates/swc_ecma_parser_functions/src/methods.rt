@@ -80,7 +80,8 @@ pub fn method_words<P: Cursor>(p: &mut P) -> PResult<MethodForm>
 /// A getter has no parameter; else its word is refused.
 #[inline(never)]
 fn no_parameter<P: Cursor, T: Trees>(p: &mut P, params: &[T::Pat], word: Span) -> PResult<()>
-    ensures { Gives (rules.no_parameter word (map T.pat_of params.now) (P.seen p.old)) result (P.seen p.new) }
+    ensures { Gives (rules.no_parameter word (map T.pat_of params.now) (P.seen p.old)) result
+        (P.seen p.new) }
 {
     if params.is_empty() {
         return Ok(());
@@ -95,7 +96,8 @@ fn one_parameter<P: Cursor, T: BuildsPattern>(
     params: Vec<T::Pat>,
     word: Span,
 ) -> PResult<T::Pat>
-    ensures { GivesAs T.pat_of (rules.one_parameter word (map T.pat_of params.items) (P.seen p.old)) result (P.seen p.new) }
+    ensures { GivesAs T.pat_of (rules.one_parameter word (map T.pat_of params.items) (P.seen p.old))
+        result (P.seen p.new) }
 {
     let mut params = params;
     let Some(param) = params.pop() else {
@@ -126,8 +128,12 @@ fn getter<
     start: Span,
     key: Key<T::Expr>,
 ) -> PResult<T::Prop>
-    requires { Nests P.seen T.expr_of T.pat_of T.stmt_of g.now.depth (S.pre g.now.stmt) (S.post g.now.stmt) (E.pre g.now.expr) (E.post g.now.expr) (N.pre g.now.pat) (N.post g.now.pat) }
-    ensures { GivesAs T.prop_of (rules.getter (rules.stmt g.now.depth nested_item) (rules.parameters g.now.depth) start (key_of T.expr_of key) (P.seen p.old)) result (P.seen p.new) }
+    requires { Nests P.seen T.expr_of T.pat_of T.stmt_of g.now.depth
+        (S.pre g.now.stmt) (S.post g.now.stmt) (E.pre g.now.expr) (E.post g.now.expr)
+        (N.pre g.now.pat) (N.post g.now.pat) }
+    ensures { GivesAs T.prop_of
+        (rules.getter (rules.stmt g.now.depth nested_item) (rules.parameters g.now.depth) start
+        (key_of T.expr_of key) (P.seen p.old)) result (P.seen p.new) }
 {
     let params = parameters_inside(g, t, p, PLAIN)?;
     no_parameter::<P, T>(p, &params, start)?;
@@ -156,8 +162,12 @@ fn setter<
     start: Span,
     key: Key<T::Expr>,
 ) -> PResult<T::Prop>
-    requires { Nests P.seen T.expr_of T.pat_of T.stmt_of g.now.depth (S.pre g.now.stmt) (S.post g.now.stmt) (E.pre g.now.expr) (E.post g.now.expr) (N.pre g.now.pat) (N.post g.now.pat) }
-    ensures { GivesAs T.prop_of (rules.setter (rules.stmt g.now.depth nested_item) (rules.parameters g.now.depth) start (key_of T.expr_of key) (P.seen p.old)) result (P.seen p.new) }
+    requires { Nests P.seen T.expr_of T.pat_of T.stmt_of g.now.depth
+        (S.pre g.now.stmt) (S.post g.now.stmt) (E.pre g.now.expr) (E.post g.now.expr)
+        (N.pre g.now.pat) (N.post g.now.pat) }
+    ensures { GivesAs T.prop_of
+        (rules.setter (rules.stmt g.now.depth nested_item) (rules.parameters g.now.depth) start
+        (key_of T.expr_of key) (P.seen p.old)) result (P.seen p.new) }
 {
     let params = parameters_inside(g, t, p, PLAIN)?;
     let param = one_parameter::<P, T>(p, params, start)?;
@@ -188,8 +198,13 @@ fn plain_method<
     start: Span,
     key: Key<T::Expr>,
 ) -> PResult<T::Prop>
-    requires { Nests P.seen T.expr_of T.pat_of T.stmt_of g.now.depth (S.pre g.now.stmt) (S.post g.now.stmt) (E.pre g.now.expr) (E.post g.now.expr) (N.pre g.now.pat) (N.post g.now.pat) }
-    ensures { GivesAs T.prop_of (rules.plain_method (rules.stmt g.now.depth nested_item) (rules.parameters g.now.depth) manner.is_async manner.is_generator start (key_of T.expr_of key) (P.seen p.old)) result (P.seen p.new) }
+    requires { Nests P.seen T.expr_of T.pat_of T.stmt_of g.now.depth
+        (S.pre g.now.stmt) (S.post g.now.stmt) (E.pre g.now.expr) (E.post g.now.expr)
+        (N.pre g.now.pat) (N.post g.now.pat) }
+    ensures { GivesAs T.prop_of
+        (rules.plain_method (rules.stmt g.now.depth nested_item) (rules.parameters g.now.depth)
+        manner.is_async manner.is_generator start (key_of T.expr_of key) (P.seen p.old)) result
+        (P.seen p.new) }
 {
     let function = function_parts(g, t, p, manner, start)?;
     let span = T::function_span(&function);
@@ -214,8 +229,12 @@ pub fn method<
     start: Span,
     key: Key<T::Expr>,
 ) -> PResult<T::Prop>
-    requires { Nests P.seen T.expr_of T.pat_of T.stmt_of g.now.depth (S.pre g.now.stmt) (S.post g.now.stmt) (E.pre g.now.expr) (E.post g.now.expr) (N.pre g.now.pat) (N.post g.now.pat) }
-    ensures { GivesAs T.prop_of (rules.function g.now.depth (property_form (form_of form) start (key_of T.expr_of key)) (P.seen p.old)) result (P.seen p.new) }
+    requires { Nests P.seen T.expr_of T.pat_of T.stmt_of g.now.depth
+        (S.pre g.now.stmt) (S.post g.now.stmt) (E.pre g.now.expr) (E.post g.now.expr)
+        (N.pre g.now.pat) (N.post g.now.pat) }
+    ensures { GivesAs T.prop_of
+        (rules.function g.now.depth (property_form (form_of form) start (key_of T.expr_of key))
+        (P.seen p.old)) result (P.seen p.new) }
 {
     match form {
         MethodForm::Getter => getter(g, t, p, start, key),

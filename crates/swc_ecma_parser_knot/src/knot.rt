@@ -96,7 +96,8 @@ pub fn plain_stmt<P: Cursor, T: BuildsStatements>(
 
 /// Whether decorators begin here.
 fn begins_decorators<P: Cursor>(p: &P) -> bool
-    ensures { result ≡ (looks.sees kind.At (P.seen p.now).at && (P.seen p.now).code.setting.decorators) }
+    ensures { result
+        ≡ (looks.sees kind.At (P.seen p.now).at && (P.seen p.now).code.setting.decorators) }
 {
     p.sees(TokenKind::At) && p.decorators()
 }
@@ -117,7 +118,8 @@ pub fn leading<P: Cursor, T: BuildsStatements>(
     p: &mut P,
     depth: usize,
 ) -> PResult<Leading<T::Decorator>>
-    ensures { GivesAs (leading_of T.decorator_of) (decorators.leading (decorated_in depth) (P.seen p.old)) result (P.seen p.new) }
+    ensures { GivesAs (leading_of T.decorator_of)
+        (decorators.leading (decorated_in depth) (P.seen p.old)) result (P.seen p.new) }
 {
     let g = Grammar {
         depth,
@@ -138,7 +140,9 @@ fn decorated_stmt<P: Cursor, T: BuildsStatements>(
     depth: usize,
     at: Position,
 ) -> PResult<T::Stmt>
-    ensures { GivesAs T.stmt_of (behind.decorated_stmt (rules.plain_stmt depth) (decorated_in depth) at (P.seen p.old)) result (P.seen p.new) }
+    ensures { GivesAs T.stmt_of
+        (behind.decorated_stmt (rules.plain_stmt depth) (decorated_in depth) at (P.seen p.old))
+        result (P.seen p.new) }
 {
     let list = leading::<P, T>(t, p, depth)?;
     stmt_behind::<P, T>(t, p, depth, at, list)
@@ -155,7 +159,9 @@ pub fn stmt_behind<P: Cursor, T: BuildsStatements>(
     at: Position,
     list: Leading<T::Decorator>,
 ) -> PResult<T::Stmt>
-    ensures { GivesAs T.stmt_of (behind.stmt_behind (rules.plain_stmt depth) at (leading_of T.decorator_of list) (P.seen p.old)) result (P.seen p.new) }
+    ensures { GivesAs T.stmt_of
+        (behind.stmt_behind (rules.plain_stmt depth) at (leading_of T.decorator_of list)
+        (P.seen p.old)) result (P.seen p.new) }
 {
     if begins_declared(p) {
         return declared_behind::<P, T>(t, p, depth, at, list);
@@ -177,7 +183,9 @@ fn declared_behind<P: Cursor, T: BuildsStatements>(
     list: Leading<T::Decorator>,
 ) -> PResult<T::Stmt>
     requires { behind.begins_declared (P.seen p.now).at ≡ true }
-    ensures { GivesAs T.stmt_of (behind.declared_behind (rules.plain_stmt depth) at (leading_of T.decorator_of list) (P.seen p.old)) result (P.seen p.new) }
+    ensures { GivesAs T.stmt_of
+        (behind.declared_behind (rules.plain_stmt depth) at (leading_of T.decorator_of list)
+        (P.seen p.old)) result (P.seen p.new) }
 {
     if p.sees(TokenKind::Class) {
         return class_statement_with::<P, T>(t, p, depth, at, list);
@@ -200,7 +208,9 @@ fn exported_behind<P: Cursor, T: BuildsStatements>(
     at: Position,
     list: &Leading<T::Decorator>,
 ) -> PResult<T::Stmt>
-    ensures { GivesAs T.stmt_of (behind.exported_behind (rules.plain_stmt depth) at (leading_of T.decorator_of list.now) (P.seen p.old)) result (P.seen p.new) }
+    ensures { GivesAs T.stmt_of
+        (behind.exported_behind (rules.plain_stmt depth) at (leading_of T.decorator_of list.now)
+        (P.seen p.old)) result (P.seen p.new) }
 {
     let flags = p.flags();
     if (flags.in_class || flags.in_function) || p.decorators_before_export() {
@@ -219,7 +229,9 @@ fn other_behind<P: Cursor, T: BuildsStatements>(
     at: Position,
     list: &Leading<T::Decorator>,
 ) -> PResult<T::Stmt>
-    ensures { GivesAs T.stmt_of (behind.other_behind (rules.plain_stmt depth) at (leading_of T.decorator_of list.now) (P.seen p.old)) result (P.seen p.new) }
+    ensures { GivesAs T.stmt_of
+        (behind.other_behind (rules.plain_stmt depth) at (leading_of T.decorator_of list.now)
+        (P.seen p.old)) result (P.seen p.new) }
 {
     if p.sees(TokenKind::Error) {
         return Err(p.wanted(Wanted::Expression));
@@ -263,7 +275,8 @@ pub fn expression<P: Cursor, T: BuildsStatements>(
     depth: usize,
     class: Class,
 ) -> PResult<T::Expr>
-    ensures { GivesAs T.expr_of (rules.expr depth (class_of class) (P.seen p.old)) result (P.seen p.new) }
+    ensures { GivesAs T.expr_of (rules.expr depth (class_of class) (P.seen p.old)) result
+        (P.seen p.new) }
 {
     if depth == 0 {
         return Err(p.too_deep());
@@ -287,7 +300,8 @@ fn right_operand<P: Cursor, T: BuildsStatements>(
     depth: usize,
     class: Class,
 ) -> PResult<T::Expr>
-    ensures { GivesAs T.expr_of (rules.right_operand depth (class_of class) (P.seen p.old)) result (P.seen p.new) }
+    ensures { GivesAs T.expr_of (rules.right_operand depth (class_of class) (P.seen p.old)) result
+        (P.seen p.new) }
 {
     if depth == 0 {
         return Err(p.too_deep());
@@ -304,7 +318,8 @@ fn covered<P: Cursor, T: BuildsStatements>(
     depth: usize,
     place: Covering,
 ) -> PResult<Cover<T::Expr>>
-    ensures { GivesAs (cover_of T.expr_of) (covering.covered depth place (P.seen p.old)) result (P.seen p.new) }
+    ensures { GivesAs (cover_of T.expr_of) (covering.covered depth place (P.seen p.old)) result
+        (P.seen p.new) }
 {
     if depth == 0 {
         return Err(p.too_deep());
@@ -395,7 +410,9 @@ pub fn inner_class<P: Cursor, T: BuildsStatements>(
     p: &mut P,
     depth: usize,
 ) -> PResult<NamedClass<T::Class>>
-    ensures { GivesAs (class_expr_of T.class_of) (members.class_expr (rules.expr depth left_side) (rules.member depth) (P.seen p.old)) result (P.seen p.new) }
+    ensures { GivesAs (class_expr_of T.class_of)
+        (members.class_expr (rules.expr depth left_side) (rules.member depth) (P.seen p.old)) result
+        (P.seen p.new) }
 {
     inner_class_with::<P, T>(t, p, depth, Vec::new(t.alloc))
 }
@@ -408,7 +425,9 @@ pub fn inner_class_with<P: Cursor, T: BuildsStatements>(
     depth: usize,
     decorators: Vec<T::Decorator>,
 ) -> PResult<NamedClass<T::Class>>
-    ensures { GivesAs (class_expr_of T.class_of) (dressed.class_expr_with (rules.expr depth left_side) (rules.member depth) (map T.decorator_of decorators.items) (P.seen p.old)) result (P.seen p.new) }
+    ensures { GivesAs (class_expr_of T.class_of)
+        (dressed.class_expr_with (rules.expr depth left_side) (rules.member depth)
+        (map T.decorator_of decorators.items) (P.seen p.old)) result (P.seen p.new) }
 {
     let c = ClassGrammar {
         depth,
@@ -426,7 +445,9 @@ pub fn declared_class<P: Cursor, T: BuildsStatements>(
     p: &mut P,
     depth: usize,
 ) -> PResult<T::Decl>
-    ensures { GivesAs T.decl_of (members.class_decl (rules.expr depth left_side) (rules.member depth) (P.seen p.old)) result (P.seen p.new) }
+    ensures { GivesAs T.decl_of
+        (members.class_decl (rules.expr depth left_side) (rules.member depth) (P.seen p.old)) result
+        (P.seen p.new) }
 {
     let start = p.span();
     declared_class_with::<P, T>(t, p, depth, start, Vec::new(t.alloc))
@@ -441,7 +462,9 @@ pub fn declared_class_with<P: Cursor, T: BuildsStatements>(
     start: Span,
     decorators: Vec<T::Decorator>,
 ) -> PResult<T::Decl>
-    ensures { GivesAs T.decl_of (dressed.class_decl_with (rules.expr depth left_side) (rules.member depth) (map T.decorator_of decorators.items) start (P.seen p.old)) result (P.seen p.new) }
+    ensures { GivesAs T.decl_of
+        (dressed.class_decl_with (rules.expr depth left_side) (rules.member depth)
+        (map T.decorator_of decorators.items) start (P.seen p.old)) result (P.seen p.new) }
 {
     let c = ClassGrammar {
         depth,
@@ -462,7 +485,9 @@ fn class_statement_with<P: Cursor, T: BuildsStatements>(
     at: Position,
     list: Leading<T::Decorator>,
 ) -> PResult<T::Stmt>
-    ensures { GivesAs T.stmt_of (dressed.class_stmt_with (rules.expr depth left_side) (rules.member depth) at (leading_of T.decorator_of list) (P.seen p.old)) result (P.seen p.new) }
+    ensures { GivesAs T.stmt_of
+        (dressed.class_stmt_with (rules.expr depth left_side) (rules.member depth) at
+        (leading_of T.decorator_of list) (P.seen p.old)) result (P.seen p.new) }
 {
     if !at.include_decl {
         let word = p.span();
@@ -480,7 +505,9 @@ fn class_expression<P: Cursor, T: BuildsStatements>(
     p: &mut P,
     depth: usize,
 ) -> PResult<T::Expr>
-    ensures { GivesAs T.expr_of (members.class_expr (rules.expr depth left_side) (rules.member depth) (P.seen p.old)) result (P.seen p.new) }
+    ensures { GivesAs T.expr_of
+        (members.class_expr (rules.expr depth left_side) (rules.member depth) (P.seen p.old)) result
+        (P.seen p.new) }
 {
     let NamedClass { name, class } = inner_class::<P, T>(t, p, depth)?;
     let span = T::class_span(&class);
@@ -497,7 +524,9 @@ fn class_statement<P: Cursor, T: BuildsStatements>(
     depth: usize,
     at: Position,
 ) -> PResult<T::Stmt>
-    ensures { GivesAs T.stmt_of (members.class_stmt (rules.expr depth left_side) (rules.member depth) at (P.seen p.old)) result (P.seen p.new) }
+    ensures { GivesAs T.stmt_of
+        (members.class_stmt (rules.expr depth left_side) (rules.member depth) at (P.seen p.old))
+        result (P.seen p.new) }
 {
     if !at.include_decl {
         let word = p.span();
@@ -534,7 +563,9 @@ pub fn pat<P: Cursor, T: BuildsStatements>(
 
 /// Whether a function begins here.
 fn begins_function<P: Cursor>(p: &P) -> bool
-    ensures { result ≡ (looks.sees kind.Function (P.seen p.now).at || follows.is_async_function (P.seen p.now).at) }
+    ensures { result
+        ≡ (looks.sees kind.Function (P.seen p.now).at
+        || follows.is_async_function (P.seen p.now).at) }
 {
     p.sees(TokenKind::Function) || p.is_async_function()
 }
@@ -547,7 +578,9 @@ pub fn inner_declarators<P: Cursor, T: BuildsStatements>(
     depth: usize,
     word: VarDeclKind,
 ) -> PResult<Vec<T::Declarator>>
-    ensures { GivesAs (λ found. map T.declarator_of found.items) (rules.declarators (rules.expr depth) (rules.pattern depth) false word (P.seen p.old)) result (P.seen p.new) }
+    ensures { GivesAs (λ found. map T.declarator_of found.items)
+        (rules.declarators (rules.expr depth) (rules.pattern depth) false word (P.seen p.old))
+        result (P.seen p.new) }
 {
     let g = Grammar {
         depth,
@@ -565,7 +598,8 @@ pub fn inner_declaration_end<P: Cursor, T: BuildsStatements>(
     p: &mut P,
     depth: usize,
 ) -> PResult<()>
-    ensures { Gives (rules.declaration_end (rules.expr depth expression_class) (P.seen p.old)) result (P.seen p.new) }
+    ensures { Gives (rules.declaration_end (rules.expr depth expression_class) (P.seen p.old))
+        result (P.seen p.new) }
 {
     let g = Grammar {
         depth,
@@ -586,7 +620,9 @@ pub fn inner_function<P: Cursor, T: BuildsStatements>(
     manner: Manner,
     start: Span,
 ) -> PResult<T::Function>
-    ensures { GivesAs T.function_of (rules.function_parts (rules.stmt depth nested_item) (rules.parameters depth) manner.is_async manner.is_generator start (P.seen p.old)) result (P.seen p.new) }
+    ensures { GivesAs T.function_of
+        (rules.function_parts (rules.stmt depth nested_item) (rules.parameters depth)
+        manner.is_async manner.is_generator start (P.seen p.old)) result (P.seen p.new) }
 {
     inner_function_with::<P, T>(t, p, depth, manner, start, Vec::new(t.alloc))
 }
@@ -601,7 +637,10 @@ pub fn inner_function_with<P: Cursor, T: BuildsStatements>(
     start: Span,
     decorators: Vec<T::Decorator>,
 ) -> PResult<T::Function>
-    ensures { GivesAs T.function_of (dressed.function_parts_with (rules.stmt depth nested_item) (rules.parameters depth) (map T.decorator_of decorators.items) manner.is_async manner.is_generator start (P.seen p.old)) result (P.seen p.new) }
+    ensures { GivesAs T.function_of
+        (dressed.function_parts_with (rules.stmt depth nested_item) (rules.parameters depth)
+        (map T.decorator_of decorators.items) manner.is_async manner.is_generator start
+        (P.seen p.old)) result (P.seen p.new) }
 {
     let g = Grammar {
         depth,
@@ -621,7 +660,9 @@ pub fn declared_function_with<P: Cursor, T: BuildsStatements>(
     depth: usize,
     decorators: Vec<T::Decorator>,
 ) -> PResult<T::Decl>
-    ensures { GivesAs T.decl_of (dressed.function_decl_with (rules.stmt depth nested_item) (rules.parameters depth) (map T.decorator_of decorators.items) (P.seen p.old)) result (P.seen p.new) }
+    ensures { GivesAs T.decl_of
+        (dressed.function_decl_with (rules.stmt depth nested_item) (rules.parameters depth)
+        (map T.decorator_of decorators.items) (P.seen p.old)) result (P.seen p.new) }
 {
     let start = p.span();
     let is_async = function_word(p)?;
@@ -646,7 +687,9 @@ fn function_statement_with<P: Cursor, T: BuildsStatements>(
     at: Position,
     list: Leading<T::Decorator>,
 ) -> PResult<T::Stmt>
-    ensures { GivesAs T.stmt_of (dressed.function_stmt_with (rules.stmt depth nested_item) (rules.parameters depth) at (leading_of T.decorator_of list) (P.seen p.old)) result (P.seen p.new) }
+    ensures { GivesAs T.stmt_of
+        (dressed.function_stmt_with (rules.stmt depth nested_item) (rules.parameters depth) at
+        (leading_of T.decorator_of list) (P.seen p.old)) result (P.seen p.new) }
 {
     if !at.include_decl {
         let word = p.span();
@@ -664,7 +707,9 @@ pub fn declared_function<P: Cursor, T: BuildsStatements>(
     p: &mut P,
     depth: usize,
 ) -> PResult<T::Decl>
-    ensures { GivesAs T.decl_of (rules.function_decl (rules.stmt depth nested_item) (rules.parameters depth) (P.seen p.old)) result (P.seen p.new) }
+    ensures { GivesAs T.decl_of
+        (rules.function_decl (rules.stmt depth nested_item) (rules.parameters depth) (P.seen p.old))
+        result (P.seen p.new) }
 {
     let start = p.span();
     let is_async = function_word(p)?;
@@ -687,7 +732,9 @@ fn declared_variables<P: Cursor, T: BuildsStatements>(
     p: &mut P,
     depth: usize,
 ) -> PResult<T::Stmt>
-    ensures { GivesAs T.stmt_of (rules.variables (rules.expr depth) (rules.pattern depth) decl.Var (P.seen p.old)) result (P.seen p.new) }
+    ensures { GivesAs T.stmt_of
+        (rules.variables (rules.expr depth) (rules.pattern depth) decl.Var (P.seen p.old)) result
+        (P.seen p.new) }
 {
     let start = p.span();
     p.skip()?;

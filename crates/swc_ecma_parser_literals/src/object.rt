@@ -33,7 +33,8 @@ fn shorthand_name<P: Cursor, T: BuildsObject>(
     p: &mut P,
     name: Ident,
 ) -> PResult<T::Prop>
-    ensures { GivesAs T.prop_of (exprs.shorthand_name name.span name.sym (P.seen p.old)) result (P.seen p.new) }
+    ensures { GivesAs T.prop_of (exprs.shorthand_name name.span name.sym (P.seen p.old)) result
+        (P.seen p.new) }
 {
     let may_await = may_refer_to_await(p.flags());
     as_name(p, may_await, &name)?;
@@ -56,8 +57,12 @@ fn key_value<
     start: Span,
     key: Key<T::Expr>,
 ) -> PResult<Cover<T::Prop>>
-    requires { Nests P.seen T.expr_of T.pat_of T.stmt_of g.now.depth (S.pre g.now.stmt) (S.post g.now.stmt) (E.pre g.now.expr) (E.post g.now.expr) (N.pre g.now.pat) (N.post g.now.pat) }
-    ensures { GivesAs (cover_of T.prop_of) (exprs.key_value (rules.expr g.now.depth) (rules.cover g.now.depth) start (key_of T.expr_of key) (P.seen p.old)) result (P.seen p.new) }
+    requires { Nests P.seen T.expr_of T.pat_of T.stmt_of g.now.depth
+        (S.pre g.now.stmt) (S.post g.now.stmt) (E.pre g.now.expr) (E.post g.now.expr)
+        (N.pre g.now.pat) (N.post g.now.pat) }
+    ensures { GivesAs (cover_of T.prop_of)
+        (exprs.key_value (rules.expr g.now.depth) (rules.cover g.now.depth) start
+        (key_of T.expr_of key) (P.seen p.old)) result (P.seen p.new) }
 {
     p.skip()?;
     let Cover { tree, mark, comma } = covered(g, t, p)?;
@@ -82,8 +87,12 @@ fn initialized<
     start: Span,
     name: Ident,
 ) -> PResult<Cover<T::Prop>>
-    requires { Nests P.seen T.expr_of T.pat_of T.stmt_of g.now.depth (S.pre g.now.stmt) (S.post g.now.stmt) (E.pre g.now.expr) (E.post g.now.expr) (N.pre g.now.pat) (N.post g.now.pat) }
-    ensures { GivesAs (cover_of T.prop_of) (exprs.initialized (rules.expr g.now.depth) (rules.cover g.now.depth) start (word_of name) (P.seen p.old)) result (P.seen p.new) }
+    requires { Nests P.seen T.expr_of T.pat_of T.stmt_of g.now.depth
+        (S.pre g.now.stmt) (S.post g.now.stmt) (E.pre g.now.expr) (E.post g.now.expr)
+        (N.pre g.now.pat) (N.post g.now.pat) }
+    ensures { GivesAs (cover_of T.prop_of)
+        (exprs.initialized (rules.expr g.now.depth) (rules.cover g.now.depth) start (word_of name)
+        (P.seen p.old)) result (P.seen p.new) }
 {
     p.skip()?;
     let value = inside(g, t, p, Class::Assignment)?;
@@ -111,8 +120,12 @@ fn initialized_name<
     start: Span,
     name: Ident,
 ) -> PResult<Cover<T::Prop>>
-    requires { Nests P.seen T.expr_of T.pat_of T.stmt_of g.now.depth (S.pre g.now.stmt) (S.post g.now.stmt) (E.pre g.now.expr) (E.post g.now.expr) (N.pre g.now.pat) (N.post g.now.pat) }
-    ensures { GivesAs (cover_of T.prop_of) (exprs.initialized_name (rules.expr g.now.depth) (rules.cover g.now.depth) start name.span name.sym (P.seen p.old)) result (P.seen p.new) }
+    requires { Nests P.seen T.expr_of T.pat_of T.stmt_of g.now.depth
+        (S.pre g.now.stmt) (S.post g.now.stmt) (E.pre g.now.expr) (E.post g.now.expr)
+        (N.pre g.now.pat) (N.post g.now.pat) }
+    ensures { GivesAs (cover_of T.prop_of)
+        (exprs.initialized_name (rules.expr g.now.depth) (rules.cover g.now.depth) start name.span
+        name.sym (P.seen p.old)) result (P.seen p.new) }
 {
     let may_await = may_refer_to_await(p.flags());
     as_name(p, may_await, &name)?;
@@ -126,7 +139,8 @@ fn bare_key<P: Cursor, T: BuildsObject>(
     p: &mut P,
     key: Key<T::Expr>,
 ) -> PResult<Cover<T::Prop>>
-    ensures { GivesAs (cover_of T.prop_of) (bare (key_of T.expr_of key) (P.seen p.old)) result (P.seen p.new) }
+    ensures { GivesAs (cover_of T.prop_of) (bare (key_of T.expr_of key) (P.seen p.old)) result
+        (P.seen p.new) }
 {
     match key {
         Key::Word(name) => Ok(done(shorthand_name::<P, T>(alloc, p, name)?)),
@@ -150,8 +164,12 @@ fn initialized_key<
     start: Span,
     key: Key<T::Expr>,
 ) -> PResult<Cover<T::Prop>>
-    requires { Nests P.seen T.expr_of T.pat_of T.stmt_of g.now.depth (S.pre g.now.stmt) (S.post g.now.stmt) (E.pre g.now.expr) (E.post g.now.expr) (N.pre g.now.pat) (N.post g.now.pat) }
-    ensures { GivesAs (cover_of T.prop_of) (exprs.initialized_key (rules.expr g.now.depth) (rules.cover g.now.depth) start (key_of T.expr_of key) (P.seen p.old)) result (P.seen p.new) }
+    requires { Nests P.seen T.expr_of T.pat_of T.stmt_of g.now.depth
+        (S.pre g.now.stmt) (S.post g.now.stmt) (E.pre g.now.expr) (E.post g.now.expr)
+        (N.pre g.now.pat) (N.post g.now.pat) }
+    ensures { GivesAs (cover_of T.prop_of)
+        (exprs.initialized_key (rules.expr g.now.depth) (rules.cover g.now.depth) start
+        (key_of T.expr_of key) (P.seen p.old)) result (P.seen p.new) }
 {
     match key {
         Key::Word(name) => initialized_name(g, t, p, start, name),
@@ -174,8 +192,12 @@ fn behind_key<
     start: Span,
     key: Key<T::Expr>,
 ) -> PResult<Cover<T::Prop>>
-    requires { Nests P.seen T.expr_of T.pat_of T.stmt_of g.now.depth (S.pre g.now.stmt) (S.post g.now.stmt) (E.pre g.now.expr) (E.post g.now.expr) (N.pre g.now.pat) (N.post g.now.pat) }
-    ensures { GivesAs (cover_of T.prop_of) (exprs.behind_key (rules.expr g.now.depth) (rules.cover g.now.depth) start (key_of T.expr_of key) (P.seen p.old)) result (P.seen p.new) }
+    requires { Nests P.seen T.expr_of T.pat_of T.stmt_of g.now.depth
+        (S.pre g.now.stmt) (S.post g.now.stmt) (E.pre g.now.expr) (E.post g.now.expr)
+        (N.pre g.now.pat) (N.post g.now.pat) }
+    ensures { GivesAs (cover_of T.prop_of)
+        (exprs.behind_key (rules.expr g.now.depth) (rules.cover g.now.depth) start
+        (key_of T.expr_of key) (P.seen p.old)) result (P.seen p.new) }
 {
     if p.sees(TokenKind::Colon) {
         return key_value(g, t, p, start, key);
@@ -202,8 +224,13 @@ fn behind_words<
     start: Span,
     key: Key<T::Expr>,
 ) -> PResult<Cover<T::Prop>>
-    requires { Nests P.seen T.expr_of T.pat_of T.stmt_of g.now.depth (S.pre g.now.stmt) (S.post g.now.stmt) (E.pre g.now.expr) (E.post g.now.expr) (N.pre g.now.pat) (N.post g.now.pat) }
-    ensures { GivesAs (cover_of T.prop_of) (exprs.behind_words (rules.expr g.now.depth) (rules.cover g.now.depth) (rules.function g.now.depth) (form_of form) start (key_of T.expr_of key) (P.seen p.old)) result (P.seen p.new) }
+    requires { Nests P.seen T.expr_of T.pat_of T.stmt_of g.now.depth
+        (S.pre g.now.stmt) (S.post g.now.stmt) (E.pre g.now.expr) (E.post g.now.expr)
+        (N.pre g.now.pat) (N.post g.now.pat) }
+    ensures { GivesAs (cover_of T.prop_of)
+        (exprs.behind_words (rules.expr g.now.depth) (rules.cover g.now.depth)
+        (rules.function g.now.depth) (form_of form) start (key_of T.expr_of key) (P.seen p.old))
+        result (P.seen p.new) }
 {
     if form.is_bare() && !p.sees(TokenKind::LParen) {
         return behind_key(g, t, p, start, key);
@@ -220,8 +247,12 @@ fn keyed_property<
     E: Fn(&MakerOf<T>, &mut P, usize, Reading) -> PResult<Cover<T::Expr>>,
     N: Fn(&MakerOf<T>, &mut P, usize, Part) -> PResult<T::Pat>,
 >(g: &Grammar<S, E, N>, t: &MakerOf<T>, p: &mut P) -> PResult<Cover<T::Prop>>
-    requires { Nests P.seen T.expr_of T.pat_of T.stmt_of g.now.depth (S.pre g.now.stmt) (S.post g.now.stmt) (E.pre g.now.expr) (E.post g.now.expr) (N.pre g.now.pat) (N.post g.now.pat) }
-    ensures { GivesAs (cover_of T.prop_of) (exprs.keyed_property (rules.expr g.now.depth) (rules.cover g.now.depth) (rules.function g.now.depth) (P.seen p.old)) result (P.seen p.new) }
+    requires { Nests P.seen T.expr_of T.pat_of T.stmt_of g.now.depth
+        (S.pre g.now.stmt) (S.post g.now.stmt) (E.pre g.now.expr) (E.post g.now.expr)
+        (N.pre g.now.pat) (N.post g.now.pat) }
+    ensures { GivesAs (cover_of T.prop_of)
+        (exprs.keyed_property (rules.expr g.now.depth) (rules.cover g.now.depth)
+        (rules.function g.now.depth) (P.seen p.old)) result (P.seen p.new) }
 {
     let start = p.span();
     let form = method_words(p)?;
@@ -239,8 +270,12 @@ fn spread_property<
     E: Fn(&MakerOf<T>, &mut P, usize, Reading) -> PResult<Cover<T::Expr>>,
     N: Fn(&MakerOf<T>, &mut P, usize, Part) -> PResult<T::Pat>,
 >(g: &Grammar<S, E, N>, t: &MakerOf<T>, p: &mut P) -> PResult<Cover<T::Prop>>
-    requires { Nests P.seen T.expr_of T.pat_of T.stmt_of g.now.depth (S.pre g.now.stmt) (S.post g.now.stmt) (E.pre g.now.expr) (E.post g.now.expr) (N.pre g.now.pat) (N.post g.now.pat) }
-    ensures { GivesAs (cover_of T.prop_of) (exprs.spread_property (rules.expr g.now.depth) (rules.cover g.now.depth) (P.seen p.old)) result (P.seen p.new) }
+    requires { Nests P.seen T.expr_of T.pat_of T.stmt_of g.now.depth
+        (S.pre g.now.stmt) (S.post g.now.stmt) (E.pre g.now.expr) (E.post g.now.expr)
+        (N.pre g.now.pat) (N.post g.now.pat) }
+    ensures { GivesAs (cover_of T.prop_of)
+        (exprs.spread_property (rules.expr g.now.depth) (rules.cover g.now.depth) (P.seen p.old))
+        result (P.seen p.new) }
 {
     let dots = p.span();
     p.skip()?;
@@ -258,8 +293,12 @@ fn property<
     E: Fn(&MakerOf<T>, &mut P, usize, Reading) -> PResult<Cover<T::Expr>>,
     N: Fn(&MakerOf<T>, &mut P, usize, Part) -> PResult<T::Pat>,
 >(g: &Grammar<S, E, N>, t: &MakerOf<T>, p: &mut P) -> PResult<Cover<T::Prop>>
-    requires { Nests P.seen T.expr_of T.pat_of T.stmt_of g.now.depth (S.pre g.now.stmt) (S.post g.now.stmt) (E.pre g.now.expr) (E.post g.now.expr) (N.pre g.now.pat) (N.post g.now.pat) }
-    ensures { GivesAs (cover_of T.prop_of) (exprs.property (rules.expr g.now.depth) (rules.cover g.now.depth) (rules.function g.now.depth) (P.seen p.old)) result (P.seen p.new) }
+    requires { Nests P.seen T.expr_of T.pat_of T.stmt_of g.now.depth
+        (S.pre g.now.stmt) (S.post g.now.stmt) (E.pre g.now.expr) (E.post g.now.expr)
+        (N.pre g.now.pat) (N.post g.now.pat) }
+    ensures { GivesAs (cover_of T.prop_of)
+        (exprs.property (rules.expr g.now.depth) (rules.cover g.now.depth)
+        (rules.function g.now.depth) (P.seen p.old)) result (P.seen p.new) }
 {
     if p.sees(TokenKind::DotDotDot) {
         return spread_property(g, t, p);
@@ -276,8 +315,12 @@ fn properties<
     E: Fn(&MakerOf<T>, &mut P, usize, Reading) -> PResult<Cover<T::Expr>>,
     N: Fn(&MakerOf<T>, &mut P, usize, Part) -> PResult<T::Pat>,
 >(g: &Grammar<S, E, N>, t: &MakerOf<T>, p: &mut P) -> PResult<Covers<T::Prop>>
-    requires { Nests P.seen T.expr_of T.pat_of T.stmt_of g.now.depth (S.pre g.now.stmt) (S.post g.now.stmt) (E.pre g.now.expr) (E.post g.now.expr) (N.pre g.now.pat) (N.post g.now.pat) }
-    ensures { GivesAs (covers_of T.prop_of) (exprs.properties (rules.expr g.now.depth) (rules.cover g.now.depth) (rules.function g.now.depth) (P.seen p.old)) result (P.seen p.new) }
+    requires { Nests P.seen T.expr_of T.pat_of T.stmt_of g.now.depth
+        (S.pre g.now.stmt) (S.post g.now.stmt) (E.pre g.now.expr) (E.post g.now.expr)
+        (N.pre g.now.pat) (N.post g.now.pat) }
+    ensures { GivesAs (covers_of T.prop_of)
+        (exprs.properties (rules.expr g.now.depth) (rules.cover g.now.depth)
+        (rules.function g.now.depth) (P.seen p.old)) result (P.seen p.new) }
 {
     p.skip()?;
     let mut found = Covers {
@@ -310,8 +353,12 @@ pub fn object<
     E: Fn(&MakerOf<T>, &mut P, usize, Reading) -> PResult<Cover<T::Expr>>,
     N: Fn(&MakerOf<T>, &mut P, usize, Part) -> PResult<T::Pat>,
 >(g: &Grammar<S, E, N>, t: &MakerOf<T>, p: &mut P) -> PResult<Cover<T::Expr>>
-    requires { Nests P.seen T.expr_of T.pat_of T.stmt_of g.now.depth (S.pre g.now.stmt) (S.post g.now.stmt) (E.pre g.now.expr) (E.post g.now.expr) (N.pre g.now.pat) (N.post g.now.pat) }
-    ensures gives { GivesAs (cover_of T.expr_of) (exprs.object (rules.expr g.now.depth) (rules.cover g.now.depth) (rules.function g.now.depth) (P.seen p.old)) result (P.seen p.new) }
+    requires { Nests P.seen T.expr_of T.pat_of T.stmt_of g.now.depth
+        (S.pre g.now.stmt) (S.post g.now.stmt) (E.pre g.now.expr) (E.post g.now.expr)
+        (N.pre g.now.pat) (N.post g.now.pat) }
+    ensures gives { GivesAs (cover_of T.expr_of)
+        (exprs.object (rules.expr g.now.depth) (rules.cover g.now.depth)
+        (rules.function g.now.depth) (P.seen p.old)) result (P.seen p.new) }
     ensures literal { IfOk result (λ v. is_literal (T.expr_of v.tree) ≡ true) }
 {
     let start = p.span();
@@ -330,8 +377,12 @@ pub fn object_level<
     E: Fn(&MakerOf<T>, &mut P, usize, Reading) -> PResult<Cover<T::Expr>>,
     N: Fn(&MakerOf<T>, &mut P, usize, Part) -> PResult<T::Pat>,
 >(g: &Grammar<S, E, N>, t: &MakerOf<T>, p: &mut P) -> PResult<T::Expr>
-    requires { Nests P.seen T.expr_of T.pat_of T.stmt_of g.now.depth (S.pre g.now.stmt) (S.post g.now.stmt) (E.pre g.now.expr) (E.post g.now.expr) (N.pre g.now.pat) (N.post g.now.pat) }
-    ensures { GivesAs T.expr_of (exprs.object_level (rules.expr g.now.depth) (rules.cover g.now.depth) (rules.function g.now.depth) (P.seen p.old)) result (P.seen p.new) }
+    requires { Nests P.seen T.expr_of T.pat_of T.stmt_of g.now.depth
+        (S.pre g.now.stmt) (S.post g.now.stmt) (E.pre g.now.expr) (E.post g.now.expr)
+        (N.pre g.now.pat) (N.post g.now.pat) }
+    ensures { GivesAs T.expr_of
+        (exprs.object_level (rules.expr g.now.depth) (rules.cover g.now.depth)
+        (rules.function g.now.depth) (P.seen p.old)) result (P.seen p.new) }
 {
     if !p.sees(TokenKind::LBrace) {
         return Err(no_brace(p));

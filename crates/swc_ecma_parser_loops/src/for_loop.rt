@@ -31,8 +31,12 @@ fn head_part<
     E: Fn(&MakerOf<T>, &mut P, usize, Reading) -> PResult<Cover<T::Expr>>,
     N: Fn(&MakerOf<T>, &mut P, usize, Part) -> PResult<T::Pat>,
 >(g: &Grammar<S, E, N>, t: &MakerOf<T>, p: &mut P, behind: TokenKind) -> PResult<Option<T::Expr>>
-    requires { Nests P.seen T.expr_of T.pat_of T.stmt_of g.now.depth (S.pre g.now.stmt) (S.post g.now.stmt) (E.pre g.now.expr) (E.post g.now.expr) (N.pre g.now.pat) (N.post g.now.pat) }
-    ensures { GivesAs (part_of T.expr_of) (rules.head_part behind (rules.expr g.now.depth expression) (P.seen p.old)) result (P.seen p.new) }
+    requires { Nests P.seen T.expr_of T.pat_of T.stmt_of g.now.depth
+        (S.pre g.now.stmt) (S.post g.now.stmt) (E.pre g.now.expr) (E.post g.now.expr)
+        (N.pre g.now.pat) (N.post g.now.pat) }
+    ensures { GivesAs (part_of T.expr_of)
+        (rules.head_part behind (rules.expr g.now.depth expression) (P.seen p.old)) result
+        (P.seen p.new) }
 {
     if p.sees(behind) {
         return Ok(None);
@@ -52,7 +56,9 @@ fn made_for<P: Cursor, T: BuildsFor>(
     update: Option<T::Expr>,
     body: T::Stmt,
 ) -> PResult<T::Stmt>
-    ensures { GivesAs T.stmt_of (made.made_for start (part_of T.init_of init) (part_of T.expr_of test) (part_of T.expr_of update) (T.stmt_of body) (P.seen p.old)) result (P.seen p.new) }
+    ensures { GivesAs T.stmt_of
+        (made.made_for start (part_of T.init_of init) (part_of T.expr_of test)
+        (part_of T.expr_of update) (T.stmt_of body) (P.seen p.old)) result (P.seen p.new) }
 {
     let span = since(p, start);
     grown(p, T::for_stmt(t.alloc, span, init, test, update, body))
@@ -68,7 +74,9 @@ fn made_for_in<P: Cursor, T: BuildsPattern + BuildsFor>(
     right: T::Expr,
     body: T::Stmt,
 ) -> PResult<T::Stmt>
-    ensures { GivesAs T.stmt_of (made.made_for_in start (left_of T.declarator_of T.pat_of left) (T.expr_of right) (T.stmt_of body) (P.seen p.old)) result (P.seen p.new) }
+    ensures { GivesAs T.stmt_of
+        (made.made_for_in start (left_of T.declarator_of T.pat_of left) (T.expr_of right)
+        (T.stmt_of body) (P.seen p.old)) result (P.seen p.new) }
 {
     let span = since(p, start);
     let head = head_of(t, p, left)?;
@@ -86,7 +94,9 @@ fn made_for_of<P: Cursor, T: BuildsPattern + BuildsFor>(
     right: T::Expr,
     body: T::Stmt,
 ) -> PResult<T::Stmt>
-    ensures { GivesAs T.stmt_of (made.made_for_of start is_await (left_of T.declarator_of T.pat_of left) (T.expr_of right) (T.stmt_of body) (P.seen p.old)) result (P.seen p.new) }
+    ensures { GivesAs T.stmt_of
+        (made.made_for_of start is_await (left_of T.declarator_of T.pat_of left) (T.expr_of right)
+        (T.stmt_of body) (P.seen p.old)) result (P.seen p.new) }
 {
     let span = since(p, start);
     let head = head_of(t, p, left)?;
@@ -109,8 +119,13 @@ fn for_parts<
     start: Span,
     first: Opening<T::Declarator, T::Expr, T::Pat>,
 ) -> PResult<T::Stmt>
-    requires { Nests P.seen T.expr_of T.pat_of T.stmt_of g.now.depth (S.pre g.now.stmt) (S.post g.now.stmt) (E.pre g.now.expr) (E.post g.now.expr) (N.pre g.now.pat) (N.post g.now.pat) }
-    ensures { GivesAs T.stmt_of (rules.for_parts (rules.stmt g.now.depth sub_statement) (rules.expr g.now.depth) start (opening_of T.declarator_of T.expr_of T.pat_of first) (P.seen p.old)) result (P.seen p.new) }
+    requires { Nests P.seen T.expr_of T.pat_of T.stmt_of g.now.depth
+        (S.pre g.now.stmt) (S.post g.now.stmt) (E.pre g.now.expr) (E.post g.now.expr)
+        (N.pre g.now.pat) (N.post g.now.pat) }
+    ensures { GivesAs T.stmt_of
+        (rules.for_parts (rules.stmt g.now.depth sub_statement) (rules.expr g.now.depth) start
+        (opening_of T.declarator_of T.expr_of T.pat_of first) (P.seen p.old)) result
+        (P.seen p.new) }
 {
     let init = as_init(t, p, first)?;
     p.expect(TokenKind::Semi, ";")?;
@@ -138,9 +153,14 @@ fn for_in<
     start: Span,
     first: Opening<T::Declarator, T::Expr, T::Pat>,
 ) -> PResult<T::Stmt>
-    requires readers { Nests P.seen T.expr_of T.pat_of T.stmt_of g.now.depth (S.pre g.now.stmt) (S.post g.now.stmt) (E.pre g.now.expr) (E.post g.now.expr) (N.pre g.now.pat) (N.post g.now.pat) }
+    requires readers { Nests P.seen T.expr_of T.pat_of T.stmt_of g.now.depth
+        (S.pre g.now.stmt) (S.post g.now.stmt) (E.pre g.now.expr) (E.post g.now.expr)
+        (N.pre g.now.pat) (N.post g.now.pat) }
     requires bare { IsBare T.pat_of first }
-    ensures { GivesAs T.stmt_of (rules.for_in (rules.stmt g.now.depth sub_statement) (rules.expr g.now.depth) start (opening_of T.declarator_of T.expr_of T.pat_of first) (P.seen p.old)) result (P.seen p.new) }
+    ensures { GivesAs T.stmt_of
+        (rules.for_in (rules.stmt g.now.depth sub_statement) (rules.expr g.now.depth) start
+        (opening_of T.declarator_of T.expr_of T.pat_of first) (P.seen p.old)) result
+        (P.seen p.new) }
 {
     let left = as_left(t, p, first)?;
     let refused = p.flags().strict;
@@ -169,9 +189,14 @@ fn for_of<
     start: Span,
     first: Opening<T::Declarator, T::Expr, T::Pat>,
 ) -> PResult<T::Stmt>
-    requires readers { Nests P.seen T.expr_of T.pat_of T.stmt_of g.now.depth (S.pre g.now.stmt) (S.post g.now.stmt) (E.pre g.now.expr) (E.post g.now.expr) (N.pre g.now.pat) (N.post g.now.pat) }
+    requires readers { Nests P.seen T.expr_of T.pat_of T.stmt_of g.now.depth
+        (S.pre g.now.stmt) (S.post g.now.stmt) (E.pre g.now.expr) (E.post g.now.expr)
+        (N.pre g.now.pat) (N.post g.now.pat) }
     requires bare { IsBare T.pat_of first }
-    ensures { GivesAs T.stmt_of (rules.for_of (rules.stmt g.now.depth sub_statement) (rules.expr g.now.depth) is_await start (opening_of T.declarator_of T.expr_of T.pat_of first) (P.seen p.old)) result (P.seen p.new) }
+    ensures { GivesAs T.stmt_of
+        (rules.for_of (rules.stmt g.now.depth sub_statement) (rules.expr g.now.depth) is_await start
+        (opening_of T.declarator_of T.expr_of T.pat_of first) (P.seen p.old)) result
+        (P.seen p.new) }
 {
     let left = as_left(t, p, first)?;
     misdeclared::<P, T>(p, true, &left)?;
@@ -211,9 +236,15 @@ fn awaited_in<
     word: Span,
     first: Opening<T::Declarator, T::Expr, T::Pat>,
 ) -> PResult<T::Stmt>
-    requires readers { Nests P.seen T.expr_of T.pat_of T.stmt_of g.now.depth (S.pre g.now.stmt) (S.post g.now.stmt) (E.pre g.now.expr) (E.post g.now.expr) (N.pre g.now.pat) (N.post g.now.pat) }
+    requires readers { Nests P.seen T.expr_of T.pat_of T.stmt_of g.now.depth
+        (S.pre g.now.stmt) (S.post g.now.stmt) (E.pre g.now.expr) (E.post g.now.expr)
+        (N.pre g.now.pat) (N.post g.now.pat) }
     requires bare { IsBare T.pat_of first }
-    ensures { GivesAs T.stmt_of (rules.unless_awaited (Some word) (rules.for_in (rules.stmt g.now.depth sub_statement) (rules.expr g.now.depth) start (opening_of T.declarator_of T.expr_of T.pat_of first)) (P.seen p.old)) result (P.seen p.new) }
+    ensures { GivesAs T.stmt_of
+        (rules.unless_awaited (Some word)
+        (rules.for_in (rules.stmt g.now.depth sub_statement) (rules.expr g.now.depth) start
+        (opening_of T.declarator_of T.expr_of T.pat_of first)) (P.seen p.old)) result
+        (P.seen p.new) }
 {
     let _refused = for_in(g, t, p, start, first)?;
     Err(p.reject(SyntaxError::AwaitForStmt, word))
@@ -235,8 +266,14 @@ fn awaited_parts<
     word: Span,
     first: Opening<T::Declarator, T::Expr, T::Pat>,
 ) -> PResult<T::Stmt>
-    requires readers { Nests P.seen T.expr_of T.pat_of T.stmt_of g.now.depth (S.pre g.now.stmt) (S.post g.now.stmt) (E.pre g.now.expr) (E.post g.now.expr) (N.pre g.now.pat) (N.post g.now.pat) }
-    ensures { GivesAs T.stmt_of (rules.unless_awaited (Some word) (rules.for_parts (rules.stmt g.now.depth sub_statement) (rules.expr g.now.depth) start (opening_of T.declarator_of T.expr_of T.pat_of first)) (P.seen p.old)) result (P.seen p.new) }
+    requires readers { Nests P.seen T.expr_of T.pat_of T.stmt_of g.now.depth
+        (S.pre g.now.stmt) (S.post g.now.stmt) (E.pre g.now.expr) (E.post g.now.expr)
+        (N.pre g.now.pat) (N.post g.now.pat) }
+    ensures { GivesAs T.stmt_of
+        (rules.unless_awaited (Some word)
+        (rules.for_parts (rules.stmt g.now.depth sub_statement) (rules.expr g.now.depth) start
+        (opening_of T.declarator_of T.expr_of T.pat_of first)) (P.seen p.old)) result
+        (P.seen p.new) }
 {
     let _refused = for_parts(g, t, p, start, first)?;
     Err(p.reject(SyntaxError::AwaitForStmt, word))
@@ -258,9 +295,14 @@ fn for_behind<
     word: Option<Span>,
     first: Opening<T::Declarator, T::Expr, T::Pat>,
 ) -> PResult<T::Stmt>
-    requires readers { Nests P.seen T.expr_of T.pat_of T.stmt_of g.now.depth (S.pre g.now.stmt) (S.post g.now.stmt) (E.pre g.now.expr) (E.post g.now.expr) (N.pre g.now.pat) (N.post g.now.pat) }
+    requires readers { Nests P.seen T.expr_of T.pat_of T.stmt_of g.now.depth
+        (S.pre g.now.stmt) (S.post g.now.stmt) (E.pre g.now.expr) (E.post g.now.expr)
+        (N.pre g.now.pat) (N.post g.now.pat) }
     requires bare { IsBare T.pat_of first }
-    ensures { GivesAs T.stmt_of (rules.for_behind (rules.stmt g.now.depth sub_statement) (rules.expr g.now.depth) start word (opening_of T.declarator_of T.expr_of T.pat_of first) (P.seen p.old)) result (P.seen p.new) }
+    ensures { GivesAs T.stmt_of
+        (rules.for_behind (rules.stmt g.now.depth sub_statement) (rules.expr g.now.depth) start word
+        (opening_of T.declarator_of T.expr_of T.pat_of first) (P.seen p.old)) result
+        (P.seen p.new) }
 {
     if p.sees(TokenKind::In) {
         return match word {
@@ -287,8 +329,13 @@ pub fn for_stmt<
     E: Fn(&MakerOf<T>, &mut P, usize, Reading) -> PResult<Cover<T::Expr>>,
     N: Fn(&MakerOf<T>, &mut P, usize, Part) -> PResult<T::Pat>,
 >(g: &Grammar<S, E, N>, t: &MakerOf<T>, p: &mut P) -> PResult<T::Stmt>
-    requires { Nests P.seen T.expr_of T.pat_of T.stmt_of g.now.depth (S.pre g.now.stmt) (S.post g.now.stmt) (E.pre g.now.expr) (E.post g.now.expr) (N.pre g.now.pat) (N.post g.now.pat) }
-    ensures { GivesAs T.stmt_of (rules.for_stmt (rules.stmt g.now.depth sub_statement) (rules.expr g.now.depth) (rules.pattern g.now.depth) (rules.head_cover g.now.depth) (P.seen p.old)) result (P.seen p.new) }
+    requires { Nests P.seen T.expr_of T.pat_of T.stmt_of g.now.depth
+        (S.pre g.now.stmt) (S.post g.now.stmt) (E.pre g.now.expr) (E.post g.now.expr)
+        (N.pre g.now.pat) (N.post g.now.pat) }
+    ensures { GivesAs T.stmt_of
+        (rules.for_stmt (rules.stmt g.now.depth sub_statement) (rules.expr g.now.depth)
+        (rules.pattern g.now.depth) (rules.head_cover g.now.depth) (P.seen p.old)) result
+        (P.seen p.new) }
 {
     let start = p.span();
     p.skip()?;

@@ -104,8 +104,12 @@ fn head_variables<
     p: &mut P,
     word: VarDeclKind,
 ) -> PResult<Opening<T::Declarator, T::Expr, T::Pat>>
-    requires { Nests P.seen T.expr_of T.pat_of T.stmt_of g.now.depth (S.pre g.now.stmt) (S.post g.now.stmt) (E.pre g.now.expr) (E.post g.now.expr) (N.pre g.now.pat) (N.post g.now.pat) }
-    ensures gives { GivesAs (opening_of T.declarator_of T.expr_of T.pat_of) (rules.head_variables (rules.expr g.now.depth) (rules.pattern g.now.depth) word (P.seen p.old)) result (P.seen p.new) }
+    requires { Nests P.seen T.expr_of T.pat_of T.stmt_of g.now.depth
+        (S.pre g.now.stmt) (S.post g.now.stmt) (E.pre g.now.expr) (E.post g.now.expr)
+        (N.pre g.now.pat) (N.post g.now.pat) }
+    ensures gives { GivesAs (opening_of T.declarator_of T.expr_of T.pat_of)
+        (rules.head_variables (rules.expr g.now.depth) (rules.pattern g.now.depth) word
+        (P.seen p.old)) result (P.seen p.new) }
     ensures bare { IfOk result (λ o. IsBare T.pat_of o) }
 {
     let start = p.span();
@@ -131,8 +135,12 @@ fn head_expression<
     t: &MakerOf<T>,
     p: &mut P,
 ) -> PResult<Opening<T::Declarator, T::Expr, T::Pat>>
-    requires { Nests P.seen T.expr_of T.pat_of T.stmt_of g.now.depth (S.pre g.now.stmt) (S.post g.now.stmt) (E.pre g.now.expr) (E.post g.now.expr) (N.pre g.now.pat) (N.post g.now.pat) }
-    ensures gives { GivesAs (opening_of T.declarator_of T.expr_of T.pat_of) (rules.head_expression (rules.expr g.now.depth) (rules.pattern g.now.depth) (rules.head_cover g.now.depth) (P.seen p.old)) result (P.seen p.new) }
+    requires { Nests P.seen T.expr_of T.pat_of T.stmt_of g.now.depth
+        (S.pre g.now.stmt) (S.post g.now.stmt) (E.pre g.now.expr) (E.post g.now.expr)
+        (N.pre g.now.pat) (N.post g.now.pat) }
+    ensures gives { GivesAs (opening_of T.declarator_of T.expr_of T.pat_of)
+        (rules.head_expression (rules.expr g.now.depth) (rules.pattern g.now.depth)
+        (rules.head_cover g.now.depth) (P.seen p.old)) result (P.seen p.new) }
     ensures bare { IfOk result (λ o. IsBare T.pat_of o) }
 {
     let outer = p.flags();
@@ -168,8 +176,12 @@ fn using_head<
     is_await: bool,
     start: Span,
 ) -> PResult<Opening<T::Declarator, T::Expr, T::Pat>>
-    requires { Nests P.seen T.expr_of T.pat_of T.stmt_of g.now.depth (S.pre g.now.stmt) (S.post g.now.stmt) (E.pre g.now.expr) (E.post g.now.expr) (N.pre g.now.pat) (N.post g.now.pat) }
-    ensures gives { GivesAs (opening_of T.declarator_of T.expr_of T.pat_of) (rules.using_head (rules.expr g.now.depth) (rules.pattern g.now.depth) is_await start (P.seen p.old)) result (P.seen p.new) }
+    requires { Nests P.seen T.expr_of T.pat_of T.stmt_of g.now.depth
+        (S.pre g.now.stmt) (S.post g.now.stmt) (E.pre g.now.expr) (E.post g.now.expr)
+        (N.pre g.now.pat) (N.post g.now.pat) }
+    ensures gives { GivesAs (opening_of T.declarator_of T.expr_of T.pat_of)
+        (rules.using_head (rules.expr g.now.depth) (rules.pattern g.now.depth) is_await start
+        (P.seen p.old)) result (P.seen p.new) }
     ensures bare { IfOk result (λ o. IsBare T.pat_of o) }
 {
     let first = p.span();
@@ -200,8 +212,12 @@ fn named_head<
     t: &MakerOf<T>,
     p: &mut P,
 ) -> PResult<Opening<T::Declarator, T::Expr, T::Pat>>
-    requires { Nests P.seen T.expr_of T.pat_of T.stmt_of g.now.depth (S.pre g.now.stmt) (S.post g.now.stmt) (E.pre g.now.expr) (E.post g.now.expr) (N.pre g.now.pat) (N.post g.now.pat) }
-    ensures gives { GivesAs (opening_of T.declarator_of T.expr_of T.pat_of) (rules.named_head (rules.expr g.now.depth) (rules.pattern g.now.depth) (P.seen p.old)) result (P.seen p.new) }
+    requires { Nests P.seen T.expr_of T.pat_of T.stmt_of g.now.depth
+        (S.pre g.now.stmt) (S.post g.now.stmt) (E.pre g.now.expr) (E.post g.now.expr)
+        (N.pre g.now.pat) (N.post g.now.pat) }
+    ensures gives { GivesAs (opening_of T.declarator_of T.expr_of T.pat_of)
+        (rules.named_head (rules.expr g.now.depth) (rules.pattern g.now.depth) (P.seen p.old))
+        result (P.seen p.new) }
     ensures bare { IfOk result (λ o. IsBare T.pat_of o) }
 {
     let start = p.span();
@@ -252,8 +268,12 @@ fn await_head<
     t: &MakerOf<T>,
     p: &mut P,
 ) -> PResult<Opening<T::Declarator, T::Expr, T::Pat>>
-    requires { Nests P.seen T.expr_of T.pat_of T.stmt_of g.now.depth (S.pre g.now.stmt) (S.post g.now.stmt) (E.pre g.now.expr) (E.post g.now.expr) (N.pre g.now.pat) (N.post g.now.pat) }
-    ensures gives { GivesAs (opening_of T.declarator_of T.expr_of T.pat_of) (rules.await_head (rules.expr g.now.depth) (rules.pattern g.now.depth) (rules.head_cover g.now.depth) (P.seen p.old)) result (P.seen p.new) }
+    requires { Nests P.seen T.expr_of T.pat_of T.stmt_of g.now.depth
+        (S.pre g.now.stmt) (S.post g.now.stmt) (E.pre g.now.expr) (E.post g.now.expr)
+        (N.pre g.now.pat) (N.post g.now.pat) }
+    ensures gives { GivesAs (opening_of T.declarator_of T.expr_of T.pat_of)
+        (rules.await_head (rules.expr g.now.depth) (rules.pattern g.now.depth)
+        (rules.head_cover g.now.depth) (P.seen p.old)) result (P.seen p.new) }
     ensures bare { IfOk result (λ o. IsBare T.pat_of o) }
 {
     let start = p.span();
@@ -282,9 +302,13 @@ fn behind_async<
     start: Span,
     name: T::Pat,
 ) -> PResult<Opening<T::Declarator, T::Expr, T::Pat>>
-    requires readers { Nests P.seen T.expr_of T.pat_of T.stmt_of g.now.depth (S.pre g.now.stmt) (S.post g.now.stmt) (E.pre g.now.expr) (E.post g.now.expr) (N.pre g.now.pat) (N.post g.now.pat) }
+    requires readers { Nests P.seen T.expr_of T.pat_of T.stmt_of g.now.depth
+        (S.pre g.now.stmt) (S.post g.now.stmt) (E.pre g.now.expr) (E.post g.now.expr)
+        (N.pre g.now.pat) (N.post g.now.pat) }
     requires bare { (refused : Bool) → own.head_faults refused (T.pat_of name) ≡ [] }
-    ensures gives { GivesAs (opening_of T.declarator_of T.expr_of T.pat_of) (words.behind_async g.now.depth start (T.pat_of name) (P.seen p.old)) result (P.seen p.new) }
+    ensures gives { GivesAs (opening_of T.declarator_of T.expr_of T.pat_of)
+        (words.behind_async g.now.depth start (T.pat_of name) (P.seen p.old)) result
+        (P.seen p.new) }
     ensures bare { IfOk result (λ o. IsBare T.pat_of o) }
 {
     if p.next_sees(TokenKind::Arrow) {
@@ -307,11 +331,15 @@ fn async_head<
     t: &MakerOf<T>,
     p: &mut P,
 ) -> PResult<Opening<T::Declarator, T::Expr, T::Pat>>
-    requires readers { Nests P.seen T.expr_of T.pat_of T.stmt_of g.now.depth (S.pre g.now.stmt) (S.post g.now.stmt) (E.pre g.now.expr) (E.post g.now.expr) (N.pre g.now.pat) (N.post g.now.pat) }
+    requires readers { Nests P.seen T.expr_of T.pat_of T.stmt_of g.now.depth
+        (S.pre g.now.stmt) (S.post g.now.stmt) (E.pre g.now.expr) (E.post g.now.expr)
+        (N.pre g.now.pat) (N.post g.now.pat) }
     requires word { follows.word_at (codes "async") (P.seen p.now).at ≡ true }
     requires of { follows.word_at (codes "of") (place.after (P.seen p.now).at) ≡ true }
     requires on_line { looks.breaks_at (place.after (P.seen p.now).at) ≡ false }
-    ensures gives { GivesAs (opening_of T.declarator_of T.expr_of T.pat_of) (rules.async_or_expression (rules.expr g.now.depth) (rules.pattern g.now.depth) (rules.head_cover g.now.depth) (P.seen p.old)) result (P.seen p.new) }
+    ensures gives { GivesAs (opening_of T.declarator_of T.expr_of T.pat_of)
+        (rules.async_or_expression (rules.expr g.now.depth) (rules.pattern g.now.depth)
+        (rules.head_cover g.now.depth) (P.seen p.old)) result (P.seen p.new) }
     ensures bare { IfOk result (λ o. IsBare T.pat_of o) }
 {
     let start = p.span();
@@ -337,8 +365,12 @@ fn head_target<
     p: &mut P,
     is_await: bool,
 ) -> PResult<Opening<T::Declarator, T::Expr, T::Pat>>
-    requires { Nests P.seen T.expr_of T.pat_of T.stmt_of g.now.depth (S.pre g.now.stmt) (S.post g.now.stmt) (E.pre g.now.expr) (E.post g.now.expr) (N.pre g.now.pat) (N.post g.now.pat) }
-    ensures gives { GivesAs (opening_of T.declarator_of T.expr_of T.pat_of) (rules.head_target (rules.expr g.now.depth) (rules.pattern g.now.depth) (rules.head_cover g.now.depth) is_await (P.seen p.old)) result (P.seen p.new) }
+    requires { Nests P.seen T.expr_of T.pat_of T.stmt_of g.now.depth
+        (S.pre g.now.stmt) (S.post g.now.stmt) (E.pre g.now.expr) (E.post g.now.expr)
+        (N.pre g.now.pat) (N.post g.now.pat) }
+    ensures gives { GivesAs (opening_of T.declarator_of T.expr_of T.pat_of)
+        (rules.head_target (rules.expr g.now.depth) (rules.pattern g.now.depth)
+        (rules.head_cover g.now.depth) is_await (P.seen p.old)) result (P.seen p.new) }
     ensures bare { IfOk result (λ o. IsBare T.pat_of o) }
 {
     if is_await && p.word_at("async") && p.next_word_at("of") && !p.next_had_line_break() {
@@ -362,8 +394,12 @@ pub(crate) fn head_opening<
     p: &mut P,
     is_await: bool,
 ) -> PResult<Opening<T::Declarator, T::Expr, T::Pat>>
-    requires { Nests P.seen T.expr_of T.pat_of T.stmt_of g.now.depth (S.pre g.now.stmt) (S.post g.now.stmt) (E.pre g.now.expr) (E.post g.now.expr) (N.pre g.now.pat) (N.post g.now.pat) }
-    ensures gives { GivesAs (opening_of T.declarator_of T.expr_of T.pat_of) (rules.opening (rules.expr g.now.depth) (rules.pattern g.now.depth) (rules.head_cover g.now.depth) is_await (P.seen p.old)) result (P.seen p.new) }
+    requires { Nests P.seen T.expr_of T.pat_of T.stmt_of g.now.depth
+        (S.pre g.now.stmt) (S.post g.now.stmt) (E.pre g.now.expr) (E.post g.now.expr)
+        (N.pre g.now.pat) (N.post g.now.pat) }
+    ensures gives { GivesAs (opening_of T.declarator_of T.expr_of T.pat_of)
+        (rules.opening (rules.expr g.now.depth) (rules.pattern g.now.depth)
+        (rules.head_cover g.now.depth) is_await (P.seen p.old)) result (P.seen p.new) }
     ensures bare { IfOk result (λ o. IsBare T.pat_of o) }
 {
     if p.sees(TokenKind::Semi) {
@@ -394,7 +430,9 @@ pub(crate) fn as_init<P: Cursor, T: BuildsFor>(
     p: &mut P,
     first: Opening<T::Declarator, T::Expr, T::Pat>,
 ) -> PResult<Option<T::ForInit>>
-    ensures { GivesAs (part_of T.init_of) (rules.as_init (opening_of T.declarator_of T.expr_of T.pat_of first) (P.seen p.old)) result (P.seen p.new) }
+    ensures { GivesAs (part_of T.init_of)
+        (rules.as_init (opening_of T.declarator_of T.expr_of T.pat_of first) (P.seen p.old)) result
+        (P.seen p.new) }
 {
     let init = match first {
         Opening::Nothing => return Ok(None),
@@ -416,7 +454,9 @@ pub(crate) fn as_left<P: Cursor, T: BuildsPattern + BuildsVariables>(
     first: Opening<T::Declarator, T::Expr, T::Pat>,
 ) -> PResult<Left<T::Declarator, T::Pat>>
     requires { IsBare T.pat_of first }
-    ensures gives { GivesAs (left_of T.declarator_of T.pat_of) (rules.as_left (opening_of T.declarator_of T.expr_of T.pat_of first) (P.seen p.old)) result (P.seen p.new) }
+    ensures gives { GivesAs (left_of T.declarator_of T.pat_of)
+        (rules.as_left (opening_of T.declarator_of T.expr_of T.pat_of first) (P.seen p.old)) result
+        (P.seen p.new) }
     ensures target { IfOk result (λ left. IsTarget T.pat_of left) }
 {
     match first {
@@ -430,7 +470,9 @@ pub(crate) fn as_left<P: Cursor, T: BuildsPattern + BuildsVariables>(
 
 /// Records that variables behind the first stand in a head.
 fn surplus<P: Cursor, T: BuildsVariables>(p: &mut P, others: &[T::Declarator]) -> PResult<()>
-    ensures { Gives (rules.told (own.surplus (trees (map T.declarator_of others.now))) (P.seen p.old)) result (P.seen p.new) }
+    ensures { Gives
+        (rules.told (own.surplus (trees (map T.declarator_of others.now))) (P.seen p.old)) result
+        (P.seen p.new) }
 {
     'others: for other in others {
         p.fault(SyntaxError::TooManyVarInForInHead, T::declared_span(other))?;
@@ -463,7 +505,9 @@ fn misdeclared_variables<P: Cursor, T: BuildsVariables>(
     refused: bool,
     declared: &Declared<T::Declarator>,
 ) -> PResult<()>
-    ensures { Gives (rules.told (own.head_faults refused (declared_of T.declarator_of declared.now)) (P.seen p.old)) result (P.seen p.new) }
+    ensures { Gives
+        (rules.told (own.head_faults refused (declared_of T.declarator_of declared.now))
+        (P.seen p.old)) result (P.seen p.new) }
 {
     let found = declared.found.as_slice();
     if found.len() == 1 {
@@ -483,7 +527,9 @@ pub(crate) fn misdeclared<P: Cursor, T: BuildsVariables>(
     left: &Left<T::Declarator, T::Pat>,
 ) -> PResult<()>
     requires { IsTarget T.pat_of left.now }
-    ensures { Gives (rules.misdeclared refused (left_of T.declarator_of T.pat_of left.now) (P.seen p.old)) result (P.seen p.new) }
+    ensures { Gives
+        (rules.misdeclared refused (left_of T.declarator_of T.pat_of left.now) (P.seen p.old))
+        result (P.seen p.new) }
 {
     match left {
         Left::Variables(declared) => misdeclared_variables::<P, T>(p, refused, declared),

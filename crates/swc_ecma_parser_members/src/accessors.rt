@@ -41,8 +41,13 @@ fn static_behind<
     E: Fn(&MakerOf<T>, &mut P, usize, Reading) -> PResult<Cover<T::Expr>>,
     N: Fn(&MakerOf<T>, &mut P, usize, Part) -> PResult<T::Pat>,
 >(g: &Grammar<S, E, N>, t: &MakerOf<T>, p: &mut P, begin: Begin) -> PResult<T::Member>
-    requires { Nests P.seen T.expr_of T.pat_of T.stmt_of g.now.depth (S.pre g.now.stmt) (S.post g.now.stmt) (E.pre g.now.expr) (E.post g.now.expr) (N.pre g.now.pat) (N.post g.now.pat) }
-    ensures { GivesAs T.member_of (members.static_behind (rules.expr g.now.depth) (rules.cover g.now.depth) (rules.stmt g.now.depth nested_item) (rules.parameters g.now.depth) begin.is_static begin.start begin.first (P.seen p.old)) result (P.seen p.new) }
+    requires { Nests P.seen T.expr_of T.pat_of T.stmt_of g.now.depth
+        (S.pre g.now.stmt) (S.post g.now.stmt) (E.pre g.now.expr) (E.post g.now.expr)
+        (N.pre g.now.pat) (N.post g.now.pat) }
+    ensures { GivesAs T.member_of
+        (members.static_behind (rules.expr g.now.depth) (rules.cover g.now.depth)
+        (rules.stmt g.now.depth nested_item) (rules.parameters g.now.depth) begin.is_static
+        begin.start begin.first (P.seen p.old)) result (P.seen p.new) }
 {
     if begin.is_static {
         return second_static(g, t, p, begin);
@@ -60,8 +65,13 @@ fn block_behind<
     E: Fn(&MakerOf<T>, &mut P, usize, Reading) -> PResult<Cover<T::Expr>>,
     N: Fn(&MakerOf<T>, &mut P, usize, Part) -> PResult<T::Pat>,
 >(g: &Grammar<S, E, N>, t: &MakerOf<T>, p: &mut P, begin: Begin) -> PResult<T::Member>
-    requires { Nests P.seen T.expr_of T.pat_of T.stmt_of g.now.depth (S.pre g.now.stmt) (S.post g.now.stmt) (E.pre g.now.expr) (E.post g.now.expr) (N.pre g.now.pat) (N.post g.now.pat) }
-    ensures { GivesAs T.member_of (members.block_behind (rules.expr g.now.depth) (rules.cover g.now.depth) (rules.stmt g.now.depth nested_item) (rules.parameters g.now.depth) begin.is_static begin.start begin.first (P.seen p.old)) result (P.seen p.new) }
+    requires { Nests P.seen T.expr_of T.pat_of T.stmt_of g.now.depth
+        (S.pre g.now.stmt) (S.post g.now.stmt) (E.pre g.now.expr) (E.post g.now.expr)
+        (N.pre g.now.pat) (N.post g.now.pat) }
+    ensures { GivesAs T.member_of
+        (members.block_behind (rules.expr g.now.depth) (rules.cover g.now.depth)
+        (rules.stmt g.now.depth nested_item) (rules.parameters g.now.depth) begin.is_static
+        begin.start begin.first (P.seen p.old)) result (P.seen p.new) }
 {
     if begin.is_static && p.sees(TokenKind::LBrace) {
         return static_block(g, t, p, begin.start);
@@ -87,8 +97,14 @@ fn behind_accessed_key<
     word: Span,
     key: MemberKey<T::Expr>,
 ) -> PResult<T::Member>
-    requires { Nests P.seen T.expr_of T.pat_of T.stmt_of g.now.depth (S.pre g.now.stmt) (S.post g.now.stmt) (E.pre g.now.expr) (E.post g.now.expr) (N.pre g.now.pat) (N.post g.now.pat) }
-    ensures { GivesAs T.member_of (members.behind_accessed_key (rules.expr g.now.depth) (rules.cover g.now.depth) (rules.stmt g.now.depth nested_item) (rules.parameters g.now.depth) (leading_of T.decorator_of leading) begin.is_static begin.start begin.first accessor word (member_key_of T.expr_of key) (P.seen p.old)) result (P.seen p.new) }
+    requires { Nests P.seen T.expr_of T.pat_of T.stmt_of g.now.depth
+        (S.pre g.now.stmt) (S.post g.now.stmt) (E.pre g.now.expr) (E.post g.now.expr)
+        (N.pre g.now.pat) (N.post g.now.pat) }
+    ensures { GivesAs T.member_of
+        (members.behind_accessed_key (rules.expr g.now.depth) (rules.cover g.now.depth)
+        (rules.stmt g.now.depth nested_item) (rules.parameters g.now.depth)
+        (leading_of T.decorator_of leading) begin.is_static begin.start begin.first accessor word
+        (member_key_of T.expr_of key) (P.seen p.old)) result (P.seen p.new) }
 {
     if p.sees(TokenKind::LParen) {
         before_constructor::<P, T>(t.alloc, p, &leading, &key)?;
@@ -119,8 +135,14 @@ fn accessed_key<
     begin: Begin,
     accessor: Span,
 ) -> PResult<T::Member>
-    requires { Nests P.seen T.expr_of T.pat_of T.stmt_of g.now.depth (S.pre g.now.stmt) (S.post g.now.stmt) (E.pre g.now.expr) (E.post g.now.expr) (N.pre g.now.pat) (N.post g.now.pat) }
-    ensures { GivesAs T.member_of (members.accessed_key (rules.expr g.now.depth) (rules.cover g.now.depth) (rules.stmt g.now.depth nested_item) (rules.parameters g.now.depth) (leading_of T.decorator_of leading) begin.is_static begin.start begin.first accessor (P.seen p.old)) result (P.seen p.new) }
+    requires { Nests P.seen T.expr_of T.pat_of T.stmt_of g.now.depth
+        (S.pre g.now.stmt) (S.post g.now.stmt) (E.pre g.now.expr) (E.post g.now.expr)
+        (N.pre g.now.pat) (N.post g.now.pat) }
+    ensures { GivesAs T.member_of
+        (members.accessed_key (rules.expr g.now.depth) (rules.cover g.now.depth)
+        (rules.stmt g.now.depth nested_item) (rules.parameters g.now.depth)
+        (leading_of T.decorator_of leading) begin.is_static begin.start begin.first accessor
+        (P.seen p.old)) result (P.seen p.new) }
 {
     let word = p.span();
     let key = member_key(g, t, p)?;
@@ -143,8 +165,14 @@ fn accessed<
     begin: Begin,
     accessor: Span,
 ) -> PResult<T::Member>
-    requires { Nests P.seen T.expr_of T.pat_of T.stmt_of g.now.depth (S.pre g.now.stmt) (S.post g.now.stmt) (E.pre g.now.expr) (E.post g.now.expr) (N.pre g.now.pat) (N.post g.now.pat) }
-    ensures { GivesAs T.member_of (members.accessed (rules.expr g.now.depth) (rules.cover g.now.depth) (rules.stmt g.now.depth nested_item) (rules.parameters g.now.depth) (leading_of T.decorator_of leading) begin.is_static begin.start begin.first accessor (P.seen p.old)) result (P.seen p.new) }
+    requires { Nests P.seen T.expr_of T.pat_of T.stmt_of g.now.depth
+        (S.pre g.now.stmt) (S.post g.now.stmt) (E.pre g.now.expr) (E.post g.now.expr)
+        (N.pre g.now.pat) (N.post g.now.pat) }
+    ensures { GivesAs T.member_of
+        (members.accessed (rules.expr g.now.depth) (rules.cover g.now.depth)
+        (rules.stmt g.now.depth nested_item) (rules.parameters g.now.depth)
+        (leading_of T.decorator_of leading) begin.is_static begin.start begin.first accessor
+        (P.seen p.old)) result (P.seen p.new) }
 {
     if begins_block(p, begin.is_static) {
         misplaced::<P, T>(t.alloc, p, &leading)?;
@@ -174,8 +202,14 @@ pub(crate) fn accessor_member<
     leading: Leading<T::Decorator>,
     begin: Begin,
 ) -> PResult<T::Member>
-    requires { Nests P.seen T.expr_of T.pat_of T.stmt_of g.now.depth (S.pre g.now.stmt) (S.post g.now.stmt) (E.pre g.now.expr) (E.post g.now.expr) (N.pre g.now.pat) (N.post g.now.pat) }
-    ensures { GivesAs T.member_of (members.accessor_member (rules.expr g.now.depth) (rules.cover g.now.depth) (rules.stmt g.now.depth nested_item) (rules.parameters g.now.depth) (leading_of T.decorator_of leading) begin.is_static begin.start begin.first (P.seen p.old)) result (P.seen p.new) }
+    requires { Nests P.seen T.expr_of T.pat_of T.stmt_of g.now.depth
+        (S.pre g.now.stmt) (S.post g.now.stmt) (E.pre g.now.expr) (E.post g.now.expr)
+        (N.pre g.now.pat) (N.post g.now.pat) }
+    ensures { GivesAs T.member_of
+        (members.accessor_member (rules.expr g.now.depth) (rules.cover g.now.depth)
+        (rules.stmt g.now.depth nested_item) (rules.parameters g.now.depth)
+        (leading_of T.decorator_of leading) begin.is_static begin.start begin.first (P.seen p.old))
+        result (P.seen p.new) }
 {
     let accessor = p.span();
     p.skip()?;

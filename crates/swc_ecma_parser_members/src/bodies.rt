@@ -28,8 +28,12 @@ pub(crate) fn made_parameters<P: Cursor, T: BuildsFunction + BuildsPattern>(
     p: &mut P,
     pats: Vec<T::Pat>,
 ) -> PResult<Parameters<T::Param>>
-    ensures made { IfOk result (λ found. tree.listed (map T.param_of found.params.items) ≡ formal.parameters (map T.pat_of pats.items)) }
-    ensures plain { IfOk result (λ found. found.are_plain ≡ forms.has_plain_params (formal.parameters (map T.pat_of pats.items))) }
+    ensures made { IfOk result
+        (λ found. tree.listed (map T.param_of found.params.items)
+        ≡ formal.parameters (map T.pat_of pats.items)) }
+    ensures plain { IfOk result
+        (λ found. found.are_plain
+        ≡ forms.has_plain_params (formal.parameters (map T.pat_of pats.items))) }
     ensures state { IfOk result (λ found. P.seen p.new ≡ P.seen p.old) }
     ensures err { IfErr result IsOutOfMemory }
 {
@@ -44,8 +48,11 @@ pub(crate) fn misdirected_body<P: Cursor, T: BuildsBlock>(
     are_plain: bool,
     body: &FunctionBody<T::Block>,
 ) -> PResult<()>
-    requires { own.misplaced_directive false (T.block_of body.now.block) ≡ late body.now.strict_directive }
-    ensures { Gives (rules.told (own.misplaced_directive are_plain (T.block_of body.now.block)) (P.seen p.old)) result (P.seen p.new) }
+    requires { own.misplaced_directive false (T.block_of body.now.block)
+        ≡ late body.now.strict_directive }
+    ensures { Gives
+        (rules.told (own.misplaced_directive are_plain (T.block_of body.now.block)) (P.seen p.old))
+        result (P.seen p.new) }
 {
     misdirected(p, are_plain, body.strict_directive)
 }

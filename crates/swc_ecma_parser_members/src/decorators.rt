@@ -27,8 +27,11 @@ fn decorated<
     E: Fn(&MakerOf<T>, &mut P, usize, Reading) -> PResult<Cover<T::Expr>>,
     N: Fn(&MakerOf<T>, &mut P, usize, Part) -> PResult<T::Pat>,
 >(g: &Grammar<S, E, N>, t: &MakerOf<T>, p: &mut P) -> PResult<T::Expr>
-    requires { Nests P.seen T.expr_of T.pat_of T.stmt_of g.now.depth (S.pre g.now.stmt) (S.post g.now.stmt) (E.pre g.now.expr) (E.post g.now.expr) (N.pre g.now.pat) (N.post g.now.pat) }
-    ensures { GivesAs T.expr_of (levels.decorated_in g.now.depth (P.seen p.old)) result (P.seen p.new) }
+    requires { Nests P.seen T.expr_of T.pat_of T.stmt_of g.now.depth
+        (S.pre g.now.stmt) (S.post g.now.stmt) (E.pre g.now.expr) (E.post g.now.expr)
+        (N.pre g.now.pat) (N.post g.now.pat) }
+    ensures { GivesAs T.expr_of (levels.decorated_in g.now.depth (P.seen p.old)) result
+        (P.seen p.new) }
 {
     let found = (g.expr)(t, p, g.depth, Reading::Decorated)?;
     Ok(found.tree)
@@ -43,8 +46,12 @@ fn decorator<
     E: Fn(&MakerOf<T>, &mut P, usize, Reading) -> PResult<Cover<T::Expr>>,
     N: Fn(&MakerOf<T>, &mut P, usize, Part) -> PResult<T::Pat>,
 >(g: &Grammar<S, E, N>, t: &MakerOf<T>, p: &mut P) -> PResult<T::Decorator>
-    requires { Nests P.seen T.expr_of T.pat_of T.stmt_of g.now.depth (S.pre g.now.stmt) (S.post g.now.stmt) (E.pre g.now.expr) (E.post g.now.expr) (N.pre g.now.pat) (N.post g.now.pat) }
-    ensures { GivesAs T.decorator_of (decorators.decorator (levels.decorated_in g.now.depth) (P.seen p.old)) result (P.seen p.new) }
+    requires { Nests P.seen T.expr_of T.pat_of T.stmt_of g.now.depth
+        (S.pre g.now.stmt) (S.post g.now.stmt) (E.pre g.now.expr) (E.post g.now.expr)
+        (N.pre g.now.pat) (N.post g.now.pat) }
+    ensures { GivesAs T.decorator_of
+        (decorators.decorator (levels.decorated_in g.now.depth) (P.seen p.old)) result
+        (P.seen p.new) }
 {
     let start = p.span();
     p.skip()?;
@@ -63,8 +70,12 @@ fn all_decorators<
     E: Fn(&MakerOf<T>, &mut P, usize, Reading) -> PResult<Cover<T::Expr>>,
     N: Fn(&MakerOf<T>, &mut P, usize, Part) -> PResult<T::Pat>,
 >(g: &Grammar<S, E, N>, t: &MakerOf<T>, p: &mut P) -> PResult<Vec<T::Decorator>>
-    requires { Nests P.seen T.expr_of T.pat_of T.stmt_of g.now.depth (S.pre g.now.stmt) (S.post g.now.stmt) (E.pre g.now.expr) (E.post g.now.expr) (N.pre g.now.pat) (N.post g.now.pat) }
-    ensures { GivesAs (λ found. map T.decorator_of found.items) (loop (decorators.decorators_turn (levels.decorated_in g.now.depth)) [] (P.seen p.old)) result (P.seen p.new) }
+    requires { Nests P.seen T.expr_of T.pat_of T.stmt_of g.now.depth
+        (S.pre g.now.stmt) (S.post g.now.stmt) (E.pre g.now.expr) (E.post g.now.expr)
+        (N.pre g.now.pat) (N.post g.now.pat) }
+    ensures { GivesAs (λ found. map T.decorator_of found.items)
+        (loop (decorators.decorators_turn (levels.decorated_in g.now.depth)) [] (P.seen p.old))
+        result (P.seen p.new) }
 {
     let mut found = Vec::new(t.alloc);
     'decorators: while p.sees(TokenKind::At) {
@@ -83,8 +94,11 @@ pub fn decorators<
     E: Fn(&MakerOf<T>, &mut P, usize, Reading) -> PResult<Cover<T::Expr>>,
     N: Fn(&MakerOf<T>, &mut P, usize, Part) -> PResult<T::Pat>,
 >(g: &Grammar<S, E, N>, t: &MakerOf<T>, p: &mut P) -> PResult<Vec<T::Decorator>>
-    requires { Nests P.seen T.expr_of T.pat_of T.stmt_of g.now.depth (S.pre g.now.stmt) (S.post g.now.stmt) (E.pre g.now.expr) (E.post g.now.expr) (N.pre g.now.pat) (N.post g.now.pat) }
-    ensures { GivesAs (λ found. map T.decorator_of found.items) (levels.decorators_in g.now.depth (P.seen p.old)) result (P.seen p.new) }
+    requires { Nests P.seen T.expr_of T.pat_of T.stmt_of g.now.depth
+        (S.pre g.now.stmt) (S.post g.now.stmt) (E.pre g.now.expr) (E.post g.now.expr)
+        (N.pre g.now.pat) (N.post g.now.pat) }
+    ensures { GivesAs (λ found. map T.decorator_of found.items)
+        (levels.decorators_in g.now.depth (P.seen p.old)) result (P.seen p.new) }
 {
     if !p.decorators() {
         return Ok(Vec::new(t.alloc));
@@ -112,8 +126,12 @@ pub fn leading_decorators<
     E: Fn(&MakerOf<T>, &mut P, usize, Reading) -> PResult<Cover<T::Expr>>,
     N: Fn(&MakerOf<T>, &mut P, usize, Part) -> PResult<T::Pat>,
 >(g: &Grammar<S, E, N>, t: &MakerOf<T>, p: &mut P) -> PResult<Leading<T::Decorator>>
-    requires { Nests P.seen T.expr_of T.pat_of T.stmt_of g.now.depth (S.pre g.now.stmt) (S.post g.now.stmt) (E.pre g.now.expr) (E.post g.now.expr) (N.pre g.now.pat) (N.post g.now.pat) }
-    ensures { GivesAs (leading_of T.decorator_of) (decorators.leading (levels.decorated_in g.now.depth) (P.seen p.old)) result (P.seen p.new) }
+    requires { Nests P.seen T.expr_of T.pat_of T.stmt_of g.now.depth
+        (S.pre g.now.stmt) (S.post g.now.stmt) (E.pre g.now.expr) (E.post g.now.expr)
+        (N.pre g.now.pat) (N.post g.now.pat) }
+    ensures { GivesAs (leading_of T.decorator_of)
+        (decorators.leading (levels.decorated_in g.now.depth) (P.seen p.old)) result
+        (P.seen p.new) }
 {
     let module_found = found_module_item(t.alloc, p);
     let start = p.span();
@@ -134,7 +152,8 @@ pub fn misplaced<P: Cursor, T: BuildsFunction>(
     p: &mut P,
     leading: &Leading<T::Decorator>,
 ) -> PResult<()>
-    ensures { Gives (decorators.misplaced (leading_of T.decorator_of leading.now) (P.seen p.old)) result (P.seen p.new) }
+    ensures { Gives (decorators.misplaced (leading_of T.decorator_of leading.now) (P.seen p.old))
+        result (P.seen p.new) }
 {
     if leading.found.is_empty() {
         return Ok(());

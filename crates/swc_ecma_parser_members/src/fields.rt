@@ -42,7 +42,8 @@ fn field_end<P: Cursor>(p: &mut P) -> PResult<()>
 /// A field is not named `constructor`.
 #[tactic(auto, unfolding(swc_ecma_parser_reader::specs::Members::field_named))]
 fn field_named<P: Cursor, T: Trees>(p: &mut P, key: &MemberKey<T::Expr>) -> PResult<()>
-    ensures { Gives (members.field_named (member_key_of T.expr_of key.now) (P.seen p.old)) result (P.seen p.new) }
+    ensures { Gives (members.field_named (member_key_of T.expr_of key.now) (P.seen p.old)) result
+        (P.seen p.new) }
 {
     if is_constructor_key::<T>(key) {
         return Err(p.reject(SyntaxError::PropertyNamedConstructor, key_span::<T>(key)));
@@ -59,8 +60,12 @@ fn field_value<
     E: Fn(&MakerOf<T>, &mut P, usize, Reading) -> PResult<Cover<T::Expr>>,
     N: Fn(&MakerOf<T>, &mut P, usize, Part) -> PResult<T::Pat>,
 >(g: &Grammar<S, E, N>, t: &MakerOf<T>, p: &mut P) -> PResult<Option<T::Expr>>
-    requires { Nests P.seen T.expr_of T.pat_of T.stmt_of g.now.depth (S.pre g.now.stmt) (S.post g.now.stmt) (E.pre g.now.expr) (E.post g.now.expr) (N.pre g.now.pat) (N.post g.now.pat) }
-    ensures { GivesAs (part_of T.expr_of) (members.field_value (rules.expr g.now.depth) (rules.cover g.now.depth) (P.seen p.old)) result (P.seen p.new) }
+    requires { Nests P.seen T.expr_of T.pat_of T.stmt_of g.now.depth
+        (S.pre g.now.stmt) (S.post g.now.stmt) (E.pre g.now.expr) (E.post g.now.expr)
+        (N.pre g.now.pat) (N.post g.now.pat) }
+    ensures { GivesAs (part_of T.expr_of)
+        (members.field_value (rules.expr g.now.depth) (rules.cover g.now.depth) (P.seen p.old))
+        result (P.seen p.new) }
 {
     if !p.sees(TokenKind::Assign) {
         return Ok(None);
@@ -88,7 +93,10 @@ fn made_accessor<T: BuildsClass>(
     is_static: bool,
     decorators: Vec<T::Decorator>,
 ) -> Result<T::Member, AllocError>
-    ensures { IfOk result (λ x. T.member_of x ≡ field_member span (member_key_of T.expr_of key) (part_of T.expr_of value) is_static true (listed (map T.decorator_of decorators.items))) }
+    ensures { IfOk result
+        (λ x. T.member_of x
+        ≡ field_member span (member_key_of T.expr_of key) (part_of T.expr_of value) is_static true
+        (listed (map T.decorator_of decorators.items))) }
 {
     match key {
         MemberKey::Private(key) => {
@@ -110,7 +118,10 @@ fn made_plain<T: BuildsClass>(
     is_static: bool,
     decorators: Vec<T::Decorator>,
 ) -> Result<T::Member, AllocError>
-    ensures { IfOk result (λ x. T.member_of x ≡ field_member span (member_key_of T.expr_of key) (part_of T.expr_of value) is_static false (listed (map T.decorator_of decorators.items))) }
+    ensures { IfOk result
+        (λ x. T.member_of x
+        ≡ field_member span (member_key_of T.expr_of key) (part_of T.expr_of value) is_static false
+        (listed (map T.decorator_of decorators.items))) }
 {
     match key {
         MemberKey::Private(key) => {
@@ -132,7 +143,10 @@ fn made_field<T: BuildsClass>(
     head: FieldHead,
     decorators: Vec<T::Decorator>,
 ) -> Result<T::Member, AllocError>
-    ensures { IfOk result (λ x. T.member_of x ≡ field_member span (member_key_of T.expr_of key) (part_of T.expr_of value) head.is_static head.is_accessor (listed (map T.decorator_of decorators.items))) }
+    ensures { IfOk result
+        (λ x. T.member_of x
+        ≡ field_member span (member_key_of T.expr_of key) (part_of T.expr_of value) head.is_static
+        head.is_accessor (listed (map T.decorator_of decorators.items))) }
 {
     if head.is_accessor {
         return made_accessor::<T>(alloc, span, key, value, head.is_static, decorators);
@@ -156,8 +170,13 @@ fn field_from<
     decorators: Vec<T::Decorator>,
     key: MemberKey<T::Expr>,
 ) -> PResult<T::Member>
-    requires { Nests P.seen T.expr_of T.pat_of T.stmt_of g.now.depth (S.pre g.now.stmt) (S.post g.now.stmt) (E.pre g.now.expr) (E.post g.now.expr) (N.pre g.now.pat) (N.post g.now.pat) }
-    ensures { GivesAs T.member_of (members.field_from (rules.expr g.now.depth) (rules.cover g.now.depth) (map T.decorator_of decorators.items) head.is_static head.is_accessor head.start (member_key_of T.expr_of key) (P.seen p.old)) result (P.seen p.new) }
+    requires { Nests P.seen T.expr_of T.pat_of T.stmt_of g.now.depth
+        (S.pre g.now.stmt) (S.post g.now.stmt) (E.pre g.now.expr) (E.post g.now.expr)
+        (N.pre g.now.pat) (N.post g.now.pat) }
+    ensures { GivesAs T.member_of
+        (members.field_from (rules.expr g.now.depth) (rules.cover g.now.depth)
+        (map T.decorator_of decorators.items) head.is_static head.is_accessor head.start
+        (member_key_of T.expr_of key) (P.seen p.old)) result (P.seen p.new) }
 {
     field_named::<P, T>(p, &key)?;
     let value = field_value(g, t, p)?;
@@ -184,8 +203,13 @@ pub(crate) fn field<
     decorators: Vec<T::Decorator>,
     key: MemberKey<T::Expr>,
 ) -> PResult<T::Member>
-    requires { Nests P.seen T.expr_of T.pat_of T.stmt_of g.now.depth (S.pre g.now.stmt) (S.post g.now.stmt) (E.pre g.now.expr) (E.post g.now.expr) (N.pre g.now.pat) (N.post g.now.pat) }
-    ensures { GivesAs T.member_of (members.field (rules.expr g.now.depth) (rules.cover g.now.depth) (map T.decorator_of decorators.items) head.is_static head.is_accessor head.start (member_key_of T.expr_of key) (P.seen p.old)) result (P.seen p.new) }
+    requires { Nests P.seen T.expr_of T.pat_of T.stmt_of g.now.depth
+        (S.pre g.now.stmt) (S.post g.now.stmt) (E.pre g.now.expr) (E.post g.now.expr)
+        (N.pre g.now.pat) (N.post g.now.pat) }
+    ensures { GivesAs T.member_of
+        (members.field (rules.expr g.now.depth) (rules.cover g.now.depth)
+        (map T.decorator_of decorators.items) head.is_static head.is_accessor head.start
+        (member_key_of T.expr_of key) (P.seen p.old)) result (P.seen p.new) }
 {
     if p.sees(TokenKind::Assign) || ends_at(p) {
         return field_from(g, t, p, head, decorators, key);

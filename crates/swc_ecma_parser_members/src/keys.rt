@@ -68,7 +68,8 @@ pub(crate) fn key_span<T: Trees>(key: &MemberKey<T::Expr>) -> Span
 
 /// Records a private name `constructor`.
 fn private_faults<P: Cursor>(p: &mut P, name: &PrivateName) -> PResult<()>
-    ensures { Gives (told (members.private_faults (private_of name.now)) (P.seen p.old)) result (P.seen p.new) }
+    ensures { Gives (told (members.private_faults (private_of name.now)) (P.seen p.old)) result
+        (P.seen p.new) }
 {
     let is_constructor = name.id.sym.as_str() == "constructor";
     told_if(
@@ -88,8 +89,12 @@ fn private_key<
     E: Fn(&MakerOf<T>, &mut P, usize, Reading) -> PResult<Cover<T::Expr>>,
     N: Fn(&MakerOf<T>, &mut P, usize, Part) -> PResult<T::Pat>,
 >(g: &Grammar<S, E, N>, t: &MakerOf<T>, p: &mut P) -> PResult<MemberKey<T::Expr>>
-    requires { Nests P.seen T.expr_of T.pat_of T.stmt_of g.now.depth (S.pre g.now.stmt) (S.post g.now.stmt) (E.pre g.now.expr) (E.post g.now.expr) (N.pre g.now.pat) (N.post g.now.pat) }
-    ensures { GivesAs (member_key_of T.expr_of) (members.private_key (rules.expr g.now.depth) (rules.cover g.now.depth) (P.seen p.old)) result (P.seen p.new) }
+    requires { Nests P.seen T.expr_of T.pat_of T.stmt_of g.now.depth
+        (S.pre g.now.stmt) (S.post g.now.stmt) (E.pre g.now.expr) (E.post g.now.expr)
+        (N.pre g.now.pat) (N.post g.now.pat) }
+    ensures { GivesAs (member_key_of T.expr_of)
+        (members.private_key (rules.expr g.now.depth) (rules.cover g.now.depth) (P.seen p.old))
+        result (P.seen p.new) }
 {
     let name = private_name(p)?;
     private_faults(p, &name)?;
@@ -106,8 +111,12 @@ pub(crate) fn member_key<
     E: Fn(&MakerOf<T>, &mut P, usize, Reading) -> PResult<Cover<T::Expr>>,
     N: Fn(&MakerOf<T>, &mut P, usize, Part) -> PResult<T::Pat>,
 >(g: &Grammar<S, E, N>, t: &MakerOf<T>, p: &mut P) -> PResult<MemberKey<T::Expr>>
-    requires { Nests P.seen T.expr_of T.pat_of T.stmt_of g.now.depth (S.pre g.now.stmt) (S.post g.now.stmt) (E.pre g.now.expr) (E.post g.now.expr) (N.pre g.now.pat) (N.post g.now.pat) }
-    ensures { GivesAs (member_key_of T.expr_of) (members.member_key (rules.expr g.now.depth) (rules.cover g.now.depth) (P.seen p.old)) result (P.seen p.new) }
+    requires { Nests P.seen T.expr_of T.pat_of T.stmt_of g.now.depth
+        (S.pre g.now.stmt) (S.post g.now.stmt) (E.pre g.now.expr) (E.post g.now.expr)
+        (N.pre g.now.pat) (N.post g.now.pat) }
+    ensures { GivesAs (member_key_of T.expr_of)
+        (members.member_key (rules.expr g.now.depth) (rules.cover g.now.depth) (P.seen p.old))
+        result (P.seen p.new) }
 {
     if p.sees(TokenKind::Hash) {
         return private_key(g, t, p);

@@ -36,7 +36,9 @@ pub(crate) fn before_constructor<P: Cursor, T: BuildsFunction>(
     leading: &Leading<T::Decorator>,
     key: &MemberKey<T::Expr>,
 ) -> PResult<()>
-    ensures { Gives (members.before_constructor (leading_of T.decorator_of leading.now) (member_key_of T.expr_of key.now) (P.seen p.old)) result (P.seen p.new) }
+    ensures { Gives
+        (members.before_constructor (leading_of T.decorator_of leading.now)
+        (member_key_of T.expr_of key.now) (P.seen p.old)) result (P.seen p.new) }
 {
     if !is_constructor_key::<T>(key) {
         return Ok(());
@@ -61,8 +63,14 @@ fn behind_key<
     head: Head,
     key: MemberKey<T::Expr>,
 ) -> PResult<T::Member>
-    requires { Nests P.seen T.expr_of T.pat_of T.stmt_of g.now.depth (S.pre g.now.stmt) (S.post g.now.stmt) (E.pre g.now.expr) (E.post g.now.expr) (N.pre g.now.pat) (N.post g.now.pat) }
-    ensures { GivesAs T.member_of (members.behind_key (rules.expr g.now.depth) (rules.cover g.now.depth) (rules.stmt g.now.depth nested_item) (rules.parameters g.now.depth) (leading_of T.decorator_of leading) head.is_static (form_of head.form) head.start head.first head.word (member_key_of T.expr_of key) (P.seen p.old)) result (P.seen p.new) }
+    requires { Nests P.seen T.expr_of T.pat_of T.stmt_of g.now.depth
+        (S.pre g.now.stmt) (S.post g.now.stmt) (E.pre g.now.expr) (E.post g.now.expr)
+        (N.pre g.now.pat) (N.post g.now.pat) }
+    ensures { GivesAs T.member_of
+        (members.behind_key (rules.expr g.now.depth) (rules.cover g.now.depth)
+        (rules.stmt g.now.depth nested_item) (rules.parameters g.now.depth)
+        (leading_of T.decorator_of leading) head.is_static (form_of head.form) head.start head.first
+        head.word (member_key_of T.expr_of key) (P.seen p.old)) result (P.seen p.new) }
 {
     if !head.form.is_bare() {
         return method(g, t, p, head, leading.found, key);
@@ -100,8 +108,14 @@ pub(crate) fn keyed_member<
     leading: Leading<T::Decorator>,
     begin: Begin,
 ) -> PResult<T::Member>
-    requires { Nests P.seen T.expr_of T.pat_of T.stmt_of g.now.depth (S.pre g.now.stmt) (S.post g.now.stmt) (E.pre g.now.expr) (E.post g.now.expr) (N.pre g.now.pat) (N.post g.now.pat) }
-    ensures { GivesAs T.member_of (members.keyed_member (rules.expr g.now.depth) (rules.cover g.now.depth) (rules.stmt g.now.depth nested_item) (rules.parameters g.now.depth) (leading_of T.decorator_of leading) begin.is_static begin.start begin.first (P.seen p.old)) result (P.seen p.new) }
+    requires { Nests P.seen T.expr_of T.pat_of T.stmt_of g.now.depth
+        (S.pre g.now.stmt) (S.post g.now.stmt) (E.pre g.now.expr) (E.post g.now.expr)
+        (N.pre g.now.pat) (N.post g.now.pat) }
+    ensures { GivesAs T.member_of
+        (members.keyed_member (rules.expr g.now.depth) (rules.cover g.now.depth)
+        (rules.stmt g.now.depth nested_item) (rules.parameters g.now.depth)
+        (leading_of T.decorator_of leading) begin.is_static begin.start begin.first (P.seen p.old))
+        result (P.seen p.new) }
 {
     let word = p.span();
     let form = member_words(p)?;
@@ -131,8 +145,14 @@ fn behind_static<
     leading: Leading<T::Decorator>,
     begin: Begin,
 ) -> PResult<T::Member>
-    requires { Nests P.seen T.expr_of T.pat_of T.stmt_of g.now.depth (S.pre g.now.stmt) (S.post g.now.stmt) (E.pre g.now.expr) (E.post g.now.expr) (N.pre g.now.pat) (N.post g.now.pat) }
-    ensures { GivesAs T.member_of (members.behind_static (rules.expr g.now.depth) (rules.cover g.now.depth) (rules.stmt g.now.depth nested_item) (rules.parameters g.now.depth) (leading_of T.decorator_of leading) begin.is_static begin.start begin.first (P.seen p.old)) result (P.seen p.new) }
+    requires { Nests P.seen T.expr_of T.pat_of T.stmt_of g.now.depth
+        (S.pre g.now.stmt) (S.post g.now.stmt) (E.pre g.now.expr) (E.post g.now.expr)
+        (N.pre g.now.pat) (N.post g.now.pat) }
+    ensures { GivesAs T.member_of
+        (members.behind_static (rules.expr g.now.depth) (rules.cover g.now.depth)
+        (rules.stmt g.now.depth nested_item) (rules.parameters g.now.depth)
+        (leading_of T.decorator_of leading) begin.is_static begin.start begin.first (P.seen p.old))
+        result (P.seen p.new) }
 {
     if is_accessor_word(p) {
         return accessor_member(g, t, p, leading, begin);
@@ -157,8 +177,13 @@ fn full_member<
     E: Fn(&MakerOf<T>, &mut P, usize, Reading) -> PResult<Cover<T::Expr>>,
     N: Fn(&MakerOf<T>, &mut P, usize, Part) -> PResult<T::Pat>,
 >(g: &Grammar<S, E, N>, t: &MakerOf<T>, p: &mut P) -> PResult<T::Member>
-    requires { Nests P.seen T.expr_of T.pat_of T.stmt_of g.now.depth (S.pre g.now.stmt) (S.post g.now.stmt) (E.pre g.now.expr) (E.post g.now.expr) (N.pre g.now.pat) (N.post g.now.pat) }
-    ensures { GivesAs T.member_of (members.full_member (rules.expr g.now.depth) (rules.cover g.now.depth) (rules.stmt g.now.depth nested_item) (rules.parameters g.now.depth) (levels.decorated_in g.now.depth) (P.seen p.old)) result (P.seen p.new) }
+    requires { Nests P.seen T.expr_of T.pat_of T.stmt_of g.now.depth
+        (S.pre g.now.stmt) (S.post g.now.stmt) (E.pre g.now.expr) (E.post g.now.expr)
+        (N.pre g.now.pat) (N.post g.now.pat) }
+    ensures { GivesAs T.member_of
+        (members.full_member (rules.expr g.now.depth) (rules.cover g.now.depth)
+        (rules.stmt g.now.depth nested_item) (rules.parameters g.now.depth)
+        (levels.decorated_in g.now.depth) (P.seen p.old)) result (P.seen p.new) }
 {
     let start = p.span();
     let leading = leading_decorators(g, t, p)?;
@@ -182,8 +207,13 @@ fn empty_member<
     E: Fn(&MakerOf<T>, &mut P, usize, Reading) -> PResult<Cover<T::Expr>>,
     N: Fn(&MakerOf<T>, &mut P, usize, Part) -> PResult<T::Pat>,
 >(g: &Grammar<S, E, N>, t: &MakerOf<T>, p: &mut P) -> PResult<T::Member>
-    requires { Nests P.seen T.expr_of T.pat_of T.stmt_of g.now.depth (S.pre g.now.stmt) (S.post g.now.stmt) (E.pre g.now.expr) (E.post g.now.expr) (N.pre g.now.pat) (N.post g.now.pat) }
-    ensures { GivesAs T.member_of (members.empty_member (rules.expr g.now.depth) (rules.cover g.now.depth) (rules.stmt g.now.depth nested_item) (rules.parameters g.now.depth) (P.seen p.old)) result (P.seen p.new) }
+    requires { Nests P.seen T.expr_of T.pat_of T.stmt_of g.now.depth
+        (S.pre g.now.stmt) (S.post g.now.stmt) (E.pre g.now.expr) (E.post g.now.expr)
+        (N.pre g.now.pat) (N.post g.now.pat) }
+    ensures { GivesAs T.member_of
+        (members.empty_member (rules.expr g.now.depth) (rules.cover g.now.depth)
+        (rules.stmt g.now.depth nested_item) (rules.parameters g.now.depth) (P.seen p.old)) result
+        (P.seen p.new) }
 {
     let start = p.span();
     p.skip()?;
@@ -200,8 +230,13 @@ pub fn member_level<
     E: Fn(&MakerOf<T>, &mut P, usize, Reading) -> PResult<Cover<T::Expr>>,
     N: Fn(&MakerOf<T>, &mut P, usize, Part) -> PResult<T::Pat>,
 >(g: &Grammar<S, E, N>, t: &MakerOf<T>, p: &mut P) -> PResult<T::Member>
-    requires { Nests P.seen T.expr_of T.pat_of T.stmt_of g.now.depth (S.pre g.now.stmt) (S.post g.now.stmt) (E.pre g.now.expr) (E.post g.now.expr) (N.pre g.now.pat) (N.post g.now.pat) }
-    ensures { GivesAs T.member_of (members.member_level (rules.expr g.now.depth) (rules.cover g.now.depth) (rules.stmt g.now.depth nested_item) (rules.parameters g.now.depth) (levels.decorated_in g.now.depth) (P.seen p.old)) result (P.seen p.new) }
+    requires { Nests P.seen T.expr_of T.pat_of T.stmt_of g.now.depth
+        (S.pre g.now.stmt) (S.post g.now.stmt) (E.pre g.now.expr) (E.post g.now.expr)
+        (N.pre g.now.pat) (N.post g.now.pat) }
+    ensures { GivesAs T.member_of
+        (members.member_level (rules.expr g.now.depth) (rules.cover g.now.depth)
+        (rules.stmt g.now.depth nested_item) (rules.parameters g.now.depth)
+        (levels.decorated_in g.now.depth) (P.seen p.old)) result (P.seen p.new) }
 {
     if p.sees(TokenKind::Semi) {
         return empty_member(g, t, p);

@@ -95,14 +95,17 @@ fn getter_faults<P: Cursor, T: BuildsPattern>(
     word: Span,
     params: &[T::Pat],
 ) -> PResult<()>
-    ensures { Gives (told (members.parameter_faults getter_form word (map T.pat_of params.now)) (P.seen p.old)) result (P.seen p.new) }
+    ensures { Gives
+        (told (members.parameter_faults getter_form word (map T.pat_of params.now)) (P.seen p.old))
+        result (P.seen p.new) }
 {
     told_if(p, !params.is_empty(), SyntaxError::GetterParam, word)
 }
 
 /// The first parameter of a setter is no rest.
 fn rest_faults<P: Cursor, T: BuildsPattern>(p: &mut P, params: &[T::Pat]) -> PResult<()>
-    ensures { Gives (told (members.rest_faults (map T.pat_of params.now)) (P.seen p.old)) result (P.seen p.new) }
+    ensures { Gives (told (members.rest_faults (map T.pat_of params.now)) (P.seen p.old)) result
+        (P.seen p.new) }
 {
     match params.first() {
         Some(param) => {
@@ -126,7 +129,9 @@ fn setter_faults<P: Cursor, T: BuildsPattern>(
     word: Span,
     params: &[T::Pat],
 ) -> PResult<()>
-    ensures { Gives (told (members.parameter_faults setter_form word (map T.pat_of params.now)) (P.seen p.old)) result (P.seen p.new) }
+    ensures { Gives
+        (told (members.parameter_faults setter_form word (map T.pat_of params.now)) (P.seen p.old))
+        result (P.seen p.new) }
 {
     let is_wrong = is_not_one(params);
     told_if(p, is_wrong, SyntaxError::SetterParam, word)?;
@@ -141,7 +146,9 @@ fn parameter_faults<P: Cursor, T: BuildsPattern>(
     word: Span,
     params: &[T::Pat],
 ) -> PResult<()>
-    ensures { Gives (told (members.parameter_faults (form_of form) word (map T.pat_of params.now)) (P.seen p.old)) result (P.seen p.new) }
+    ensures { Gives
+        (told (members.parameter_faults (form_of form) word (map T.pat_of params.now))
+        (P.seen p.old)) result (P.seen p.new) }
 {
     match form {
         MethodForm::Getter => getter_faults::<P, T>(p, word, params),
@@ -166,8 +173,13 @@ fn method_parts<
     head: Head,
     decorators: Vec<T::Decorator>,
 ) -> PResult<T::Function>
-    requires { Nests P.seen T.expr_of T.pat_of T.stmt_of g.now.depth (S.pre g.now.stmt) (S.post g.now.stmt) (E.pre g.now.expr) (E.post g.now.expr) (N.pre g.now.pat) (N.post g.now.pat) }
-    ensures { GivesAs T.function_of (members.method_parts (rules.stmt g.now.depth nested_item) (rules.parameters g.now.depth) (map T.decorator_of decorators.items) (form_of head.form) head.start head.word (P.seen p.old)) result (P.seen p.new) }
+    requires { Nests P.seen T.expr_of T.pat_of T.stmt_of g.now.depth
+        (S.pre g.now.stmt) (S.post g.now.stmt) (E.pre g.now.expr) (E.post g.now.expr)
+        (N.pre g.now.pat) (N.post g.now.pat) }
+    ensures { GivesAs T.function_of
+        (members.method_parts (rules.stmt g.now.depth nested_item) (rules.parameters g.now.depth)
+        (map T.decorator_of decorators.items) (form_of head.form) head.start head.word
+        (P.seen p.old)) result (P.seen p.new) }
 {
     let manner = manner_of(head.form);
     let pats = parameters_inside(g, t, p, manner)?;
@@ -188,7 +200,9 @@ fn made_function<P: Cursor, T: BuildsClass + BuildsPattern>(
     body: FunctionBody<T::Block>,
 ) -> PResult<T::Function>
     requires { own.misplaced_directive false (T.block_of body.block) ≡ late body.strict_directive }
-    ensures { GivesAs T.function_of (made.made_function (map T.decorator_of decorators.items) (form_of head.form) head.start (map T.pat_of pats.items) (T.block_of body.block) (P.seen p.old)) result (P.seen p.new) }
+    ensures { GivesAs T.function_of
+        (made.made_function (map T.decorator_of decorators.items) (form_of head.form) head.start
+        (map T.pat_of pats.items) (T.block_of body.block) (P.seen p.old)) result (P.seen p.new) }
 {
     let manner = manner_of(head.form);
     let span = since(p, head.start);
@@ -208,7 +222,8 @@ fn made_function<P: Cursor, T: BuildsClass + BuildsPattern>(
 
 /// The key `constructor` behind words or `*`.
 fn misnamed_by<P: Cursor>(p: &mut P, head: Head, key: Span) -> PResult<()>
-    ensures { Gives (misnamed_at (form_of head.form) head.start head.word key (P.seen p.old)) result (P.seen p.new) }
+    ensures { Gives (misnamed_at (form_of head.form) head.start head.word key (P.seen p.old)) result
+        (P.seen p.new) }
 {
     match head.form {
         MethodForm::Getter | MethodForm::Setter => {
@@ -228,7 +243,9 @@ fn misnamed_by<P: Cursor>(p: &mut P, head: Head, key: Span) -> PResult<()>
 #[tactic(auto, unfolding(swc_ecma_parser_reader::specs::Members::misnamed))]
 #[inline(never)]
 fn misnamed<P: Cursor, T: Trees>(p: &mut P, head: Head, key: &MemberKey<T::Expr>) -> PResult<()>
-    ensures { Gives (members.misnamed (form_of head.form) head.start head.word (member_key_of T.expr_of key.now) (P.seen p.old)) result (P.seen p.new) }
+    ensures { Gives
+        (members.misnamed (form_of head.form) head.start head.word (member_key_of T.expr_of key.now)
+        (P.seen p.old)) result (P.seen p.new) }
 {
     if !is_constructor_key::<T>(key) {
         return Ok(());
@@ -245,7 +262,10 @@ fn made_method<T: BuildsClass>(
     kind: MethodKind,
     is_static: bool,
 ) -> Result<T::Member, AllocError>
-    ensures { IfOk result (λ x. T.member_of x ≡ method_member (forms.span_of (T.function_of function)) (member_key_of T.expr_of key) (T.function_of function) kind is_static) }
+    ensures { IfOk result
+        (λ x. T.member_of x
+        ≡ method_member (forms.span_of (T.function_of function)) (member_key_of T.expr_of key)
+        (T.function_of function) kind is_static) }
 {
     let span = T::function_span(&function);
     match key {
@@ -274,8 +294,13 @@ pub(crate) fn method<
     decorators: Vec<T::Decorator>,
     key: MemberKey<T::Expr>,
 ) -> PResult<T::Member>
-    requires { Nests P.seen T.expr_of T.pat_of T.stmt_of g.now.depth (S.pre g.now.stmt) (S.post g.now.stmt) (E.pre g.now.expr) (E.post g.now.expr) (N.pre g.now.pat) (N.post g.now.pat) }
-    ensures { GivesAs T.member_of (members.method (rules.stmt g.now.depth nested_item) (rules.parameters g.now.depth) (map T.decorator_of decorators.items) head.is_static (form_of head.form) head.start head.word (member_key_of T.expr_of key) (P.seen p.old)) result (P.seen p.new) }
+    requires { Nests P.seen T.expr_of T.pat_of T.stmt_of g.now.depth
+        (S.pre g.now.stmt) (S.post g.now.stmt) (E.pre g.now.expr) (E.post g.now.expr)
+        (N.pre g.now.pat) (N.post g.now.pat) }
+    ensures { GivesAs T.member_of
+        (members.method (rules.stmt g.now.depth nested_item) (rules.parameters g.now.depth)
+        (map T.decorator_of decorators.items) head.is_static (form_of head.form) head.start
+        head.word (member_key_of T.expr_of key) (P.seen p.old)) result (P.seen p.new) }
 {
     misnamed::<P, T>(p, head, &key)?;
     let function = method_parts(g, t, p, head, decorators)?;
@@ -299,7 +324,8 @@ fn static_constructor<P: Cursor>(alloc: Global, p: &mut P) -> PResult<SyntaxErro
 /// A constructor is not static.
 #[inline(never)]
 fn unstatic<P: Cursor>(alloc: Global, p: &mut P, is_static: bool, first: Span) -> PResult<()>
-    ensures { Gives (told (only is_static kinds.TS1089 first) (P.seen p.old)) result (P.seen p.new) }
+    ensures { Gives (told (only is_static kinds.TS1089 first) (P.seen p.old)) result
+        (P.seen p.new) }
 {
     if !is_static {
         return Ok(());
@@ -318,8 +344,13 @@ fn constructor<
     E: Fn(&MakerOf<T>, &mut P, usize, Reading) -> PResult<Cover<T::Expr>>,
     N: Fn(&MakerOf<T>, &mut P, usize, Part) -> PResult<T::Pat>,
 >(g: &Grammar<S, E, N>, t: &MakerOf<T>, p: &mut P, begin: Begin, key: T::Key) -> PResult<T::Member>
-    requires { Nests P.seen T.expr_of T.pat_of T.stmt_of g.now.depth (S.pre g.now.stmt) (S.post g.now.stmt) (E.pre g.now.expr) (E.post g.now.expr) (N.pre g.now.pat) (N.post g.now.pat) }
-    ensures { GivesAs T.member_of (members.constructor (rules.stmt g.now.depth nested_item) (rules.parameters g.now.depth) begin.is_static begin.start begin.first (T.key_of key) (P.seen p.old)) result (P.seen p.new) }
+    requires { Nests P.seen T.expr_of T.pat_of T.stmt_of g.now.depth
+        (S.pre g.now.stmt) (S.post g.now.stmt) (E.pre g.now.expr) (E.post g.now.expr)
+        (N.pre g.now.pat) (N.post g.now.pat) }
+    ensures { GivesAs T.member_of
+        (members.constructor (rules.stmt g.now.depth nested_item) (rules.parameters g.now.depth)
+        begin.is_static begin.start begin.first (T.key_of key) (P.seen p.old)) result
+        (P.seen p.new) }
 {
     let pats = parameters(g, t, p)?;
     let body = function_body(g, t, p, PLAIN)?;
@@ -338,7 +369,9 @@ fn made_constructor<P: Cursor, T: BuildsClass + BuildsPattern>(
     body: FunctionBody<T::Block>,
 ) -> PResult<T::Member>
     requires { own.misplaced_directive false (T.block_of body.block) ≡ late body.strict_directive }
-    ensures { GivesAs T.member_of (made.made_constructor begin.is_static begin.start begin.first (T.key_of key) (map T.pat_of pats.items) (T.block_of body.block) (P.seen p.old)) result (P.seen p.new) }
+    ensures { GivesAs T.member_of
+        (made.made_constructor begin.is_static begin.start begin.first (T.key_of key)
+        (map T.pat_of pats.items) (T.block_of body.block) (P.seen p.old)) result (P.seen p.new) }
 {
     let span = since(p, begin.start);
     let Parameters { params, are_plain } = made_parameters::<P, T>(t, p, pats)?;
@@ -365,8 +398,13 @@ pub(crate) fn plain_method<
     word: Span,
     key: MemberKey<T::Expr>,
 ) -> PResult<T::Member>
-    requires { Nests P.seen T.expr_of T.pat_of T.stmt_of g.now.depth (S.pre g.now.stmt) (S.post g.now.stmt) (E.pre g.now.expr) (E.post g.now.expr) (N.pre g.now.pat) (N.post g.now.pat) }
-    ensures { GivesAs T.member_of (members.plain_method (rules.stmt g.now.depth nested_item) (rules.parameters g.now.depth) (map T.decorator_of decorators.items) begin.is_static begin.start begin.first word (member_key_of T.expr_of key) (P.seen p.old)) result (P.seen p.new) }
+    requires { Nests P.seen T.expr_of T.pat_of T.stmt_of g.now.depth
+        (S.pre g.now.stmt) (S.post g.now.stmt) (E.pre g.now.expr) (E.post g.now.expr)
+        (N.pre g.now.pat) (N.post g.now.pat) }
+    ensures { GivesAs T.member_of
+        (members.plain_method (rules.stmt g.now.depth nested_item) (rules.parameters g.now.depth)
+        (map T.decorator_of decorators.items) begin.is_static begin.start begin.first word
+        (member_key_of T.expr_of key) (P.seen p.old)) result (P.seen p.new) }
 {
     let head = Head {
         is_static: begin.is_static,
@@ -408,8 +446,12 @@ pub(crate) fn static_block<
     E: Fn(&MakerOf<T>, &mut P, usize, Reading) -> PResult<Cover<T::Expr>>,
     N: Fn(&MakerOf<T>, &mut P, usize, Part) -> PResult<T::Pat>,
 >(g: &Grammar<S, E, N>, t: &MakerOf<T>, p: &mut P, start: Span) -> PResult<T::Member>
-    requires { Nests P.seen T.expr_of T.pat_of T.stmt_of g.now.depth (S.pre g.now.stmt) (S.post g.now.stmt) (E.pre g.now.expr) (E.post g.now.expr) (N.pre g.now.pat) (N.post g.now.pat) }
-    ensures { GivesAs T.member_of (members.static_block (rules.stmt g.now.depth nested_item) (rules.parameters g.now.depth) start (P.seen p.old)) result (P.seen p.new) }
+    requires { Nests P.seen T.expr_of T.pat_of T.stmt_of g.now.depth
+        (S.pre g.now.stmt) (S.post g.now.stmt) (E.pre g.now.expr) (E.post g.now.expr)
+        (N.pre g.now.pat) (N.post g.now.pat) }
+    ensures { GivesAs T.member_of
+        (members.static_block (rules.stmt g.now.depth nested_item) (rules.parameters g.now.depth)
+        start (P.seen p.old)) result (P.seen p.new) }
 {
     let outer = p.flags();
     p.set_flags(in_static_block(outer));
@@ -429,8 +471,12 @@ pub(crate) fn second_static<
     E: Fn(&MakerOf<T>, &mut P, usize, Reading) -> PResult<Cover<T::Expr>>,
     N: Fn(&MakerOf<T>, &mut P, usize, Part) -> PResult<T::Pat>,
 >(g: &Grammar<S, E, N>, t: &MakerOf<T>, p: &mut P, begin: Begin) -> PResult<T::Member>
-    requires { Nests P.seen T.expr_of T.pat_of T.stmt_of g.now.depth (S.pre g.now.stmt) (S.post g.now.stmt) (E.pre g.now.expr) (E.post g.now.expr) (N.pre g.now.pat) (N.post g.now.pat) }
-    ensures { GivesAs T.member_of (members.second_static (rules.stmt g.now.depth nested_item) (rules.parameters g.now.depth) begin.start begin.first (P.seen p.old)) result (P.seen p.new) }
+    requires { Nests P.seen T.expr_of T.pat_of T.stmt_of g.now.depth
+        (S.pre g.now.stmt) (S.post g.now.stmt) (E.pre g.now.expr) (E.post g.now.expr)
+        (N.pre g.now.pat) (N.post g.now.pat) }
+    ensures { GivesAs T.member_of
+        (members.second_static (rules.stmt g.now.depth nested_item) (rules.parameters g.now.depth)
+        begin.start begin.first (P.seen p.old)) result (P.seen p.new) }
 {
     p.fault(SyntaxError::TS1184, begin.first)?;
     p.skip()?;

@@ -72,7 +72,9 @@ fn later_alone<P: Cursor, T: BuildsFunction>(
     before: &Leading<T::Decorator>,
     behind: &Leading<T::Decorator>,
 ) -> PResult<()>
-    ensures { Gives (decorated.later_alone start (leading_of T.decorator_of before.now) (leading_of T.decorator_of behind.now) (P.seen p.old)) result (P.seen p.new) }
+    ensures { Gives
+        (decorated.later_alone start (leading_of T.decorator_of before.now)
+        (leading_of T.decorator_of behind.now) (P.seen p.old)) result (P.seen p.new) }
 {
     if p.sees(TokenKind::Export) {
         let word = p.span();
@@ -94,7 +96,10 @@ fn alone<P: Cursor, T: BuildsFunction>(
     before: &Leading<T::Decorator>,
     behind: Leading<T::Decorator>,
 ) -> PResult<Leading<T::Decorator>>
-    ensures { GivesAs (leading_of T.decorator_of) (and_then (decorated.later_alone start (leading_of T.decorator_of before.now) (leading_of T.decorator_of behind) (P.seen p.old)) (λ _ s. Ok (leading_of T.decorator_of behind, s))) result (P.seen p.new) }
+    ensures { GivesAs (leading_of T.decorator_of)
+        (and_then (decorated.later_alone start (leading_of T.decorator_of before.now)
+        (leading_of T.decorator_of behind) (P.seen p.old))
+        (λ _ s. Ok (leading_of T.decorator_of behind, s))) result (P.seen p.new) }
 {
     later_alone::<P, T>(p, start, before, &behind)?;
     Ok(behind)
@@ -109,7 +114,9 @@ fn later<P: Cursor, T: BuildsStatements>(
     start: Span,
     before: Leading<T::Decorator>,
 ) -> PResult<Leading<T::Decorator>>
-    ensures { GivesAs (leading_of T.decorator_of) (decorated.later (decorated_in depth) start (leading_of T.decorator_of before) (P.seen p.old)) result (P.seen p.new) }
+    ensures { GivesAs (leading_of T.decorator_of)
+        (decorated.later (decorated_in depth) start (leading_of T.decorator_of before)
+        (P.seen p.old)) result (P.seen p.new) }
 {
     let behind = leading::<P, T>(t, p, depth)?;
     if behind.found.is_empty() {
@@ -127,7 +134,12 @@ fn exported_class<P: Cursor, T: BuildsStatements + BuildsExport>(
     start: Span,
     list: Vec<T::Decorator>,
 ) -> PResult<T::Item>
-    ensures { GivesAs T.item_of (exports.exported (rules.stmt depth nested_item) (rules.expr depth) (rules.pattern depth) (rules.parameters depth) (rules.member depth) start (decorated.decorating (map T.decorator_of list.items) (members.class_decl (rules.expr depth left_side) (rules.member depth))) (P.seen p.old)) result (P.seen p.new) }
+    ensures { GivesAs T.item_of
+        (exports.exported (rules.stmt depth nested_item) (rules.expr depth) (rules.pattern depth)
+        (rules.parameters depth) (rules.member depth) start
+        (decorated.decorating (map T.decorator_of list.items)
+        (members.class_decl (rules.expr depth left_side) (rules.member depth))) (P.seen p.old))
+        result (P.seen p.new) }
 {
     let word = p.span();
     let decl = declared_class_with::<P, T>(t, p, depth, word, list)?;
@@ -144,7 +156,12 @@ fn exported_function<P: Cursor, T: BuildsStatements + BuildsExport>(
     start: Span,
     list: Vec<T::Decorator>,
 ) -> PResult<T::Item>
-    ensures { GivesAs T.item_of (exports.exported (rules.stmt depth nested_item) (rules.expr depth) (rules.pattern depth) (rules.parameters depth) (rules.member depth) start (decorated.decorating (map T.decorator_of list.items) (rules.function_decl (rules.stmt depth nested_item) (rules.parameters depth))) (P.seen p.old)) result (P.seen p.new) }
+    ensures { GivesAs T.item_of
+        (exports.exported (rules.stmt depth nested_item) (rules.expr depth) (rules.pattern depth)
+        (rules.parameters depth) (rules.member depth) start
+        (decorated.decorating (map T.decorator_of list.items)
+        (rules.function_decl (rules.stmt depth nested_item) (rules.parameters depth)))
+        (P.seen p.old)) result (P.seen p.new) }
 {
     let decl = declared_function_with::<P, T>(t, p, depth, list)?;
     let span = since(p, start);
@@ -160,7 +177,11 @@ fn default_class<P: Cursor, T: BuildsStatements + BuildsExport>(
     start: Span,
     list: Vec<T::Decorator>,
 ) -> PResult<T::Item>
-    ensures { GivesAs T.item_of (decorated.by_default start (decorated.decorating (map T.decorator_of list.items) (members.class_expr (rules.expr depth left_side) (rules.member depth))) (P.seen p.old)) result (P.seen p.new) }
+    ensures { GivesAs T.item_of
+        (decorated.by_default start
+        (decorated.decorating (map T.decorator_of list.items)
+        (members.class_expr (rules.expr depth left_side) (rules.member depth))) (P.seen p.old))
+        result (P.seen p.new) }
 {
     let NamedClass { name, class } = inner_class_with::<P, T>(t, p, depth, list)?;
     let span = T::class_span(&class);
@@ -177,7 +198,9 @@ fn default_function_decl<P: Cursor, T: BuildsStatements + BuildsExport>(
     depth: usize,
     list: Vec<T::Decorator>,
 ) -> PResult<T::DefaultDecl>
-    ensures { GivesAs T.default_decl_of (decorated.default_function_with (rules.stmt depth nested_item) (rules.parameters depth) (map T.decorator_of list.items) (P.seen p.old)) result (P.seen p.new) }
+    ensures { GivesAs T.default_decl_of
+        (decorated.default_function_with (rules.stmt depth nested_item) (rules.parameters depth)
+        (map T.decorator_of list.items) (P.seen p.old)) result (P.seen p.new) }
 {
     let start = p.span();
     let is_async = function_word(p)?;
@@ -201,7 +224,11 @@ fn default_function<P: Cursor, T: BuildsStatements + BuildsExport>(
     start: Span,
     list: Vec<T::Decorator>,
 ) -> PResult<T::Item>
-    ensures { GivesAs T.item_of (decorated.by_default start (decorated.decorating (map T.decorator_of list.items) (exports.default_function (rules.stmt depth nested_item) (rules.parameters depth))) (P.seen p.old)) result (P.seen p.new) }
+    ensures { GivesAs T.item_of
+        (decorated.by_default start
+        (decorated.decorating (map T.decorator_of list.items)
+        (exports.default_function (rules.stmt depth nested_item) (rules.parameters depth)))
+        (P.seen p.old)) result (P.seen p.new) }
 {
     let decl = default_function_decl::<P, T>(t, p, depth, list)?;
     let span = since(p, start);
@@ -217,7 +244,11 @@ fn named_with<P: Cursor, T: BuildsStatements + BuildsExport + BuildsVarDecl>(
     start: Span,
     list: Leading<T::Decorator>,
 ) -> PResult<T::Item>
-    ensures { GivesAs T.item_of (decorated.named_with (rules.stmt depth nested_item) (rules.expr depth) (rules.pattern depth) (rules.parameters depth) (rules.member depth) (rules.object_alone depth) (decorated_in depth) start (leading_of T.decorator_of list) (P.seen p.old)) result (P.seen p.new) }
+    ensures { GivesAs T.item_of
+        (decorated.named_with (rules.stmt depth nested_item) (rules.expr depth)
+        (rules.pattern depth) (rules.parameters depth) (rules.member depth)
+        (rules.object_alone depth) (decorated_in depth) start (leading_of T.decorator_of list)
+        (P.seen p.old)) result (P.seen p.new) }
 {
     if p.sees(TokenKind::Class) {
         return exported_class::<P, T>(t, p, depth, start, list.found);
@@ -239,7 +270,11 @@ fn default_with<P: Cursor, T: BuildsStatements + BuildsExport>(
     first: Span,
     list: Leading<T::Decorator>,
 ) -> PResult<T::Item>
-    ensures { GivesAs T.item_of (decorated.default_with (rules.stmt depth nested_item) (rules.expr depth) (rules.pattern depth) (rules.parameters depth) (rules.member depth) (rules.object_alone depth) (decorated_in depth) start first (leading_of T.decorator_of list) (P.seen p.old)) result (P.seen p.new) }
+    ensures { GivesAs T.item_of
+        (decorated.default_with (rules.stmt depth nested_item) (rules.expr depth)
+        (rules.pattern depth) (rules.parameters depth) (rules.member depth)
+        (rules.object_alone depth) (decorated_in depth) start first (leading_of T.decorator_of list)
+        (P.seen p.old)) result (P.seen p.new) }
 {
     if p.sees(TokenKind::Class) {
         return default_class::<P, T>(t, p, depth, start, list.found);
@@ -259,7 +294,12 @@ fn later_named<P: Cursor, T: BuildsStatements + BuildsExport + BuildsVarDecl>(
     start: Span,
     before: Leading<T::Decorator>,
 ) -> PResult<T::Item>
-    ensures { GivesAs T.item_of (and_then (decorated.later (decorated_in depth) start (leading_of T.decorator_of before) (P.seen p.old)) (decorated.named_with (rules.stmt depth nested_item) (rules.expr depth) (rules.pattern depth) (rules.parameters depth) (rules.member depth) (rules.object_alone depth) (decorated_in depth) start)) result (P.seen p.new) }
+    ensures { GivesAs T.item_of
+        (and_then (decorated.later (decorated_in depth) start (leading_of T.decorator_of before)
+        (P.seen p.old))
+        (decorated.named_with (rules.stmt depth nested_item) (rules.expr depth)
+        (rules.pattern depth) (rules.parameters depth) (rules.member depth)
+        (rules.object_alone depth) (decorated_in depth) start)) result (P.seen p.new) }
 {
     let list = later::<P, T>(t, p, depth, start, before)?;
     named_with::<P, T>(t, p, depth, start, list)
@@ -274,7 +314,12 @@ fn later_default<P: Cursor, T: BuildsStatements + BuildsExport>(
     first: Span,
     before: Leading<T::Decorator>,
 ) -> PResult<T::Item>
-    ensures { GivesAs T.item_of (and_then (decorated.later (decorated_in depth) start (leading_of T.decorator_of before) (P.seen p.old)) (decorated.default_with (rules.stmt depth nested_item) (rules.expr depth) (rules.pattern depth) (rules.parameters depth) (rules.member depth) (rules.object_alone depth) (decorated_in depth) start first)) result (P.seen p.new) }
+    ensures { GivesAs T.item_of
+        (and_then (decorated.later (decorated_in depth) start (leading_of T.decorator_of before)
+        (P.seen p.old))
+        (decorated.default_with (rules.stmt depth nested_item) (rules.expr depth)
+        (rules.pattern depth) (rules.parameters depth) (rules.member depth)
+        (rules.object_alone depth) (decorated_in depth) start first)) result (P.seen p.new) }
 {
     let list = later::<P, T>(t, p, depth, start, before)?;
     default_with::<P, T>(t, p, depth, start, first, list)
@@ -289,7 +334,11 @@ fn behind_export<P: Cursor, T: BuildsStatements + BuildsExport + BuildsVarDecl>(
     start: Span,
     before: Leading<T::Decorator>,
 ) -> PResult<T::Item>
-    ensures { GivesAs T.item_of (decorated.behind_export (rules.stmt depth nested_item) (rules.expr depth) (rules.pattern depth) (rules.parameters depth) (rules.member depth) (rules.object_alone depth) (decorated_in depth) start (leading_of T.decorator_of before) (P.seen p.old)) result (P.seen p.new) }
+    ensures { GivesAs T.item_of
+        (decorated.behind_export (rules.stmt depth nested_item) (rules.expr depth)
+        (rules.pattern depth) (rules.parameters depth) (rules.member depth)
+        (rules.object_alone depth) (decorated_in depth) start (leading_of T.decorator_of before)
+        (P.seen p.old)) result (P.seen p.new) }
 {
     if !before.found.is_empty() || begins_decorators(p) {
         return later_named::<P, T>(t, p, depth, start, before);
@@ -307,7 +356,11 @@ fn behind_default_word<P: Cursor, T: BuildsStatements + BuildsExport>(
     first: Span,
     before: Leading<T::Decorator>,
 ) -> PResult<T::Item>
-    ensures { GivesAs T.item_of (decorated.behind_default_word (rules.stmt depth nested_item) (rules.expr depth) (rules.pattern depth) (rules.parameters depth) (rules.member depth) (rules.object_alone depth) (decorated_in depth) start first (leading_of T.decorator_of before) (P.seen p.old)) result (P.seen p.new) }
+    ensures { GivesAs T.item_of
+        (decorated.behind_default_word (rules.stmt depth nested_item) (rules.expr depth)
+        (rules.pattern depth) (rules.parameters depth) (rules.member depth)
+        (rules.object_alone depth) (decorated_in depth) start first
+        (leading_of T.decorator_of before) (P.seen p.old)) result (P.seen p.new) }
 {
     if !before.found.is_empty() || begins_decorators(p) {
         return later_default::<P, T>(t, p, depth, start, first, before);
@@ -323,7 +376,11 @@ fn export_from<P: Cursor, T: BuildsStatements + BuildsExport + BuildsVarDecl>(
     depth: usize,
     before: Leading<T::Decorator>,
 ) -> PResult<T::Item>
-    ensures { GivesAs T.item_of (decorated.export_from (rules.stmt depth nested_item) (rules.expr depth) (rules.pattern depth) (rules.parameters depth) (rules.member depth) (rules.object_alone depth) (decorated_in depth) (leading_of T.decorator_of before) (P.seen p.old)) result (P.seen p.new) }
+    ensures { GivesAs T.item_of
+        (decorated.export_from (rules.stmt depth nested_item) (rules.expr depth)
+        (rules.pattern depth) (rules.parameters depth) (rules.member depth)
+        (rules.object_alone depth) (decorated_in depth) (leading_of T.decorator_of before)
+        (P.seen p.old)) result (P.seen p.new) }
 {
     let start = p.span();
     p.skip()?;
@@ -343,7 +400,11 @@ pub fn export_with<P: Cursor, T: BuildsStatements + BuildsExport + BuildsVarDecl
     depth: usize,
     before: Leading<T::Decorator>,
 ) -> PResult<T::Item>
-    ensures { GivesAs T.item_of (decorated.export_with (rules.stmt depth nested_item) (rules.expr depth) (rules.pattern depth) (rules.parameters depth) (rules.member depth) (rules.object_alone depth) (decorated_in depth) (leading_of T.decorator_of before) (P.seen p.old)) result (P.seen p.new) }
+    ensures { GivesAs T.item_of
+        (decorated.export_with (rules.stmt depth nested_item) (rules.expr depth)
+        (rules.pattern depth) (rules.parameters depth) (rules.member depth)
+        (rules.object_alone depth) (decorated_in depth) (leading_of T.decorator_of before)
+        (P.seen p.old)) result (P.seen p.new) }
 {
     let word = p.span();
     let may_stand = p.decorators_before_export() && begin_before::<T>(word, &before.found);
@@ -374,7 +435,10 @@ pub fn export_item<P: Cursor, T: BuildsStatements + BuildsExport + BuildsVarDecl
     p: &mut P,
     depth: usize,
 ) -> PResult<T::Item>
-    ensures { GivesAs T.item_of (decorated.export_item (rules.stmt depth nested_item) (rules.expr depth) (rules.pattern depth) (rules.parameters depth) (rules.member depth) (rules.object_alone depth) (decorated_in depth) (P.seen p.old)) result (P.seen p.new) }
+    ensures { GivesAs T.item_of
+        (decorated.export_item (rules.stmt depth nested_item) (rules.expr depth)
+        (rules.pattern depth) (rules.parameters depth) (rules.member depth)
+        (rules.object_alone depth) (decorated_in depth) (P.seen p.old)) result (P.seen p.new) }
 {
     let before = no_leading::<P, T>(t, p);
     export_from::<P, T>(t, p, depth, before)

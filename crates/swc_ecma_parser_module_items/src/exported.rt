@@ -31,7 +31,8 @@ use swc_ecma_parser_trees::{BuildsExport, BuildsStatements, BuildsVarDecl, Maker
 /// The name of a function that is exported by default, which is read in the code around, if there is one.
 #[tactic(auto, unfolding(swc_ecma_parser_module_reader::specs::Exports::default_name, swc_ecma_parser_reader::specs::Reader::named))]
 pub(crate) fn default_name<P: Cursor>(p: &mut P) -> PResult<Option<Ident>>
-    ensures { GivesAs (part_of word_of) (exports.default_name (P.seen p.old)) result (P.seen p.new) }
+    ensures { GivesAs (part_of word_of) (exports.default_name (P.seen p.old)) result
+        (P.seen p.new) }
 {
     if !p.name_at() {
         return Ok(None);
@@ -47,7 +48,9 @@ fn default_function<P: Cursor, T: BuildsStatements + BuildsExport>(
     p: &mut P,
     depth: usize,
 ) -> PResult<T::DefaultDecl>
-    ensures { GivesAs T.default_decl_of (exports.default_function (rules.stmt depth nested_item) (rules.parameters depth) (P.seen p.old)) result (P.seen p.new) }
+    ensures { GivesAs T.default_decl_of
+        (exports.default_function (rules.stmt depth nested_item) (rules.parameters depth)
+        (P.seen p.old)) result (P.seen p.new) }
 {
     let start = p.span();
     let is_async = function_word(p)?;
@@ -70,7 +73,10 @@ fn exported_function<P: Cursor, T: BuildsStatements + BuildsExport>(
     depth: usize,
     start: Span,
 ) -> PResult<T::Item>
-    ensures { GivesAs T.item_of (exports.exported_function (rules.stmt depth nested_item) (rules.expr depth) (rules.pattern depth) (rules.parameters depth) (rules.member depth) start (P.seen p.old)) result (P.seen p.new) }
+    ensures { GivesAs T.item_of
+        (exports.exported_function (rules.stmt depth nested_item) (rules.expr depth)
+        (rules.pattern depth) (rules.parameters depth) (rules.member depth) start (P.seen p.old))
+        result (P.seen p.new) }
 {
     let decl = default_function::<P, T>(t, p, depth)?;
     let span = since(p, start);
@@ -83,7 +89,9 @@ fn default_class<P: Cursor, T: BuildsStatements + BuildsExport>(
     p: &mut P,
     depth: usize,
 ) -> PResult<T::DefaultDecl>
-    ensures { GivesAs T.default_decl_of (members.class_expr (rules.expr depth left_side) (rules.member depth) (P.seen p.old)) result (P.seen p.new) }
+    ensures { GivesAs T.default_decl_of
+        (members.class_expr (rules.expr depth left_side) (rules.member depth) (P.seen p.old)) result
+        (P.seen p.new) }
 {
     let NamedClass { name, class } = inner_class::<P, T>(t, p, depth)?;
     let span = T::class_span(&class);
@@ -98,7 +106,10 @@ fn exported_class<P: Cursor, T: BuildsStatements + BuildsExport>(
     depth: usize,
     start: Span,
 ) -> PResult<T::Item>
-    ensures { GivesAs T.item_of (exports.exported_class (rules.stmt depth nested_item) (rules.expr depth) (rules.pattern depth) (rules.parameters depth) (rules.member depth) start (P.seen p.old)) result (P.seen p.new) }
+    ensures { GivesAs T.item_of
+        (exports.exported_class (rules.stmt depth nested_item) (rules.expr depth)
+        (rules.pattern depth) (rules.parameters depth) (rules.member depth) start (P.seen p.old))
+        result (P.seen p.new) }
 {
     let decl = default_class::<P, T>(t, p, depth)?;
     let span = since(p, start);
@@ -113,7 +124,8 @@ fn default_expr<P: Cursor, T: BuildsStatements + BuildsExport>(
     depth: usize,
     start: Span,
 ) -> PResult<T::Item>
-    ensures { GivesAs T.item_of (exports.default_expr (rules.expr depth) start (P.seen p.old)) result (P.seen p.new) }
+    ensures { GivesAs T.item_of (exports.default_expr (rules.expr depth) start (P.seen p.old))
+        result (P.seen p.new) }
 {
     let expr = inner_expr::<P, T>(t, p, depth)?;
     p.end(Wanted::Token(";"))?;
@@ -138,7 +150,10 @@ pub(crate) fn default_rest<P: Cursor, T: BuildsStatements + BuildsExport>(
     start: Span,
     first: Span,
 ) -> PResult<T::Item>
-    ensures { GivesAs T.item_of (exports.default_rest (rules.stmt depth nested_item) (rules.expr depth) (rules.pattern depth) (rules.parameters depth) (rules.member depth) (rules.object_alone depth) start first (P.seen p.old)) result (P.seen p.new) }
+    ensures { GivesAs T.item_of
+        (exports.default_rest (rules.stmt depth nested_item) (rules.expr depth)
+        (rules.pattern depth) (rules.parameters depth) (rules.member depth)
+        (rules.object_alone depth) start first (P.seen p.old)) result (P.seen p.new) }
 {
     if is_default_from(p) {
         return default_from::<P, T>(t, p, depth, start, first);
@@ -155,7 +170,10 @@ pub(crate) fn export_default<P: Cursor, T: BuildsStatements + BuildsExport>(
     start: Span,
     first: Span,
 ) -> PResult<T::Item>
-    ensures { GivesAs T.item_of (exports.export_default (rules.stmt depth nested_item) (rules.expr depth) (rules.pattern depth) (rules.parameters depth) (rules.member depth) (rules.object_alone depth) start first (P.seen p.old)) result (P.seen p.new) }
+    ensures { GivesAs T.item_of
+        (exports.export_default (rules.stmt depth nested_item) (rules.expr depth)
+        (rules.pattern depth) (rules.parameters depth) (rules.member depth)
+        (rules.object_alone depth) start first (P.seen p.old)) result (P.seen p.new) }
 {
     if p.sees(TokenKind::Class) {
         return exported_class::<P, T>(t, p, depth, start);
@@ -175,7 +193,11 @@ fn exported_variables<P: Cursor, T: BuildsStatements + BuildsExport + BuildsVarD
     start: Span,
     word: VarDeclKind,
 ) -> PResult<T::Item>
-    ensures { GivesAs T.item_of (exports.exported (rules.stmt depth nested_item) (rules.expr depth) (rules.pattern depth) (rules.parameters depth) (rules.member depth) start (rules.variables (rules.expr depth) (rules.pattern depth) word) (P.seen p.old)) result (P.seen p.new) }
+    ensures { GivesAs T.item_of
+        (exports.exported (rules.stmt depth nested_item) (rules.expr depth) (rules.pattern depth)
+        (rules.parameters depth) (rules.member depth) start
+        (rules.variables (rules.expr depth) (rules.pattern depth) word) (P.seen p.old)) result
+        (P.seen p.new) }
 {
     let first = p.span();
     p.skip()?;
@@ -198,7 +220,11 @@ fn exported_decl<P: Cursor, T: BuildsStatements + BuildsExport>(
     depth: usize,
     start: Span,
 ) -> PResult<T::Item>
-    ensures { GivesAs T.item_of (exports.exported (rules.stmt depth nested_item) (rules.expr depth) (rules.pattern depth) (rules.parameters depth) (rules.member depth) start (rules.function_decl (rules.stmt depth nested_item) (rules.parameters depth)) (P.seen p.old)) result (P.seen p.new) }
+    ensures { GivesAs T.item_of
+        (exports.exported (rules.stmt depth nested_item) (rules.expr depth) (rules.pattern depth)
+        (rules.parameters depth) (rules.member depth) start
+        (rules.function_decl (rules.stmt depth nested_item) (rules.parameters depth))
+        (P.seen p.old)) result (P.seen p.new) }
 {
     let decl = declared_function::<P, T>(t, p, depth)?;
     let span = since(p, start);
@@ -213,7 +239,11 @@ fn exported_class_decl<P: Cursor, T: BuildsStatements + BuildsExport>(
     depth: usize,
     start: Span,
 ) -> PResult<T::Item>
-    ensures { GivesAs T.item_of (exports.exported (rules.stmt depth nested_item) (rules.expr depth) (rules.pattern depth) (rules.parameters depth) (rules.member depth) start (members.class_decl (rules.expr depth left_side) (rules.member depth)) (P.seen p.old)) result (P.seen p.new) }
+    ensures { GivesAs T.item_of
+        (exports.exported (rules.stmt depth nested_item) (rules.expr depth) (rules.pattern depth)
+        (rules.parameters depth) (rules.member depth) start
+        (members.class_decl (rules.expr depth left_side) (rules.member depth)) (P.seen p.old))
+        result (P.seen p.new) }
 {
     let decl = declared_class::<P, T>(t, p, depth)?;
     let span = since(p, start);
@@ -228,7 +258,10 @@ pub(crate) fn export_rest<P: Cursor, T: BuildsStatements + BuildsExport + Builds
     depth: usize,
     start: Span,
 ) -> PResult<T::Item>
-    ensures { GivesAs T.item_of (exports.export_rest (rules.stmt depth nested_item) (rules.expr depth) (rules.pattern depth) (rules.parameters depth) (rules.member depth) (rules.object_alone depth) start (P.seen p.old)) result (P.seen p.new) }
+    ensures { GivesAs T.item_of
+        (exports.export_rest (rules.stmt depth nested_item) (rules.expr depth) (rules.pattern depth)
+        (rules.parameters depth) (rules.member depth) (rules.object_alone depth) start
+        (P.seen p.old)) result (P.seen p.new) }
 {
     if p.sees(TokenKind::LBrace) {
         return export_names::<P, T>(t, p, depth, start);
@@ -259,7 +292,10 @@ pub(crate) fn export_named<P: Cursor, T: BuildsStatements + BuildsExport + Build
     depth: usize,
     start: Span,
 ) -> PResult<T::Item>
-    ensures { GivesAs T.item_of (exports.export_named (rules.stmt depth nested_item) (rules.expr depth) (rules.pattern depth) (rules.parameters depth) (rules.member depth) (rules.object_alone depth) start (P.seen p.old)) result (P.seen p.new) }
+    ensures { GivesAs T.item_of
+        (exports.export_named (rules.stmt depth nested_item) (rules.expr depth)
+        (rules.pattern depth) (rules.parameters depth) (rules.member depth)
+        (rules.object_alone depth) start (P.seen p.old)) result (P.seen p.new) }
 {
     if p.sees(TokenKind::Class) {
         return exported_class_decl::<P, T>(t, p, depth, start);

@@ -18,7 +18,8 @@ pub fn inner_expr<P: Cursor, T: BuildsStatements>(
     p: &mut P,
     depth: usize,
 ) -> PResult<T::Expr>
-    ensures { GivesAs T.expr_of (within with_in (rules.expr depth assignment) (P.seen p.old)) result (P.seen p.new) }
+    ensures { GivesAs T.expr_of (within with_in (rules.expr depth assignment) (P.seen p.old)) result
+        (P.seen p.new) }
 {
     let outer = p.flags();
     p.set_flags(steps::with_in(outer));

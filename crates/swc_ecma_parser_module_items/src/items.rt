@@ -72,7 +72,9 @@ fn import_behind<P: Cursor, T: BuildsStatements + BuildsExport>(
     depth: usize,
     list: &Leading<T::Decorator>,
 ) -> PResult<T::Item>
-    ensures { GivesAs T.item_of (modules.import_behind depth (leading_of T.decorator_of list.now) (P.seen p.old)) result (P.seen p.new) }
+    ensures { GivesAs T.item_of
+        (modules.import_behind depth (leading_of T.decorator_of list.now) (P.seen p.old)) result
+        (P.seen p.new) }
 {
     misplaced::<P, T>(t.alloc, p, list)?;
     import_decl::<P, T>(t, p, depth)
@@ -86,7 +88,9 @@ pub fn item_behind<P: Cursor, T: BuildsStatements + BuildsExport + BuildsVarDecl
     depth: usize,
     list: Leading<T::Decorator>,
 ) -> PResult<T::Item>
-    ensures { GivesAs T.item_of (modules.item_behind depth (leading_of T.decorator_of list) (P.seen p.old)) result (P.seen p.new) }
+    ensures { GivesAs T.item_of
+        (modules.item_behind depth (leading_of T.decorator_of list) (P.seen p.old)) result
+        (P.seen p.new) }
 {
     if begins_import(p) {
         return import_behind::<P, T>(t, p, depth, &list);
@@ -105,7 +109,8 @@ fn decorated_item<P: Cursor, T: BuildsStatements + BuildsExport + BuildsVarDecl>
     p: &mut P,
     limit: usize,
 ) -> PResult<T::Item>
-    ensures { GivesAs T.item_of (modules.decorated_item limit (P.seen p.old)) result (P.seen p.new) }
+    ensures { GivesAs T.item_of (modules.decorated_item limit (P.seen p.old)) result
+        (P.seen p.new) }
 {
     if limit == 0 {
         return Err(p.too_deep());
@@ -138,7 +143,8 @@ pub fn module_item<P: Cursor, T: BuildsStatements + BuildsExport + BuildsVarDecl
 
 /// Turns strict what follows a directive that says so, and says whether the next item can be a directive too.
 fn direct<P: Cursor, T: BuildsItem>(p: &mut P, directives: bool, x: &T::Item) -> bool
-    ensures state { P.seen p.new ≡ reader.coded (directed (P.seen p.old).code directives (T.item_of x.now)) (P.seen p.old) }
+    ensures state { P.seen p.new
+        ≡ reader.coded (directed (P.seen p.old).code directives (T.item_of x.now)) (P.seen p.old) }
     ensures next { result ≡ directs_on directives (T.item_of x.now) }
 {
     if directives && T::is_use_strict_item(x) {
@@ -168,7 +174,10 @@ pub(crate) fn items_behind<P: Cursor, T: BuildsStatements + BuildsExport + Build
     before: Vec<T::Item>,
     directives: bool,
 ) -> PResult<Vec<T::Item>>
-    ensures gives { directives ≡ rules.directs true (map T.item_of before.items) → GivesAs (λ found. map T.item_of found.items) (reader.loop (rules.items_turn (modules.module_item limit) rules.at_end true) (map T.item_of before.items) (P.seen p.old)) result (P.seen p.new) }
+    ensures gives { directives ≡ rules.directs true (map T.item_of before.items)
+        → GivesAs (λ found. map T.item_of found.items)
+        (reader.loop (rules.items_turn (modules.module_item limit) rules.at_end true)
+        (map T.item_of before.items) (P.seen p.old)) result (P.seen p.new) }
     ensures outright { (P.seen p.old).at.left ≡ [] → IsOk result }
 {
     let mut found = before;
@@ -188,7 +197,9 @@ pub(crate) fn items<P: Cursor, T: BuildsStatements + BuildsExport + BuildsVarDec
     p: &mut P,
     limit: usize,
 ) -> PResult<Vec<T::Item>>
-    ensures gives { GivesAs (λ found. map T.item_of found.items) (rules.items (modules.module_item limit) rules.at_end true (P.seen p.old)) result (P.seen p.new) }
+    ensures gives { GivesAs (λ found. map T.item_of found.items)
+        (rules.items (modules.module_item limit) rules.at_end true (P.seen p.old)) result
+        (P.seen p.new) }
     ensures outright { (P.seen p.old).at.left ≡ [] → IsOk result }
 {
     let none = Vec::new(t.alloc);
@@ -202,7 +213,8 @@ pub fn module_body<P: Cursor, T: BuildsStatements + BuildsExport + BuildsVarDecl
     p: &mut P,
     limit: usize,
 ) -> PResult<T::Module>
-    ensures gives { GivesAs T.module_of (modules.module_body limit (P.seen p.old)) result (P.seen p.new) }
+    ensures gives { GivesAs T.module_of (modules.module_body limit (P.seen p.old)) result
+        (P.seen p.new) }
     ensures outright { (P.seen p.old).at.left ≡ [] → IsOk result }
 {
     let start = whole_start(p);

@@ -62,7 +62,8 @@ fn front_decorated<P: Cursor, T: BuildsStatements>(
     p: &mut P,
     limit: usize,
 ) -> PResult<Led<T::Stmt, T::Decorator>>
-    ensures { GivesAs (turn_of T.stmt_of T.decorator_of) (decorated_turn limit (P.seen p.old)) result (P.seen p.new) }
+    ensures { GivesAs (turn_of T.stmt_of T.decorator_of) (decorated_turn limit (P.seen p.old))
+        result (P.seen p.new) }
 {
     if limit == 0 {
         return Err(p.too_deep());
@@ -82,7 +83,8 @@ fn front_item<P: Cursor, T: BuildsStatements>(
     p: &mut P,
     limit: usize,
 ) -> PResult<Led<T::Stmt, T::Decorator>>
-    ensures { GivesAs (turn_of T.stmt_of T.decorator_of) (turn limit (P.seen p.old)) result (P.seen p.new) }
+    ensures { GivesAs (turn_of T.stmt_of T.decorator_of) (turn limit (P.seen p.old)) result
+        (P.seen p.new) }
 {
     if begins_decorators(p) {
         return front_decorated::<P, T>(t, p, limit);
@@ -99,7 +101,8 @@ pub fn statements<P: Cursor, T: BuildsStatements>(
     p: &mut P,
     limit: usize,
 ) -> PResult<Front<T::Stmt, T::Decorator>>
-    ensures gives { GivesAs (front_of T.stmt_of T.decorator_of) (programs.front limit (P.seen p.old)) result (P.seen p.new) }
+    ensures gives { GivesAs (front_of T.stmt_of T.decorator_of)
+        (programs.front limit (P.seen p.old)) result (P.seen p.new) }
     ensures outright { (P.seen p.old).at.left ≡ [] → IsOk result }
 {
     let mut found = Vec::new(t.alloc);
@@ -151,7 +154,9 @@ fn joined<P: Cursor, T: BuildsItem>(
     before: Vec<T::Item>,
     behind: Vec<T::Item>,
 ) -> PResult<Vec<T::Item>>
-    ensures made { IfOk result (λ found. map T.item_of found.items ≡ map T.item_of before.items ++ map T.item_of behind.items) }
+    ensures made { IfOk result
+        (λ found. map T.item_of found.items ≡ map T.item_of before.items
+        ++ map T.item_of behind.items) }
     ensures state { IfOk result (λ found. P.seen p.new ≡ P.seen p.old) }
     ensures err { IfErr result IsOutOfMemory }
     ensures outright { behind.items ≡ [] → IsOk result }
@@ -171,7 +176,9 @@ fn first_behind<P: Cursor, T: BuildsStatements + BuildsExport + BuildsVarDecl>(
     limit: usize,
     list: Leading<T::Decorator>,
 ) -> PResult<T::Item>
-    ensures { GivesAs T.item_of (programs.first_behind limit (leading_of T.decorator_of list) (P.seen p.old)) result (P.seen p.new) }
+    ensures { GivesAs T.item_of
+        (programs.first_behind limit (leading_of T.decorator_of list) (P.seen p.old)) result
+        (P.seen p.new) }
 {
     if limit == 0 {
         return Err(p.too_deep());
@@ -187,7 +194,9 @@ fn behind_front<P: Cursor, T: BuildsStatements + BuildsExport + BuildsVarDecl>(
     limit: usize,
     list: Leading<T::Decorator>,
 ) -> PResult<Vec<T::Item>>
-    ensures gives { GivesAs (λ found. map T.item_of found.items) (programs.behind_front limit (leading_of T.decorator_of list) (P.seen p.old)) result (P.seen p.new) }
+    ensures gives { GivesAs (λ found. map T.item_of found.items)
+        (programs.behind_front limit (leading_of T.decorator_of list) (P.seen p.old)) result
+        (P.seen p.new) }
     ensures outright { (P.seen p.old).at.left ≡ [] → list.found.items ≡ [] → IsOk result }
 {
     if list.found.is_empty() {
@@ -208,8 +217,11 @@ pub fn items_from<P: Cursor, T: BuildsStatements + BuildsExport + BuildsVarDecl>
     limit: usize,
     front: Front<T::Stmt, T::Decorator>,
 ) -> PResult<Vec<T::Item>>
-    ensures gives { GivesAs (λ found. map T.item_of found.items) (programs.items_from limit (front_of T.stmt_of T.decorator_of front) (P.seen p.old)) result (P.seen p.new) }
-    ensures outright { (P.seen p.old).at.left ≡ [] → front.before.items ≡ [] → front.list.found.items ≡ [] → IsOk result }
+    ensures gives { GivesAs (λ found. map T.item_of found.items)
+        (programs.items_from limit (front_of T.stmt_of T.decorator_of front) (P.seen p.old)) result
+        (P.seen p.new) }
+    ensures outright { (P.seen p.old).at.left ≡ [] → front.before.items ≡ []
+        → front.list.found.items ≡ [] → IsOk result }
 {
     let behind = behind_front::<P, T>(t, p, limit, front.list)?;
     let before = as_items::<P, T>(t, p, front.before)?;

@@ -30,7 +30,8 @@ fn export_specifier<P: Cursor, T: BuildsExport>(
     t: &MakerOf<T>,
     p: &mut P,
 ) -> PResult<T::ExportSpecifier>
-    ensures { GivesAs T.export_specifier_of (exports.export_specifier (P.seen p.old)) result (P.seen p.new) }
+    ensures { GivesAs T.export_specifier_of (exports.export_specifier (P.seen p.old)) result
+        (P.seen p.new) }
 {
     let start = p.span();
     let orig = module_name(p)?;
@@ -53,7 +54,9 @@ fn named_exports<P: Cursor, T: BuildsExport>(
     t: &MakerOf<T>,
     p: &mut P,
 ) -> PResult<Vec<T::ExportSpecifier>>
-    ensures { GivesAs (λ found. map T.export_specifier_of found.items) (loop (imports.specifiers_turn exports.export_specifier) [] (P.seen p.old)) result (P.seen p.new) }
+    ensures { GivesAs (λ found. map T.export_specifier_of found.items)
+        (loop (imports.specifiers_turn exports.export_specifier) [] (P.seen p.old)) result
+        (P.seen p.new) }
 {
     let mut found = Vec::new(t.alloc);
     'specifiers: loop {
@@ -75,7 +78,8 @@ fn specifiers<P: Cursor, T: BuildsExport>(
     t: &MakerOf<T>,
     p: &mut P,
 ) -> PResult<Vec<T::ExportSpecifier>>
-    ensures { GivesAs (λ found. map T.export_specifier_of found.items) (imports.specifiers exports.export_specifier (P.seen p.old)) result (P.seen p.new) }
+    ensures { GivesAs (λ found. map T.export_specifier_of found.items)
+        (imports.specifiers exports.export_specifier (P.seen p.old)) result (P.seen p.new) }
 {
     p.expect(TokenKind::LBrace, "{")?;
     let found = named_exports::<P, T>(t, p)?;
@@ -90,7 +94,8 @@ fn export_namespace<P: Cursor, T: BuildsExport>(
     p: &mut P,
     start: Span,
 ) -> PResult<T::ExportSpecifier>
-    ensures { GivesAs T.export_specifier_of (exports.export_namespace start (P.seen p.old)) result (P.seen p.new) }
+    ensures { GivesAs T.export_specifier_of (exports.export_namespace start (P.seen p.old)) result
+        (P.seen p.new) }
 {
     p.expect_word("as")?;
     let name = module_name(p)?;
@@ -108,7 +113,9 @@ fn names_from<P: Cursor, T: BuildsStatements + BuildsExport>(
     start: Span,
     specifiers: Vec<T::ExportSpecifier>,
 ) -> PResult<T::Item>
-    ensures { GivesAs T.item_of (exports.names_from (reader.object_alone depth) start (map T.export_specifier_of specifiers.items) (P.seen p.old)) result (P.seen p.new) }
+    ensures { GivesAs T.item_of
+        (exports.names_from (reader.object_alone depth) start
+        (map T.export_specifier_of specifiers.items) (P.seen p.old)) result (P.seen p.new) }
 {
     let src = source(p)?;
     let given = attributes::<P, T>(t, p, depth)?;
@@ -122,7 +129,8 @@ fn names_from<P: Cursor, T: BuildsStatements + BuildsExport>(
 
 /// Records that a name of another module stands where no module is named.
 fn foreign<P: Cursor>(alloc: Global, p: &mut P, text: &str, span: Span) -> PResult<()>
-    ensures { Gives (rules.told (own.fault kinds.ExportExpectFrom span ∷ []) (P.seen p.old)) result (P.seen p.new) }
+    ensures { Gives (rules.told (own.fault kinds.ExportExpectFrom span ∷ []) (P.seen p.old)) result
+        (P.seen p.new) }
 {
     let text = grown(p, Atom::new(alloc, text))?;
     let text = grown(p, Boxed::new(alloc, text))?;
@@ -135,7 +143,9 @@ fn misnamed<P: Cursor, T: BuildsExport>(
     p: &mut P,
     specifier: &T::ExportSpecifier,
 ) -> PResult<()>
-    ensures { Gives (rules.told (own.specifier_faults (T.export_specifier_of specifier.now)) (P.seen p.old)) result (P.seen p.new) }
+    ensures { Gives
+        (rules.told (own.specifier_faults (T.export_specifier_of specifier.now)) (P.seen p.old))
+        result (P.seen p.new) }
 {
     let text = T::export_text(specifier);
     if T::is_export_namespace(specifier) {
@@ -160,7 +170,9 @@ fn all_misnamed<P: Cursor, T: BuildsExport>(
     p: &mut P,
     specifiers: &[T::ExportSpecifier],
 ) -> PResult<()>
-    ensures { Gives (rules.told (own.each_specifier (trees (map T.export_specifier_of specifiers.now))) (P.seen p.old)) result (P.seen p.new) }
+    ensures { Gives
+        (rules.told (own.each_specifier (trees (map T.export_specifier_of specifiers.now)))
+        (P.seen p.old)) result (P.seen p.new) }
 {
     'specifiers: for specifier in specifiers {
         misnamed::<P, T>(t, p, specifier)?;
@@ -176,7 +188,9 @@ fn own_names<P: Cursor, T: BuildsExport>(
     start: Span,
     specifiers: Vec<T::ExportSpecifier>,
 ) -> PResult<T::Item>
-    ensures { GivesAs T.item_of (exports.own_names start (map T.export_specifier_of specifiers.items) (P.seen p.old)) result (P.seen p.new) }
+    ensures { GivesAs T.item_of
+        (exports.own_names start (map T.export_specifier_of specifiers.items) (P.seen p.old)) result
+        (P.seen p.new) }
 {
     all_misnamed::<P, T>(t, p, &specifiers)?;
     p.end(Wanted::Token(";"))?;
@@ -210,7 +224,9 @@ pub fn export_names<P: Cursor, T: BuildsStatements + BuildsExport>(
     depth: usize,
     start: Span,
 ) -> PResult<T::Item>
-    ensures { GivesAs T.item_of (exports.export_names (reader.object_alone depth) start [] (P.seen p.old)) result (P.seen p.new) }
+    ensures { GivesAs T.item_of
+        (exports.export_names (reader.object_alone depth) start [] (P.seen p.old)) result
+        (P.seen p.new) }
 {
     let found = specifiers::<P, T>(t, p)?;
     named::<P, T>(t, p, depth, start, found)
@@ -221,7 +237,9 @@ fn joined<T: BuildsExport>(
     before: Vec<T::ExportSpecifier>,
     others: Vec<T::ExportSpecifier>,
 ) -> Result<Vec<T::ExportSpecifier>, AllocError>
-    ensures { IfOk result (λ all. map T.export_specifier_of all.items ≡ map T.export_specifier_of before.items ++ map T.export_specifier_of others.items) }
+    ensures { IfOk result
+        (λ all. map T.export_specifier_of all.items ≡ map T.export_specifier_of before.items
+        ++ map T.export_specifier_of others.items) }
 {
     let mut all = before;
     let mut others = others;
@@ -238,7 +256,9 @@ fn more_names<P: Cursor, T: BuildsStatements + BuildsExport>(
     start: Span,
     before: Vec<T::ExportSpecifier>,
 ) -> PResult<T::Item>
-    ensures { GivesAs T.item_of (exports.more_names (reader.object_alone depth) start (map T.export_specifier_of before.items) (P.seen p.old)) result (P.seen p.new) }
+    ensures { GivesAs T.item_of
+        (exports.more_names (reader.object_alone depth) start
+        (map T.export_specifier_of before.items) (P.seen p.old)) result (P.seen p.new) }
 {
     if p.export_default_from() && p.sees(TokenKind::Comma) {
         p.skip()?;
@@ -259,7 +279,9 @@ fn namespace_names<P: Cursor, T: BuildsStatements + BuildsExport>(
     first: Span,
     before: Vec<T::ExportSpecifier>,
 ) -> PResult<T::Item>
-    ensures { GivesAs T.item_of (exports.namespace_names (reader.object_alone depth) start first (map T.export_specifier_of before.items) (P.seen p.old)) result (P.seen p.new) }
+    ensures { GivesAs T.item_of
+        (exports.namespace_names (reader.object_alone depth) start first
+        (map T.export_specifier_of before.items) (P.seen p.old)) result (P.seen p.new) }
 {
     let namespace = export_namespace::<P, T>(t, p, first)?;
     let mut all = before;
@@ -275,7 +297,9 @@ fn export_all<P: Cursor, T: BuildsStatements + BuildsExport>(
     depth: usize,
     start: Span,
 ) -> PResult<T::Item>
-    ensures { GivesAs T.item_of (exports.export_all (reader.object_alone depth) start (P.seen p.old)) result (P.seen p.new) }
+    ensures { GivesAs T.item_of
+        (exports.export_all (reader.object_alone depth) start (P.seen p.old)) result
+        (P.seen p.new) }
 {
     let src = source(p)?;
     let given = attributes::<P, T>(t, p, depth)?;
@@ -292,7 +316,9 @@ pub fn export_star<P: Cursor, T: BuildsStatements + BuildsExport>(
     depth: usize,
     start: Span,
 ) -> PResult<T::Item>
-    ensures { GivesAs T.item_of (exports.export_star (reader.object_alone depth) start (P.seen p.old)) result (P.seen p.new) }
+    ensures { GivesAs T.item_of
+        (exports.export_star (reader.object_alone depth) start (P.seen p.old)) result
+        (P.seen p.new) }
 {
     let star = p.span();
     p.skip()?;
@@ -320,7 +346,10 @@ fn behind_default<P: Cursor, T: BuildsStatements + BuildsExport>(
     first: Span,
     exported: Ident,
 ) -> PResult<T::Item>
-    ensures { GivesAs T.item_of (exports.behind_default (reader.object_alone depth) start first (tree.export_default (tree.ident exported.span exported.sym)) (P.seen p.old)) result (P.seen p.new) }
+    ensures { GivesAs T.item_of
+        (exports.behind_default (reader.object_alone depth) start first
+        (tree.export_default (tree.ident exported.span exported.sym)) (P.seen p.old)) result
+        (P.seen p.new) }
 {
     let exported = grown(p, T::export_default(t.alloc, exported))?;
     let mut all = Vec::new(t.alloc);
@@ -349,7 +378,8 @@ pub fn name_from<P: Cursor, T: BuildsStatements + BuildsExport>(
     depth: usize,
     start: Span,
 ) -> PResult<T::Item>
-    ensures { GivesAs T.item_of (exports.name_from (reader.object_alone depth) start (P.seen p.old)) result (P.seen p.new) }
+    ensures { GivesAs T.item_of (exports.name_from (reader.object_alone depth) start (P.seen p.old))
+        result (P.seen p.new) }
 {
     let first = p.span();
     let name = p.name(Wanted::Name)?;
@@ -376,7 +406,9 @@ pub fn default_from<P: Cursor, T: BuildsStatements + BuildsExport>(
     start: Span,
     first: Span,
 ) -> PResult<T::Item>
-    ensures { GivesAs T.item_of (exports.default_from (reader.object_alone depth) start first (P.seen p.old)) result (P.seen p.new) }
+    ensures { GivesAs T.item_of
+        (exports.default_from (reader.object_alone depth) start first (P.seen p.old)) result
+        (P.seen p.new) }
 {
     let sym = grown(p, Atom::new(t.alloc, "default"))?;
     behind_default::<P, T>(t, p, depth, start, first, Ident { span: first, sym })

@@ -24,7 +24,8 @@ fn import_specifier<P: Cursor, T: BuildsImport>(
     t: &MakerOf<T>,
     p: &mut P,
 ) -> PResult<T::ImportSpecifier>
-    ensures { GivesAs T.import_specifier_of (imports.import_specifier (P.seen p.old)) result (P.seen p.new) }
+    ensures { GivesAs T.import_specifier_of (imports.import_specifier (P.seen p.old)) result
+        (P.seen p.new) }
 {
     let start = p.span();
     let name = module_name(p)?;
@@ -45,7 +46,8 @@ fn same_name<P: Cursor, T: BuildsImport>(
     start: Span,
     name: Name,
 ) -> PResult<T::ImportSpecifier>
-    ensures { GivesAs T.import_specifier_of (imports.same_name start (name_of name) (P.seen p.old)) result (P.seen p.new) }
+    ensures { GivesAs T.import_specifier_of (imports.same_name start (name_of name) (P.seen p.old))
+        result (P.seen p.new) }
 {
     match name {
         Name::Word(local) => {
@@ -68,7 +70,9 @@ fn named_imports<P: Cursor, T: BuildsImport>(
     t: &MakerOf<T>,
     p: &mut P,
 ) -> PResult<Vec<T::ImportSpecifier>>
-    ensures { GivesAs (λ found. map T.import_specifier_of found.items) (loop (imports.specifiers_turn imports.import_specifier) [] (P.seen p.old)) result (P.seen p.new) }
+    ensures { GivesAs (λ found. map T.import_specifier_of found.items)
+        (loop (imports.specifiers_turn imports.import_specifier) [] (P.seen p.old)) result
+        (P.seen p.new) }
 {
     let mut found = Vec::new(t.alloc);
     'specifiers: loop {
@@ -113,7 +117,8 @@ fn import_namespace<P: Cursor, T: BuildsImport>(
     t: &MakerOf<T>,
     p: &mut P,
 ) -> PResult<Vec<T::ImportSpecifier>>
-    ensures { GivesAs (λ found. map T.import_specifier_of found.items) (imports.import_namespace (P.seen p.old)) result (P.seen p.new) }
+    ensures { GivesAs (λ found. map T.import_specifier_of found.items)
+        (imports.import_namespace (P.seen p.old)) result (P.seen p.new) }
 {
     let start = p.span();
     p.skip()?;
@@ -132,7 +137,8 @@ fn bindings<P: Cursor, T: BuildsImport>(
     t: &MakerOf<T>,
     p: &mut P,
 ) -> PResult<Vec<T::ImportSpecifier>>
-    ensures { GivesAs (λ found. map T.import_specifier_of found.items) (imports.bindings (P.seen p.old)) result (P.seen p.new) }
+    ensures { GivesAs (λ found. map T.import_specifier_of found.items)
+        (imports.bindings (P.seen p.old)) result (P.seen p.new) }
 {
     if p.sees(TokenKind::Mul) {
         return import_namespace::<P, T>(t, p);
@@ -149,7 +155,8 @@ fn more_bindings<P: Cursor, T: BuildsImport>(
     t: &MakerOf<T>,
     p: &mut P,
 ) -> PResult<Vec<T::ImportSpecifier>>
-    ensures { GivesAs (λ found. map T.import_specifier_of found.items) (imports.more_bindings (P.seen p.old)) result (P.seen p.new) }
+    ensures { GivesAs (λ found. map T.import_specifier_of found.items)
+        (imports.more_bindings (P.seen p.old)) result (P.seen p.new) }
 {
     if !p.sees(TokenKind::Comma) {
         return Ok(Vec::new(t.alloc));
@@ -166,7 +173,9 @@ fn with_first<T: BuildsImport>(
     first: T::ImportSpecifier,
     others: Vec<T::ImportSpecifier>,
 ) -> Result<Vec<T::ImportSpecifier>, AllocError>
-    ensures { IfOk result (λ all. map T.import_specifier_of all.items ≡ T.import_specifier_of first ∷ map T.import_specifier_of others.items) }
+    ensures { IfOk result
+        (λ all. map T.import_specifier_of all.items
+        ≡ T.import_specifier_of first ∷ map T.import_specifier_of others.items) }
 {
     let mut all = others;
     all.insert(0, first)?;
@@ -180,7 +189,8 @@ fn default_binding<P: Cursor, T: BuildsImport>(
     p: &mut P,
     local: Ident,
 ) -> PResult<Vec<T::ImportSpecifier>>
-    ensures { GivesAs (λ found. map T.import_specifier_of found.items) (imports.default_binding local (P.seen p.old)) result (P.seen p.new) }
+    ensures { GivesAs (λ found. map T.import_specifier_of found.items)
+        (imports.default_binding local (P.seen p.old)) result (P.seen p.new) }
 {
     let others = more_bindings::<P, T>(t, p)?;
     let span = local.span;
@@ -194,7 +204,8 @@ fn import_clause<P: Cursor, T: BuildsImport>(
     t: &MakerOf<T>,
     p: &mut P,
 ) -> PResult<Vec<T::ImportSpecifier>>
-    ensures { GivesAs (λ found. map T.import_specifier_of found.items) (imports.import_clause (P.seen p.old)) result (P.seen p.new) }
+    ensures { GivesAs (λ found. map T.import_specifier_of found.items)
+        (imports.import_clause (P.seen p.old)) result (P.seen p.new) }
 {
     if p.sees(TokenKind::Mul) || p.sees(TokenKind::LBrace) {
         return bindings::<P, T>(t, p);
@@ -214,7 +225,10 @@ fn imported<P: Cursor, T: BuildsStatements + BuildsImport>(
     specifiers: Vec<T::ImportSpecifier>,
     src: Str,
 ) -> PResult<T::Item>
-    ensures { GivesAs T.item_of (imports.imported (rules.object_alone depth) start phase (map T.import_specifier_of specifiers.items) (pure (str_of src)) (P.seen p.old)) result (P.seen p.new) }
+    ensures { GivesAs T.item_of
+        (imports.imported (rules.object_alone depth) start phase
+        (map T.import_specifier_of specifiers.items) (pure (str_of src)) (P.seen p.old)) result
+        (P.seen p.new) }
 {
     let given = attributes::<P, T>(t, p, depth)?;
     p.end(Wanted::Token(";"))?;
@@ -231,7 +245,9 @@ fn import_from<P: Cursor, T: BuildsStatements + BuildsImport>(
     start: Span,
     phase: ImportPhase,
 ) -> PResult<T::Item>
-    ensures { GivesAs T.item_of (imports.import_from (rules.object_alone depth) start phase (P.seen p.old)) result (P.seen p.new) }
+    ensures { GivesAs T.item_of
+        (imports.import_from (rules.object_alone depth) start phase (P.seen p.old)) result
+        (P.seen p.new) }
 {
     let specifiers = import_clause::<P, T>(t, p)?;
     let src = source(p)?;
@@ -268,7 +284,9 @@ fn import_phased<P: Cursor, T: BuildsStatements + BuildsImport>(
     depth: usize,
     start: Span,
 ) -> PResult<T::Item>
-    ensures { GivesAs T.item_of (imports.import_phased (rules.object_alone depth) start (P.seen p.old)) result (P.seen p.new) }
+    ensures { GivesAs T.item_of
+        (imports.import_phased (rules.object_alone depth) start (P.seen p.old)) result
+        (P.seen p.new) }
 {
     let word = p.any_word()?;
     if follows_phase(p) {
@@ -294,7 +312,8 @@ pub fn import_decl<P: Cursor, T: BuildsStatements + BuildsImport>(
     p: &mut P,
     depth: usize,
 ) -> PResult<T::Item>
-    ensures { GivesAs T.item_of (imports.import_decl (rules.object_alone depth) (P.seen p.old)) result (P.seen p.new) }
+    ensures { GivesAs T.item_of (imports.import_decl (rules.object_alone depth) (P.seen p.old))
+        result (P.seen p.new) }
 {
     let start = p.span();
     p.skip()?;

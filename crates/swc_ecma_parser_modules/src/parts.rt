@@ -99,7 +99,8 @@ pub fn attributes<P: Cursor, T: BuildsStatements + BuildsImport>(
     p: &mut P,
     depth: usize,
 ) -> PResult<Option<T::Attributes>>
-    ensures { GivesAs (part_of T.attributes_of) (imports.attributes (rules.object_alone depth) (P.seen p.old)) result (P.seen p.new) }
+    ensures { GivesAs (part_of T.attributes_of)
+        (imports.attributes (rules.object_alone depth) (P.seen p.old)) result (P.seen p.new) }
 {
     if !begins_attributes(p) {
         return Ok(None);

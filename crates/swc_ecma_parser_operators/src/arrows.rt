@@ -33,8 +33,12 @@ pub(crate) fn grouped<
     E: Fn(&MakerOf<T>, &mut P, usize, Reading) -> PResult<Cover<T::Expr>>,
     N: Fn(&MakerOf<T>, &mut P, usize, Part) -> PResult<T::Pat>,
 >(g: &Grammar<S, E, N>, t: &MakerOf<T>, p: &mut P) -> PResult<T::Expr>
-    requires { Nests P.seen T.expr_of T.pat_of T.stmt_of g.now.depth (S.pre g.now.stmt) (S.post g.now.stmt) (E.pre g.now.expr) (E.post g.now.expr) (N.pre g.now.pat) (N.post g.now.pat) }
-    ensures { GivesAs T.expr_of (arrows.grouped (rules.expr g.now.depth) (rules.function g.now.depth) (rules.cover g.now.depth) (P.seen p.old)) result (P.seen p.new) }
+    requires { Nests P.seen T.expr_of T.pat_of T.stmt_of g.now.depth
+        (S.pre g.now.stmt) (S.post g.now.stmt) (E.pre g.now.expr) (E.post g.now.expr)
+        (N.pre g.now.pat) (N.post g.now.pat) }
+    ensures { GivesAs T.expr_of
+        (arrows.grouped (rules.expr g.now.depth) (rules.function g.now.depth)
+        (rules.cover g.now.depth) (P.seen p.old)) result (P.seen p.new) }
 {
     let start = p.span();
     let found = parenthesized(g, t, p)?;
@@ -57,8 +61,12 @@ pub(crate) fn async_grouped<
     E: Fn(&MakerOf<T>, &mut P, usize, Reading) -> PResult<Cover<T::Expr>>,
     N: Fn(&MakerOf<T>, &mut P, usize, Part) -> PResult<T::Pat>,
 >(g: &Grammar<S, E, N>, t: &MakerOf<T>, p: &mut P) -> PResult<T::Expr>
-    requires { Nests P.seen T.expr_of T.pat_of T.stmt_of g.now.depth (S.pre g.now.stmt) (S.post g.now.stmt) (E.pre g.now.expr) (E.post g.now.expr) (N.pre g.now.pat) (N.post g.now.pat) }
-    ensures { GivesAs T.expr_of (async_arrows.async_grouped (rules.expr g.now.depth) (rules.function g.now.depth) (rules.cover g.now.depth) (P.seen p.old)) result (P.seen p.new) }
+    requires { Nests P.seen T.expr_of T.pat_of T.stmt_of g.now.depth
+        (S.pre g.now.stmt) (S.post g.now.stmt) (E.pre g.now.expr) (E.post g.now.expr)
+        (N.pre g.now.pat) (N.post g.now.pat) }
+    ensures { GivesAs T.expr_of
+        (async_arrows.async_grouped (rules.expr g.now.depth) (rules.function g.now.depth)
+        (rules.cover g.now.depth) (P.seen p.old)) result (P.seen p.new) }
 {
     let start = p.span();
     let callee = ident_expr::<P, T>(t.alloc, p)?;

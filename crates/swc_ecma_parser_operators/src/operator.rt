@@ -40,8 +40,12 @@ fn prefixed<
     E: Fn(&MakerOf<T>, &mut P, usize, Reading) -> PResult<Cover<T::Expr>>,
     N: Fn(&MakerOf<T>, &mut P, usize, Part) -> PResult<T::Pat>,
 >(g: &Grammar<S, E, N>, t: &MakerOf<T>, p: &mut P, op: UnaryOp) -> PResult<T::Expr>
-    requires { Nests P.seen T.expr_of T.pat_of T.stmt_of g.now.depth (S.pre g.now.stmt) (S.post g.now.stmt) (E.pre g.now.expr) (E.post g.now.expr) (N.pre g.now.pat) (N.post g.now.pat) }
-    ensures { GivesAs (T.expr_of) (exprs.prefixed (rules.expr g.now.depth) (rules.cover g.now.depth) op (P.seen p.old)) result (P.seen p.new) }
+    requires { Nests P.seen T.expr_of T.pat_of T.stmt_of g.now.depth
+        (S.pre g.now.stmt) (S.post g.now.stmt) (E.pre g.now.expr) (E.post g.now.expr)
+        (N.pre g.now.pat) (N.post g.now.pat) }
+    ensures { GivesAs (T.expr_of)
+        (exprs.prefixed (rules.expr g.now.depth) (rules.cover g.now.depth) op (P.seen p.old)) result
+        (P.seen p.new) }
 {
     let start = p.span();
     p.skip()?;
@@ -71,8 +75,12 @@ fn update_before<
     E: Fn(&MakerOf<T>, &mut P, usize, Reading) -> PResult<Cover<T::Expr>>,
     N: Fn(&MakerOf<T>, &mut P, usize, Part) -> PResult<T::Pat>,
 >(g: &Grammar<S, E, N>, t: &MakerOf<T>, p: &mut P, op: UpdateOp) -> PResult<T::Expr>
-    requires { Nests P.seen T.expr_of T.pat_of T.stmt_of g.now.depth (S.pre g.now.stmt) (S.post g.now.stmt) (E.pre g.now.expr) (E.post g.now.expr) (N.pre g.now.pat) (N.post g.now.pat) }
-    ensures { GivesAs (T.expr_of) (exprs.update_before (rules.expr g.now.depth) (rules.cover g.now.depth) op (P.seen p.old)) result (P.seen p.new) }
+    requires { Nests P.seen T.expr_of T.pat_of T.stmt_of g.now.depth
+        (S.pre g.now.stmt) (S.post g.now.stmt) (E.pre g.now.expr) (E.post g.now.expr)
+        (N.pre g.now.pat) (N.post g.now.pat) }
+    ensures { GivesAs (T.expr_of)
+        (exprs.update_before (rules.expr g.now.depth) (rules.cover g.now.depth) op (P.seen p.old))
+        result (P.seen p.new) }
 {
     let start = p.span();
     p.skip()?;
@@ -92,7 +100,8 @@ fn update_behind<P: Cursor, T: BuildsOperator>(
     operand: T::Expr,
     op: UpdateOp,
 ) -> PResult<T::Expr>
-    ensures { GivesAs T.expr_of (exprs.update_behind start (T.expr_of operand) op (P.seen p.old)) result (P.seen p.new) }
+    ensures { GivesAs T.expr_of (exprs.update_behind start (T.expr_of operand) op (P.seen p.old))
+        result (P.seen p.new) }
 {
     simple::<P, T>(p, &operand)?;
     p.skip()?;
@@ -118,7 +127,9 @@ pub(crate) fn postfixed<P: Cursor, T: BuildsOperator>(
     start: Span,
     operand: T::Expr,
 ) -> PResult<T::Expr>
-    ensures { GivesAs T.expr_of (exprs.behind_operand start (T.expr_of operand) (exprs.postfix_at (P.seen p.old).at) (P.seen p.old)) result (P.seen p.new) }
+    ensures { GivesAs T.expr_of
+        (exprs.behind_operand start (T.expr_of operand) (exprs.postfix_at (P.seen p.old).at)
+        (P.seen p.old)) result (P.seen p.new) }
 {
     match postfix_here(p) {
         Some(op) => update_behind::<P, T>(alloc, p, start, operand, op),
@@ -135,8 +146,12 @@ fn postfix<
     E: Fn(&MakerOf<T>, &mut P, usize, Reading) -> PResult<Cover<T::Expr>>,
     N: Fn(&MakerOf<T>, &mut P, usize, Part) -> PResult<T::Pat>,
 >(g: &Grammar<S, E, N>, t: &MakerOf<T>, p: &mut P) -> PResult<T::Expr>
-    requires { Nests P.seen T.expr_of T.pat_of T.stmt_of g.now.depth (S.pre g.now.stmt) (S.post g.now.stmt) (E.pre g.now.expr) (E.post g.now.expr) (N.pre g.now.pat) (N.post g.now.pat) }
-    ensures { GivesAs (T.expr_of) (exprs.postfix (rules.expr g.now.depth) (rules.cover g.now.depth) (rules.function g.now.depth) (P.seen p.old)) result (P.seen p.new) }
+    requires { Nests P.seen T.expr_of T.pat_of T.stmt_of g.now.depth
+        (S.pre g.now.stmt) (S.post g.now.stmt) (E.pre g.now.expr) (E.post g.now.expr)
+        (N.pre g.now.pat) (N.post g.now.pat) }
+    ensures { GivesAs (T.expr_of)
+        (exprs.postfix (rules.expr g.now.depth) (rules.cover g.now.depth)
+        (rules.function g.now.depth) (P.seen p.old)) result (P.seen p.new) }
 {
     let start = p.span();
     let operand = left(g, t, p, true)?;
@@ -153,8 +168,12 @@ fn unary_expr<
     E: Fn(&MakerOf<T>, &mut P, usize, Reading) -> PResult<Cover<T::Expr>>,
     N: Fn(&MakerOf<T>, &mut P, usize, Part) -> PResult<T::Pat>,
 >(g: &Grammar<S, E, N>, t: &MakerOf<T>, p: &mut P) -> PResult<T::Expr>
-    requires { Nests P.seen T.expr_of T.pat_of T.stmt_of g.now.depth (S.pre g.now.stmt) (S.post g.now.stmt) (E.pre g.now.expr) (E.post g.now.expr) (N.pre g.now.pat) (N.post g.now.pat) }
-    ensures { GivesAs (T.expr_of) (exprs.unary_expr (rules.expr g.now.depth) (rules.cover g.now.depth) (rules.function g.now.depth) (P.seen p.old)) result (P.seen p.new) }
+    requires { Nests P.seen T.expr_of T.pat_of T.stmt_of g.now.depth
+        (S.pre g.now.stmt) (S.post g.now.stmt) (E.pre g.now.expr) (E.post g.now.expr)
+        (N.pre g.now.pat) (N.post g.now.pat) }
+    ensures { GivesAs (T.expr_of)
+        (exprs.unary_expr (rules.expr g.now.depth) (rules.cover g.now.depth)
+        (rules.function g.now.depth) (P.seen p.old)) result (P.seen p.new) }
 {
     if let Some(op) = unary_operator(p.kind()) {
         return prefixed(g, t, p, op);
@@ -177,8 +196,12 @@ fn binary_expr<
     E: Fn(&MakerOf<T>, &mut P, usize, Reading) -> PResult<Cover<T::Expr>>,
     N: Fn(&MakerOf<T>, &mut P, usize, Part) -> PResult<T::Pat>,
 >(g: &Grammar<S, E, N>, t: &MakerOf<T>, p: &mut P, n: usize) -> PResult<T::Expr>
-    requires { Nests P.seen T.expr_of T.pat_of T.stmt_of g.now.depth (S.pre g.now.stmt) (S.post g.now.stmt) (E.pre g.now.expr) (E.post g.now.expr) (N.pre g.now.pat) (N.post g.now.pat) }
-    ensures { GivesAs (T.expr_of) (exprs.binary_expr (rules.expr g.now.depth) (rules.cover g.now.depth) (rules.function g.now.depth) n (P.seen p.old)) result (P.seen p.new) }
+    requires { Nests P.seen T.expr_of T.pat_of T.stmt_of g.now.depth
+        (S.pre g.now.stmt) (S.post g.now.stmt) (E.pre g.now.expr) (E.post g.now.expr)
+        (N.pre g.now.pat) (N.post g.now.pat) }
+    ensures { GivesAs (T.expr_of)
+        (exprs.binary_expr (rules.expr g.now.depth) (rules.cover g.now.depth)
+        (rules.function g.now.depth) n (P.seen p.old)) result (P.seen p.new) }
 {
     let start = p.span();
     let x = unary_expr(g, t, p)?;
@@ -203,8 +226,12 @@ fn conditional<
     E: Fn(&MakerOf<T>, &mut P, usize, Reading) -> PResult<Cover<T::Expr>>,
     N: Fn(&MakerOf<T>, &mut P, usize, Part) -> PResult<T::Pat>,
 >(g: &Grammar<S, E, N>, t: &MakerOf<T>, p: &mut P, start: Span, test: T::Expr) -> PResult<T::Expr>
-    requires { Nests P.seen T.expr_of T.pat_of T.stmt_of g.now.depth (S.pre g.now.stmt) (S.post g.now.stmt) (E.pre g.now.expr) (E.post g.now.expr) (N.pre g.now.pat) (N.post g.now.pat) }
-    ensures { GivesAs (T.expr_of) (exprs.conditional (rules.expr g.now.depth) (rules.cover g.now.depth) start (T.expr_of test) (P.seen p.old)) result (P.seen p.new) }
+    requires { Nests P.seen T.expr_of T.pat_of T.stmt_of g.now.depth
+        (S.pre g.now.stmt) (S.post g.now.stmt) (E.pre g.now.expr) (E.post g.now.expr)
+        (N.pre g.now.pat) (N.post g.now.pat) }
+    ensures { GivesAs (T.expr_of)
+        (exprs.conditional (rules.expr g.now.depth) (rules.cover g.now.depth) start (T.expr_of test)
+        (P.seen p.old)) result (P.seen p.new) }
 {
     p.skip()?;
     let yes_case = inside(g, t, p, Class::Assignment)?;
@@ -244,8 +271,12 @@ fn assigned<
     x: T::Expr,
     op: AssignOp,
 ) -> PResult<T::Expr>
-    requires { Nests P.seen T.expr_of T.pat_of T.stmt_of g.now.depth (S.pre g.now.stmt) (S.post g.now.stmt) (E.pre g.now.expr) (E.post g.now.expr) (N.pre g.now.pat) (N.post g.now.pat) }
-    ensures { GivesAs (T.expr_of) (exprs.assigned (rules.expr g.now.depth) (rules.cover g.now.depth) start (T.expr_of x) op (P.seen p.old)) result (P.seen p.new) }
+    requires { Nests P.seen T.expr_of T.pat_of T.stmt_of g.now.depth
+        (S.pre g.now.stmt) (S.post g.now.stmt) (E.pre g.now.expr) (E.post g.now.expr)
+        (N.pre g.now.pat) (N.post g.now.pat) }
+    ensures { GivesAs (T.expr_of)
+        (exprs.assigned (rules.expr g.now.depth) (rules.cover g.now.depth) start (T.expr_of x) op
+        (P.seen p.old)) result (P.seen p.new) }
 {
     if !T::is_simple_target(&x) {
         return Err(p.reject(unassignable(op), T::expr_span(&x)));
@@ -284,8 +315,12 @@ pub(crate) fn behind_operators<
     start: Span,
     x: T::Expr,
 ) -> PResult<T::Expr>
-    requires { Nests P.seen T.expr_of T.pat_of T.stmt_of g.now.depth (S.pre g.now.stmt) (S.post g.now.stmt) (E.pre g.now.expr) (E.post g.now.expr) (N.pre g.now.pat) (N.post g.now.pat) }
-    ensures { GivesAs (T.expr_of) (exprs.behind_operators (rules.expr g.now.depth) (rules.cover g.now.depth) is_async start (T.expr_of x) (P.seen p.old)) result (P.seen p.new) }
+    requires { Nests P.seen T.expr_of T.pat_of T.stmt_of g.now.depth
+        (S.pre g.now.stmt) (S.post g.now.stmt) (E.pre g.now.expr) (E.post g.now.expr)
+        (N.pre g.now.pat) (N.post g.now.pat) }
+    ensures { GivesAs (T.expr_of)
+        (exprs.behind_operators (rules.expr g.now.depth) (rules.cover g.now.depth) is_async start
+        (T.expr_of x) (P.seen p.old)) result (P.seen p.new) }
 {
     if p.sees(TokenKind::QuestionMark) {
         return conditional(g, t, p, start, x);
@@ -309,8 +344,12 @@ fn operators_expr<
     E: Fn(&MakerOf<T>, &mut P, usize, Reading) -> PResult<Cover<T::Expr>>,
     N: Fn(&MakerOf<T>, &mut P, usize, Part) -> PResult<T::Pat>,
 >(g: &Grammar<S, E, N>, t: &MakerOf<T>, p: &mut P) -> PResult<T::Expr>
-    requires { Nests P.seen T.expr_of T.pat_of T.stmt_of g.now.depth (S.pre g.now.stmt) (S.post g.now.stmt) (E.pre g.now.expr) (E.post g.now.expr) (N.pre g.now.pat) (N.post g.now.pat) }
-    ensures { GivesAs (T.expr_of) (exprs.operators_expr (rules.expr g.now.depth) (rules.cover g.now.depth) (rules.function g.now.depth) (P.seen p.old)) result (P.seen p.new) }
+    requires { Nests P.seen T.expr_of T.pat_of T.stmt_of g.now.depth
+        (S.pre g.now.stmt) (S.post g.now.stmt) (E.pre g.now.expr) (E.post g.now.expr)
+        (N.pre g.now.pat) (N.post g.now.pat) }
+    ensures { GivesAs (T.expr_of)
+        (exprs.operators_expr (rules.expr g.now.depth) (rules.cover g.now.depth)
+        (rules.function g.now.depth) (P.seen p.old)) result (P.seen p.new) }
 {
     let is_async = p.begins_async_call();
     let start = p.span();
@@ -327,8 +366,12 @@ pub(crate) fn plain_expr<
     E: Fn(&MakerOf<T>, &mut P, usize, Reading) -> PResult<Cover<T::Expr>>,
     N: Fn(&MakerOf<T>, &mut P, usize, Part) -> PResult<T::Pat>,
 >(g: &Grammar<S, E, N>, t: &MakerOf<T>, p: &mut P) -> PResult<T::Expr>
-    requires { Nests P.seen T.expr_of T.pat_of T.stmt_of g.now.depth (S.pre g.now.stmt) (S.post g.now.stmt) (E.pre g.now.expr) (E.post g.now.expr) (N.pre g.now.pat) (N.post g.now.pat) }
-    ensures { GivesAs (T.expr_of) (exprs.plain_expr (rules.expr g.now.depth) (rules.cover g.now.depth) (rules.function g.now.depth) (P.seen p.old)) result (P.seen p.new) }
+    requires { Nests P.seen T.expr_of T.pat_of T.stmt_of g.now.depth
+        (S.pre g.now.stmt) (S.post g.now.stmt) (E.pre g.now.expr) (E.post g.now.expr)
+        (N.pre g.now.pat) (N.post g.now.pat) }
+    ensures { GivesAs (T.expr_of)
+        (exprs.plain_expr (rules.expr g.now.depth) (rules.cover g.now.depth)
+        (rules.function g.now.depth) (P.seen p.old)) result (P.seen p.new) }
 {
     if begins_yield(p) {
         return yield_expr(g, t, p);
@@ -358,8 +401,12 @@ pub(crate) fn sequence_from<
     E: Fn(&MakerOf<T>, &mut P, usize, Reading) -> PResult<Cover<T::Expr>>,
     N: Fn(&MakerOf<T>, &mut P, usize, Part) -> PResult<T::Pat>,
 >(g: &Grammar<S, E, N>, t: &MakerOf<T>, p: &mut P, start: Span, x: T::Expr) -> PResult<T::Expr>
-    requires { Nests P.seen T.expr_of T.pat_of T.stmt_of g.now.depth (S.pre g.now.stmt) (S.post g.now.stmt) (E.pre g.now.expr) (E.post g.now.expr) (N.pre g.now.pat) (N.post g.now.pat) }
-    ensures { GivesAs (T.expr_of) (exprs.sequence_from (rules.expr g.now.depth) (rules.cover g.now.depth) (rules.function g.now.depth) start (T.expr_of x) (P.seen p.old)) result (P.seen p.new) }
+    requires { Nests P.seen T.expr_of T.pat_of T.stmt_of g.now.depth
+        (S.pre g.now.stmt) (S.post g.now.stmt) (E.pre g.now.expr) (E.post g.now.expr)
+        (N.pre g.now.pat) (N.post g.now.pat) }
+    ensures { GivesAs (T.expr_of)
+        (exprs.sequence_from (rules.expr g.now.depth) (rules.cover g.now.depth)
+        (rules.function g.now.depth) start (T.expr_of x) (P.seen p.old)) result (P.seen p.new) }
 {
     let mut found = Vec::new(t.alloc);
     pushed(p, &mut found, x)?;
@@ -385,8 +432,12 @@ fn expression_expr<
     E: Fn(&MakerOf<T>, &mut P, usize, Reading) -> PResult<Cover<T::Expr>>,
     N: Fn(&MakerOf<T>, &mut P, usize, Part) -> PResult<T::Pat>,
 >(g: &Grammar<S, E, N>, t: &MakerOf<T>, p: &mut P) -> PResult<T::Expr>
-    requires { Nests P.seen T.expr_of T.pat_of T.stmt_of g.now.depth (S.pre g.now.stmt) (S.post g.now.stmt) (E.pre g.now.expr) (E.post g.now.expr) (N.pre g.now.pat) (N.post g.now.pat) }
-    ensures { GivesAs (T.expr_of) (exprs.expression_expr (rules.expr g.now.depth) (rules.cover g.now.depth) (rules.function g.now.depth) (P.seen p.old)) result (P.seen p.new) }
+    requires { Nests P.seen T.expr_of T.pat_of T.stmt_of g.now.depth
+        (S.pre g.now.stmt) (S.post g.now.stmt) (E.pre g.now.expr) (E.post g.now.expr)
+        (N.pre g.now.pat) (N.post g.now.pat) }
+    ensures { GivesAs (T.expr_of)
+        (exprs.expression_expr (rules.expr g.now.depth) (rules.cover g.now.depth)
+        (rules.function g.now.depth) (P.seen p.old)) result (P.seen p.new) }
 {
     let start = p.span();
     let x = assignment_expr(g, t, p)?;
@@ -405,8 +456,12 @@ pub fn expr_level<
     E: Fn(&MakerOf<T>, &mut P, usize, Reading) -> PResult<Cover<T::Expr>>,
     N: Fn(&MakerOf<T>, &mut P, usize, Part) -> PResult<T::Pat>,
 >(g: &Grammar<S, E, N>, t: &MakerOf<T>, p: &mut P, class: Class) -> PResult<T::Expr>
-    requires { Nests P.seen T.expr_of T.pat_of T.stmt_of g.now.depth (S.pre g.now.stmt) (S.post g.now.stmt) (E.pre g.now.expr) (E.post g.now.expr) (N.pre g.now.pat) (N.post g.now.pat) }
-    ensures { GivesAs (T.expr_of) (exprs.expr_level (rules.expr g.now.depth) (rules.cover g.now.depth) (rules.function g.now.depth) (class_of class) (P.seen p.old)) result (P.seen p.new) }
+    requires { Nests P.seen T.expr_of T.pat_of T.stmt_of g.now.depth
+        (S.pre g.now.stmt) (S.post g.now.stmt) (E.pre g.now.expr) (E.post g.now.expr)
+        (N.pre g.now.pat) (N.post g.now.pat) }
+    ensures { GivesAs (T.expr_of)
+        (exprs.expr_level (rules.expr g.now.depth) (rules.cover g.now.depth)
+        (rules.function g.now.depth) (class_of class) (P.seen p.old)) result (P.seen p.new) }
 {
     match class {
         Class::Expression => expression_expr(g, t, p),

@@ -39,7 +39,8 @@ fn ends<P: Cursor>(p: &P, end: BodyEnd) -> bool
 
 /// Turns strict what follows a directive that says so, and says whether the next can be a directive too.
 fn direct<P: Cursor, Y: IsDirective>(p: &mut P, directives: bool, item: &Y) -> bool
-    ensures state { P.seen p.new ≡ reader.coded (directed (P.seen p.old).code directives (Y.held item.now)) (P.seen p.old) }
+    ensures state { P.seen p.new
+        ≡ reader.coded (directed (P.seen p.old).code directives (Y.held item.now)) (P.seen p.old) }
     ensures next { result ≡ directs_on directives (Y.held item.now) }
 {
     if directives && item.is_use_strict() {
@@ -62,7 +63,9 @@ pub fn block_body<P: StmtLikeParser<T, Y>, T: BuildsStatements, Y: FromStmt<T> +
     end: BodyEnd,
     directives: bool,
 ) -> PResult<Vec<Y>>
-    ensures gives { GivesAs (λ found. map Y.held found.items) (rules.items (P.item limit at) (ends_at end) directives (P.seen p.old)) result (P.seen p.new) }
+    ensures gives { GivesAs (λ found. map Y.held found.items)
+        (rules.items (P.item limit at) (ends_at end) directives (P.seen p.old)) result
+        (P.seen p.new) }
     ensures outright { (P.seen p.old).at.left ≡ [] → IsOk result }
 {
     let mut found = Vec::new(t.alloc);

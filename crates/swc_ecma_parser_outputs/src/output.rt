@@ -39,7 +39,9 @@ pub trait OutputType<T: BuildsClass> {
         ident: Option<Ident>,
         function: T::Function,
     ) -> Result<Self, SyntaxError>
-        ensures holds { IfOk result (λ x. output_of x ≡ outputs.function_in place span (outputs.named ident) (T.function_of function)) }
+        ensures holds { IfOk result
+            (λ x. output_of x
+            ≡ outputs.function_in place span (outputs.named ident) (T.function_of function)) }
         ensures has_name { IfOk result (λ x. outputs.lacks_name IS_IDENT_REQUIRED ident ≡ false) }
         ensures refused { IfErr result (λ e. kind_of e ≡ outputs.refusal IS_IDENT_REQUIRED ident) };
 
@@ -50,7 +52,9 @@ pub trait OutputType<T: BuildsClass> {
         ident: Option<Ident>,
         class: T::Class,
     ) -> Result<Self, SyntaxError>
-        ensures holds { IfOk result (λ x. output_of x ≡ outputs.class_in place span (outputs.named ident) (T.class_of class)) }
+        ensures holds { IfOk result
+            (λ x. output_of x
+            ≡ outputs.class_in place span (outputs.named ident) (T.class_of class)) }
         ensures has_name { IfOk result (λ x. outputs.lacks_name IS_IDENT_REQUIRED ident ≡ false) }
         ensures refused { IfErr result (λ e. kind_of e ≡ outputs.refusal IS_IDENT_REQUIRED ident) };
 }

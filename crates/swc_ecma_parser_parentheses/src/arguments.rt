@@ -37,8 +37,12 @@ fn one_argument<
     E: Fn(&MakerOf<T>, &mut P, usize, Reading) -> PResult<Cover<T::Expr>>,
     N: Fn(&MakerOf<T>, &mut P, usize, Part) -> PResult<T::Pat>,
 >(g: &Grammar<S, E, N>, t: &MakerOf<T>, p: &mut P) -> PResult<Argument<T::Expr>>
-    requires { Nests P.seen T.expr_of T.pat_of T.stmt_of g.now.depth (S.pre g.now.stmt) (S.post g.now.stmt) (E.pre g.now.expr) (E.post g.now.expr) (N.pre g.now.pat) (N.post g.now.pat) }
-    ensures { GivesAs (argument_of T.expr_of) (async_arrows.argument (rules.expr g.now.depth) (rules.cover g.now.depth) (P.seen p.old)) result (P.seen p.new) }
+    requires { Nests P.seen T.expr_of T.pat_of T.stmt_of g.now.depth
+        (S.pre g.now.stmt) (S.post g.now.stmt) (E.pre g.now.expr) (E.post g.now.expr)
+        (N.pre g.now.pat) (N.post g.now.pat) }
+    ensures { GivesAs (argument_of T.expr_of)
+        (async_arrows.argument (rules.expr g.now.depth) (rules.cover g.now.depth) (P.seen p.old))
+        result (P.seen p.new) }
 {
     if p.sees(TokenKind::DotDotDot) {
         let dots = p.span();
@@ -55,7 +59,15 @@ fn one_argument<
 
 /// A comma stands behind it.
 fn followed<E>(argument: Argument<E>) -> Argument<E>
-    ensures { result ≡ record { dots = argument.dots; cover = record { tree = argument.cover.tree; mark = argument.cover.mark; comma = argument.cover.comma || is_some argument.dots } } }
+    ensures { result
+        ≡ record {
+          dots = argument.dots;
+          cover = record {
+            tree = argument.cover.tree;
+            mark = argument.cover.mark;
+            comma = argument.cover.comma || is_some argument.dots;
+          };
+        } }
 {
     let Argument { dots, cover } = argument;
     let Cover { tree, mark, comma } = cover;
@@ -78,8 +90,12 @@ pub fn either_arguments<
     E: Fn(&MakerOf<T>, &mut P, usize, Reading) -> PResult<Cover<T::Expr>>,
     N: Fn(&MakerOf<T>, &mut P, usize, Part) -> PResult<T::Pat>,
 >(g: &Grammar<S, E, N>, t: &MakerOf<T>, p: &mut P) -> PResult<Vec<Argument<T::Expr>>>
-    requires { Nests P.seen T.expr_of T.pat_of T.stmt_of g.now.depth (S.pre g.now.stmt) (S.post g.now.stmt) (E.pre g.now.expr) (E.post g.now.expr) (N.pre g.now.pat) (N.post g.now.pat) }
-    ensures { GivesAs (λ found. map (argument_of T.expr_of) found.items) (async_arrows.either_arguments (rules.expr g.now.depth) (rules.cover g.now.depth) (P.seen p.old)) result (P.seen p.new) }
+    requires { Nests P.seen T.expr_of T.pat_of T.stmt_of g.now.depth
+        (S.pre g.now.stmt) (S.post g.now.stmt) (E.pre g.now.expr) (E.post g.now.expr)
+        (N.pre g.now.pat) (N.post g.now.pat) }
+    ensures { GivesAs (λ found. map (argument_of T.expr_of) found.items)
+        (async_arrows.either_arguments (rules.expr g.now.depth) (rules.cover g.now.depth)
+        (P.seen p.old)) result (P.seen p.new) }
 {
     p.skip()?;
     let mut found = Vec::new(t.alloc);
@@ -104,7 +120,9 @@ fn closed_argument<P: Cursor, T: BuildsCall>(
     p: &mut P,
     argument: Argument<T::Expr>,
 ) -> PResult<T::Arg>
-    ensures { GivesAs T.arg_of (async_arrows.closed_argument (argument_of T.expr_of argument) (P.seen p.old)) result (P.seen p.new) }
+    ensures { GivesAs T.arg_of
+        (async_arrows.closed_argument (argument_of T.expr_of argument) (P.seen p.old)) result
+        (P.seen p.new) }
 {
     let Argument { dots, cover } = argument;
     let expr = close::<P, T>(p, cover)?;
@@ -117,7 +135,9 @@ fn closed_arguments<P: Cursor, T: BuildsCall>(
     p: &mut P,
     arguments: Vec<Argument<T::Expr>>,
 ) -> PResult<Vec<T::Arg>>
-    ensures { GivesAs (λ found. map T.arg_of found.items) (async_arrows.closed_arguments (map (argument_of T.expr_of) arguments.items) (P.seen p.old)) result (P.seen p.new) }
+    ensures { GivesAs (λ found. map T.arg_of found.items)
+        (async_arrows.closed_arguments (map (argument_of T.expr_of) arguments.items) (P.seen p.old))
+        result (P.seen p.new) }
 {
     let mut found = Vec::new(t.alloc);
     'arguments: for argument in arguments {
@@ -136,7 +156,9 @@ pub fn async_called<P: Cursor, T: BuildsCall>(
     callee: T::Expr,
     arguments: Vec<Argument<T::Expr>>,
 ) -> PResult<T::Expr>
-    ensures { GivesAs T.expr_of (async_arrows.async_called start (T.expr_of callee) (map (argument_of T.expr_of) arguments.items) (P.seen p.old)) result (P.seen p.new) }
+    ensures { GivesAs T.expr_of
+        (async_arrows.async_called start (T.expr_of callee)
+        (map (argument_of T.expr_of) arguments.items) (P.seen p.old)) result (P.seen p.new) }
 {
     let args = closed_arguments::<P, T>(t, p, arguments)?;
     let span = since(p, start);
@@ -151,7 +173,10 @@ fn rest_parameter<P: Cursor, T: BuildsPattern>(
     dots: Span,
     cover: Cover<T::Expr>,
 ) -> PResult<T::Pat>
-    ensures { GivesAs T.pat_of (async_arrows.argument_parameter (record { dots = Some dots; cover = cover_of T.expr_of cover }) (P.seen p.old)) result (P.seen p.new) }
+    ensures { GivesAs T.pat_of
+        (async_arrows.argument_parameter
+        (record { dots = Some dots; cover = cover_of T.expr_of cover }) (P.seen p.old)) result
+        (P.seen p.new) }
 {
     let span = T::expr_span(&cover.tree);
     if cover.comma {
@@ -178,7 +203,9 @@ fn argument_parameter<P: Cursor, T: BuildsPattern>(
     p: &mut P,
     argument: Argument<T::Expr>,
 ) -> PResult<T::Pat>
-    ensures { GivesAs T.pat_of (async_arrows.argument_parameter (argument_of T.expr_of argument) (P.seen p.old)) result (P.seen p.new) }
+    ensures { GivesAs T.pat_of
+        (async_arrows.argument_parameter (argument_of T.expr_of argument) (P.seen p.old)) result
+        (P.seen p.new) }
 {
     let Argument { dots, cover } = argument;
     match dots {
@@ -193,7 +220,9 @@ pub fn argument_parameters<P: Cursor, T: BuildsPattern>(
     p: &mut P,
     arguments: Vec<Argument<T::Expr>>,
 ) -> PResult<Vec<T::Pat>>
-    ensures { GivesAs (λ found. map T.pat_of found.items) (async_arrows.argument_parameters (map (argument_of T.expr_of) arguments.items) (P.seen p.old)) result (P.seen p.new) }
+    ensures { GivesAs (λ found. map T.pat_of found.items)
+        (async_arrows.argument_parameters (map (argument_of T.expr_of) arguments.items)
+        (P.seen p.old)) result (P.seen p.new) }
 {
     let mut found = Vec::new(t.alloc);
     'arguments: for argument in arguments {

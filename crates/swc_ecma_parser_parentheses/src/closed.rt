@@ -21,7 +21,9 @@ fn closed_parts<P: Cursor, T: Trees>(
     p: &mut P,
     parts: Vec<Cover<T::Expr>>,
 ) -> PResult<Vec<T::Expr>>
-    ensures { GivesAs (λ found. map T.expr_of found.items) (arrows.closed_parts (map (cover_of T.expr_of) parts.items) (P.seen p.old)) result (P.seen p.new) }
+    ensures { GivesAs (λ found. map T.expr_of found.items)
+        (arrows.closed_parts (map (cover_of T.expr_of) parts.items) (P.seen p.old)) result
+        (P.seen p.new) }
 {
     let mut found = Vec::new(t.alloc);
     'parts: for part in parts {
@@ -39,7 +41,8 @@ fn parted<P: Cursor, T: BuildsOperator>(
     last: Span,
     parts: Vec<T::Expr>,
 ) -> PResult<T::Expr>
-    ensures made { IfOk result (λ x. T.expr_of x ≡ arrows.parted first last (map T.expr_of parts.items)) }
+    ensures made { IfOk result
+        (λ x. T.expr_of x ≡ arrows.parted first last (map T.expr_of parts.items)) }
     ensures state { IfOk result (λ x. P.seen p.new ≡ P.seen p.old) }
     ensures err { IfErr result IsOutOfMemory }
 {
@@ -64,7 +67,9 @@ pub fn closed_group<P: Cursor, T: BuildsExpr + BuildsOperator>(
     start: Span,
     group: Group<T::Expr, T::Pat>,
 ) -> PResult<T::Expr>
-    ensures { GivesAs T.expr_of (arrows.closed_group start (group_of T.expr_of T.pat_of group) (P.seen p.old)) result (P.seen p.new) }
+    ensures { GivesAs T.expr_of
+        (arrows.closed_group start (group_of T.expr_of T.pat_of group) (P.seen p.old)) result
+        (P.seen p.new) }
 {
     let Group {
         parts,

@@ -19,7 +19,8 @@ pub(crate) fn parameter<P: Cursor, T: BuildsPattern>(
     p: &mut P,
     part: Cover<T::Expr>,
 ) -> PResult<T::Pat>
-    ensures { GivesAs T.pat_of (arrows.parameter (cover_of T.expr_of part) (P.seen p.old)) result (P.seen p.new) }
+    ensures { GivesAs T.pat_of (arrows.parameter (cover_of T.expr_of part) (P.seen p.old)) result
+        (P.seen p.new) }
 {
     let span = T::expr_span(&part.tree);
     if part.comma {
@@ -40,7 +41,9 @@ fn add_rest<P: Cursor, T: Trees>(
     found: &mut Vec<T::Pat>,
     rest: Option<T::Pat>,
 ) -> PResult<()>
-    ensures found { OnOk result (map T.pat_of found.new.items ≡ map T.pat_of found.old.items ++ arrows.rest_list (option_map T.pat_of rest)) }
+    ensures found { OnOk result
+        (map T.pat_of found.new.items ≡ map T.pat_of found.old.items
+        ++ arrows.rest_list (option_map T.pat_of rest)) }
     ensures state { OnOk result (P.seen p.new ≡ P.seen p.old) }
     ensures err { IfErr result IsOutOfMemory }
 {
@@ -57,7 +60,9 @@ pub fn parameters_of<P: Cursor, T: BuildsPattern>(
     parts: Vec<Cover<T::Expr>>,
     rest: Option<T::Pat>,
 ) -> PResult<Vec<T::Pat>>
-    ensures { GivesAs (λ found. map T.pat_of found.items) (arrows.parameters_of (map (cover_of T.expr_of) parts.items) (option_map T.pat_of rest) (P.seen p.old)) result (P.seen p.new) }
+    ensures { GivesAs (λ found. map T.pat_of found.items)
+        (arrows.parameters_of (map (cover_of T.expr_of) parts.items) (option_map T.pat_of rest)
+        (P.seen p.old)) result (P.seen p.new) }
 {
     let mut found = Vec::new(t.alloc);
     'parts: for part in parts {

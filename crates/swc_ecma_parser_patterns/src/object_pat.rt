@@ -29,8 +29,13 @@ fn rest_name<
     E: Fn(&MakerOf<T>, &mut P, usize, Reading) -> PResult<Cover<T::Expr>>,
     N: Fn(&MakerOf<T>, &mut P, usize, Part) -> PResult<T::Pat>,
 >(g: &Grammar<S, E, N>, t: &MakerOf<T>, p: &mut P) -> PResult<T::Pat>
-    requires { Nests P.seen T.expr_of T.pat_of T.stmt_of g.now.depth (S.pre g.now.stmt) (S.post g.now.stmt) (E.pre g.now.expr) (E.post g.now.expr) (N.pre g.now.pat) (N.post g.now.pat) }
-    ensures { GivesAs T.pat_of (patterns.rest_name (rules.expr g.now.depth) (rules.cover g.now.depth) (rules.pattern g.now.depth) (rules.element g.now.depth) (P.seen p.old)) result (P.seen p.new) }
+    requires { Nests P.seen T.expr_of T.pat_of T.stmt_of g.now.depth
+        (S.pre g.now.stmt) (S.post g.now.stmt) (E.pre g.now.expr) (E.post g.now.expr)
+        (N.pre g.now.pat) (N.post g.now.pat) }
+    ensures { GivesAs T.pat_of
+        (patterns.rest_name (rules.expr g.now.depth) (rules.cover g.now.depth)
+        (rules.pattern g.now.depth) (rules.element g.now.depth) (P.seen p.old)) result
+        (P.seen p.new) }
 {
     if p.sees(TokenKind::LBracket) || p.sees(TokenKind::LBrace) {
         return Err(p.wanted(Wanted::Name));
@@ -47,8 +52,13 @@ fn rest_property<
     E: Fn(&MakerOf<T>, &mut P, usize, Reading) -> PResult<Cover<T::Expr>>,
     N: Fn(&MakerOf<T>, &mut P, usize, Part) -> PResult<T::Pat>,
 >(g: &Grammar<S, E, N>, t: &MakerOf<T>, p: &mut P) -> PResult<T::PatProp>
-    requires { Nests P.seen T.expr_of T.pat_of T.stmt_of g.now.depth (S.pre g.now.stmt) (S.post g.now.stmt) (E.pre g.now.expr) (E.post g.now.expr) (N.pre g.now.pat) (N.post g.now.pat) }
-    ensures { GivesAs T.pat_prop_of (patterns.rest_property (rules.expr g.now.depth) (rules.cover g.now.depth) (rules.pattern g.now.depth) (rules.element g.now.depth) (P.seen p.old)) result (P.seen p.new) }
+    requires { Nests P.seen T.expr_of T.pat_of T.stmt_of g.now.depth
+        (S.pre g.now.stmt) (S.post g.now.stmt) (E.pre g.now.expr) (E.post g.now.expr)
+        (N.pre g.now.pat) (N.post g.now.pat) }
+    ensures { GivesAs T.pat_prop_of
+        (patterns.rest_property (rules.expr g.now.depth) (rules.cover g.now.depth)
+        (rules.pattern g.now.depth) (rules.element g.now.depth) (P.seen p.old)) result
+        (P.seen p.new) }
 {
     let start = p.span();
     p.skip()?;
@@ -72,8 +82,13 @@ fn key_value<
     start: Span,
     key: Key<T::Expr>,
 ) -> PResult<T::PatProp>
-    requires { Nests P.seen T.expr_of T.pat_of T.stmt_of g.now.depth (S.pre g.now.stmt) (S.post g.now.stmt) (E.pre g.now.expr) (E.post g.now.expr) (N.pre g.now.pat) (N.post g.now.pat) }
-    ensures { GivesAs T.pat_prop_of (patterns.key_value (rules.expr g.now.depth) (rules.cover g.now.depth) (rules.pattern g.now.depth) (rules.element g.now.depth) start (key_of T.expr_of key) (P.seen p.old)) result (P.seen p.new) }
+    requires { Nests P.seen T.expr_of T.pat_of T.stmt_of g.now.depth
+        (S.pre g.now.stmt) (S.post g.now.stmt) (E.pre g.now.expr) (E.post g.now.expr)
+        (N.pre g.now.pat) (N.post g.now.pat) }
+    ensures { GivesAs T.pat_prop_of
+        (patterns.key_value (rules.expr g.now.depth) (rules.cover g.now.depth)
+        (rules.pattern g.now.depth) (rules.element g.now.depth) start (key_of T.expr_of key)
+        (P.seen p.old)) result (P.seen p.new) }
 {
     p.skip()?;
     let value = inner_pat(g, t, p, Part::Element)?;
@@ -91,8 +106,13 @@ fn initialized_name<
     E: Fn(&MakerOf<T>, &mut P, usize, Reading) -> PResult<Cover<T::Expr>>,
     N: Fn(&MakerOf<T>, &mut P, usize, Part) -> PResult<T::Pat>,
 >(g: &Grammar<S, E, N>, t: &MakerOf<T>, p: &mut P, start: Span, name: Ident) -> PResult<T::PatProp>
-    requires { Nests P.seen T.expr_of T.pat_of T.stmt_of g.now.depth (S.pre g.now.stmt) (S.post g.now.stmt) (E.pre g.now.expr) (E.post g.now.expr) (N.pre g.now.pat) (N.post g.now.pat) }
-    ensures { GivesAs T.pat_prop_of (patterns.initialized_name (rules.expr g.now.depth) (rules.cover g.now.depth) (rules.pattern g.now.depth) (rules.element g.now.depth) start name.span name.sym (P.seen p.old)) result (P.seen p.new) }
+    requires { Nests P.seen T.expr_of T.pat_of T.stmt_of g.now.depth
+        (S.pre g.now.stmt) (S.post g.now.stmt) (E.pre g.now.expr) (E.post g.now.expr)
+        (N.pre g.now.pat) (N.post g.now.pat) }
+    ensures { GivesAs T.pat_prop_of
+        (patterns.initialized_name (rules.expr g.now.depth) (rules.cover g.now.depth)
+        (rules.pattern g.now.depth) (rules.element g.now.depth) start name.span name.sym
+        (P.seen p.old)) result (P.seen p.new) }
 {
     p.skip()?;
     let value = inside(g, t, p, Class::Assignment)?;
@@ -109,8 +129,13 @@ fn named<
     E: Fn(&MakerOf<T>, &mut P, usize, Reading) -> PResult<Cover<T::Expr>>,
     N: Fn(&MakerOf<T>, &mut P, usize, Part) -> PResult<T::Pat>,
 >(g: &Grammar<S, E, N>, t: &MakerOf<T>, p: &mut P, start: Span, name: Ident) -> PResult<T::PatProp>
-    requires { Nests P.seen T.expr_of T.pat_of T.stmt_of g.now.depth (S.pre g.now.stmt) (S.post g.now.stmt) (E.pre g.now.expr) (E.post g.now.expr) (N.pre g.now.pat) (N.post g.now.pat) }
-    ensures { GivesAs T.pat_prop_of (patterns.named (rules.expr g.now.depth) (rules.cover g.now.depth) (rules.pattern g.now.depth) (rules.element g.now.depth) start name.span name.sym (P.seen p.old)) result (P.seen p.new) }
+    requires { Nests P.seen T.expr_of T.pat_of T.stmt_of g.now.depth
+        (S.pre g.now.stmt) (S.post g.now.stmt) (E.pre g.now.expr) (E.post g.now.expr)
+        (N.pre g.now.pat) (N.post g.now.pat) }
+    ensures { GivesAs T.pat_prop_of
+        (patterns.named (rules.expr g.now.depth) (rules.cover g.now.depth)
+        (rules.pattern g.now.depth) (rules.element g.now.depth) start name.span name.sym
+        (P.seen p.old)) result (P.seen p.new) }
 {
     let may_await = may_bind_await(p.flags());
     as_name(p, may_await, &name)?;
@@ -135,8 +160,13 @@ fn bare_key<
     start: Span,
     key: Key<T::Expr>,
 ) -> PResult<T::PatProp>
-    requires { Nests P.seen T.expr_of T.pat_of T.stmt_of g.now.depth (S.pre g.now.stmt) (S.post g.now.stmt) (E.pre g.now.expr) (E.post g.now.expr) (N.pre g.now.pat) (N.post g.now.pat) }
-    ensures { GivesAs T.pat_prop_of (patterns.bare_key (rules.expr g.now.depth) (rules.cover g.now.depth) (rules.pattern g.now.depth) (rules.element g.now.depth) start (key_of T.expr_of key) (P.seen p.old)) result (P.seen p.new) }
+    requires { Nests P.seen T.expr_of T.pat_of T.stmt_of g.now.depth
+        (S.pre g.now.stmt) (S.post g.now.stmt) (E.pre g.now.expr) (E.post g.now.expr)
+        (N.pre g.now.pat) (N.post g.now.pat) }
+    ensures { GivesAs T.pat_prop_of
+        (patterns.bare_key (rules.expr g.now.depth) (rules.cover g.now.depth)
+        (rules.pattern g.now.depth) (rules.element g.now.depth) start (key_of T.expr_of key)
+        (P.seen p.old)) result (P.seen p.new) }
 {
     match key {
         Key::Word(name) => named(g, t, p, start, name),
@@ -159,8 +189,13 @@ fn behind_key<
     start: Span,
     key: Key<T::Expr>,
 ) -> PResult<T::PatProp>
-    requires { Nests P.seen T.expr_of T.pat_of T.stmt_of g.now.depth (S.pre g.now.stmt) (S.post g.now.stmt) (E.pre g.now.expr) (E.post g.now.expr) (N.pre g.now.pat) (N.post g.now.pat) }
-    ensures { GivesAs T.pat_prop_of (patterns.behind_key (rules.expr g.now.depth) (rules.cover g.now.depth) (rules.pattern g.now.depth) (rules.element g.now.depth) start (key_of T.expr_of key) (P.seen p.old)) result (P.seen p.new) }
+    requires { Nests P.seen T.expr_of T.pat_of T.stmt_of g.now.depth
+        (S.pre g.now.stmt) (S.post g.now.stmt) (E.pre g.now.expr) (E.post g.now.expr)
+        (N.pre g.now.pat) (N.post g.now.pat) }
+    ensures { GivesAs T.pat_prop_of
+        (patterns.behind_key (rules.expr g.now.depth) (rules.cover g.now.depth)
+        (rules.pattern g.now.depth) (rules.element g.now.depth) start (key_of T.expr_of key)
+        (P.seen p.old)) result (P.seen p.new) }
 {
     if p.sees(TokenKind::Colon) {
         return key_value(g, t, p, start, key);
@@ -177,8 +212,13 @@ fn property<
     E: Fn(&MakerOf<T>, &mut P, usize, Reading) -> PResult<Cover<T::Expr>>,
     N: Fn(&MakerOf<T>, &mut P, usize, Part) -> PResult<T::Pat>,
 >(g: &Grammar<S, E, N>, t: &MakerOf<T>, p: &mut P) -> PResult<T::PatProp>
-    requires { Nests P.seen T.expr_of T.pat_of T.stmt_of g.now.depth (S.pre g.now.stmt) (S.post g.now.stmt) (E.pre g.now.expr) (E.post g.now.expr) (N.pre g.now.pat) (N.post g.now.pat) }
-    ensures { GivesAs T.pat_prop_of (patterns.property (rules.expr g.now.depth) (rules.cover g.now.depth) (rules.pattern g.now.depth) (rules.element g.now.depth) (P.seen p.old)) result (P.seen p.new) }
+    requires { Nests P.seen T.expr_of T.pat_of T.stmt_of g.now.depth
+        (S.pre g.now.stmt) (S.post g.now.stmt) (E.pre g.now.expr) (E.post g.now.expr)
+        (N.pre g.now.pat) (N.post g.now.pat) }
+    ensures { GivesAs T.pat_prop_of
+        (patterns.property (rules.expr g.now.depth) (rules.cover g.now.depth)
+        (rules.pattern g.now.depth) (rules.element g.now.depth) (P.seen p.old)) result
+        (P.seen p.new) }
 {
     let start = p.span();
     let key = property_key(g, t, p)?;
@@ -194,8 +234,13 @@ fn properties<
     E: Fn(&MakerOf<T>, &mut P, usize, Reading) -> PResult<Cover<T::Expr>>,
     N: Fn(&MakerOf<T>, &mut P, usize, Part) -> PResult<T::Pat>,
 >(g: &Grammar<S, E, N>, t: &MakerOf<T>, p: &mut P) -> PResult<Vec<T::PatProp>>
-    requires { Nests P.seen T.expr_of T.pat_of T.stmt_of g.now.depth (S.pre g.now.stmt) (S.post g.now.stmt) (E.pre g.now.expr) (E.post g.now.expr) (N.pre g.now.pat) (N.post g.now.pat) }
-    ensures { GivesAs (λ found. map T.pat_prop_of found.items) (patterns.properties (rules.expr g.now.depth) (rules.cover g.now.depth) (rules.pattern g.now.depth) (rules.element g.now.depth) (P.seen p.old)) result (P.seen p.new) }
+    requires { Nests P.seen T.expr_of T.pat_of T.stmt_of g.now.depth
+        (S.pre g.now.stmt) (S.post g.now.stmt) (E.pre g.now.expr) (E.post g.now.expr)
+        (N.pre g.now.pat) (N.post g.now.pat) }
+    ensures { GivesAs (λ found. map T.pat_prop_of found.items)
+        (patterns.properties (rules.expr g.now.depth) (rules.cover g.now.depth)
+        (rules.pattern g.now.depth) (rules.element g.now.depth) (P.seen p.old)) result
+        (P.seen p.new) }
 {
     p.skip()?;
     let mut found = Vec::new(t.alloc);
@@ -228,8 +273,13 @@ pub(crate) fn object_pat<
     E: Fn(&MakerOf<T>, &mut P, usize, Reading) -> PResult<Cover<T::Expr>>,
     N: Fn(&MakerOf<T>, &mut P, usize, Part) -> PResult<T::Pat>,
 >(g: &Grammar<S, E, N>, t: &MakerOf<T>, p: &mut P) -> PResult<T::Pat>
-    requires { Nests P.seen T.expr_of T.pat_of T.stmt_of g.now.depth (S.pre g.now.stmt) (S.post g.now.stmt) (E.pre g.now.expr) (E.post g.now.expr) (N.pre g.now.pat) (N.post g.now.pat) }
-    ensures { GivesAs T.pat_of (patterns.object (rules.expr g.now.depth) (rules.cover g.now.depth) (rules.pattern g.now.depth) (rules.element g.now.depth) (P.seen p.old)) result (P.seen p.new) }
+    requires { Nests P.seen T.expr_of T.pat_of T.stmt_of g.now.depth
+        (S.pre g.now.stmt) (S.post g.now.stmt) (E.pre g.now.expr) (E.post g.now.expr)
+        (N.pre g.now.pat) (N.post g.now.pat) }
+    ensures { GivesAs T.pat_of
+        (patterns.object (rules.expr g.now.depth) (rules.cover g.now.depth)
+        (rules.pattern g.now.depth) (rules.element g.now.depth) (P.seen p.old)) result
+        (P.seen p.new) }
 {
     let start = p.span();
     let found = properties(g, t, p)?;

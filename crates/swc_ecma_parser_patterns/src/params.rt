@@ -24,8 +24,11 @@ pub fn parameters<
     E: Fn(&MakerOf<T>, &mut P, usize, Reading) -> PResult<Cover<T::Expr>>,
     N: Fn(&MakerOf<T>, &mut P, usize, Part) -> PResult<T::Pat>,
 >(g: &Grammar<S, E, N>, t: &MakerOf<T>, p: &mut P) -> PResult<Vec<T::Pat>>
-    requires { Nests P.seen T.expr_of T.pat_of T.stmt_of g.now.depth (S.pre g.now.stmt) (S.post g.now.stmt) (E.pre g.now.expr) (E.post g.now.expr) (N.pre g.now.pat) (N.post g.now.pat) }
-    ensures { GivesAs (λ found. map T.pat_of found.items) (rules.parameters g.now.depth (P.seen p.old)) result (P.seen p.new) }
+    requires { Nests P.seen T.expr_of T.pat_of T.stmt_of g.now.depth
+        (S.pre g.now.stmt) (S.post g.now.stmt) (E.pre g.now.expr) (E.post g.now.expr)
+        (N.pre g.now.pat) (N.post g.now.pat) }
+    ensures { GivesAs (λ found. map T.pat_of found.items)
+        (rules.parameters g.now.depth (P.seen p.old)) result (P.seen p.new) }
 {
     p.expect(TokenKind::LParen, "(")?;
     let mut found = Vec::new(t.alloc);

@@ -32,7 +32,9 @@ fn says_out_of_memory(kind: &SyntaxError) -> bool
 
 /// Whether a refusal stays one where what is refused is dropped: something stood too deep, or memory ran out.
 pub fn stays_refused<P: Cursor>(p: &P, error: &Error) -> bool
-    ensures { result ≡ (is_some (P.seen p.now).scope.mark || reader.says_out_of_memory (kind_of error.now.kind)) }
+    ensures { result
+        ≡ (is_some (P.seen p.now).scope.mark
+        || reader.says_out_of_memory (kind_of error.now.kind)) }
 {
     p.is_marked() || says_out_of_memory(&error.kind)
 }
@@ -40,7 +42,8 @@ pub fn stays_refused<P: Cursor>(p: &P, error: &Error) -> bool
 /// Puts back what stood around what is dropped.
 fn put_back<P: Cursor>(p: &mut P, around: Around, outer: Context)
     requires { outer.module ≡ (P.seen p.old).code.flags.module }
-    ensures { P.seen p.new ≡ set_back (P.seen p.old) around.labels.items around.found_module_item outer }
+    ensures { P.seen p.new
+        ≡ set_back (P.seen p.old) around.labels.items around.found_module_item outer }
 {
     p.leave_body(around);
     p.set_flags(outer);
@@ -55,8 +58,12 @@ pub fn dropped<P: Cursor, X: Drop>(
     read: PResult<X>,
 ) -> PResult<()>
     requires answered { IfOk read (λ _. outer.module ≡ (P.seen p.old).code.flags.module) }
-    requires refused { IfErr read (λ e. kind_of e.kind ≢ kinds.OutOfMemory → outer.module ≡ (P.seen p.old).code.flags.module) }
-    ensures { Gives (dropped_in around.labels.items around.found_module_item outer (ended read (P.seen p.old))) result (P.seen p.new) }
+    requires refused { IfErr read
+        (λ e. kind_of e.kind ≢ kinds.OutOfMemory → outer.module
+        ≡ (P.seen p.old).code.flags.module) }
+    ensures { Gives
+        (dropped_in around.labels.items around.found_module_item outer (ended read (P.seen p.old)))
+        result (P.seen p.new) }
 {
     if let Err(error) = read {
         if stays_refused(p, &error) {
@@ -76,8 +83,12 @@ fn attempted<
     E: Fn(&MakerOf<T>, &mut P, usize, Reading) -> PResult<Cover<T::Expr>>,
     N: Fn(&MakerOf<T>, &mut P, usize, Part) -> PResult<T::Pat>,
 >(g: &Grammar<S, E, N>, t: &MakerOf<T>, p: &mut P) -> PResult<()>
-    requires { Nests P.seen T.expr_of T.pat_of T.stmt_of g.now.depth (S.pre g.now.stmt) (S.post g.now.stmt) (E.pre g.now.expr) (E.post g.now.expr) (N.pre g.now.pat) (N.post g.now.pat) }
-    ensures { Gives (reader.attempted (reader.within with_in (rules.expr g.now.depth expression)) (P.seen p.old)) result (P.seen p.new) }
+    requires { Nests P.seen T.expr_of T.pat_of T.stmt_of g.now.depth
+        (S.pre g.now.stmt) (S.post g.now.stmt) (E.pre g.now.expr) (E.post g.now.expr)
+        (N.pre g.now.pat) (N.post g.now.pat) }
+    ensures { Gives
+        (reader.attempted (reader.within with_in (rules.expr g.now.depth expression))
+        (P.seen p.old)) result (P.seen p.new) }
 {
     let around = p.copy_around()?;
     let outer = p.flags();
@@ -113,8 +124,11 @@ pub fn declaration_end<
     E: Fn(&MakerOf<T>, &mut P, usize, Reading) -> PResult<Cover<T::Expr>>,
     N: Fn(&MakerOf<T>, &mut P, usize, Part) -> PResult<T::Pat>,
 >(g: &Grammar<S, E, N>, t: &MakerOf<T>, p: &mut P) -> PResult<()>
-    requires { Nests P.seen T.expr_of T.pat_of T.stmt_of g.now.depth (S.pre g.now.stmt) (S.post g.now.stmt) (E.pre g.now.expr) (E.post g.now.expr) (N.pre g.now.pat) (N.post g.now.pat) }
-    ensures { Gives (recovery.declaration_end (rules.expr g.now.depth expression) (P.seen p.old)) result (P.seen p.new) }
+    requires { Nests P.seen T.expr_of T.pat_of T.stmt_of g.now.depth
+        (S.pre g.now.stmt) (S.post g.now.stmt) (E.pre g.now.expr) (E.post g.now.expr)
+        (N.pre g.now.pat) (N.post g.now.pat) }
+    ensures { Gives (recovery.declaration_end (rules.expr g.now.depth expression) (P.seen p.old))
+        result (P.seen p.new) }
 {
     if p.sees(TokenKind::Semi) {
         return p.skip();

@@ -65,7 +65,9 @@ fn items<P: Cursor, T: BuildsStatements>(
     p: &mut P,
     limit: usize,
 ) -> PResult<Vec<T::Stmt>>
-    ensures gives { GivesAs (λ found. map T.stmt_of found.items) (rules.items (rules.whole_stmt limit top_item) rules.at_end true (P.seen p.old)) result (P.seen p.new) }
+    ensures gives { GivesAs (λ found. map T.stmt_of found.items)
+        (rules.items (rules.whole_stmt limit top_item) rules.at_end true (P.seen p.old)) result
+        (P.seen p.new) }
     ensures outright { (P.seen p.old).at.left ≡ [] → IsOk result }
 {
     let mut found = Vec::new(t.alloc);
@@ -85,7 +87,8 @@ pub fn script_body<P: Cursor, T: BuildsStatements + BuildsScript>(
     p: &mut P,
     limit: usize,
 ) -> PResult<T::Script>
-    ensures gives { GivesAs T.script_of (rules.script_body limit (P.seen p.old)) result (P.seen p.new) }
+    ensures gives { GivesAs T.script_of (rules.script_body limit (P.seen p.old)) result
+        (P.seen p.new) }
     ensures outright { (P.seen p.old).at.left ≡ [] → IsOk result }
 {
     let start = whole_start(p);

@@ -90,7 +90,9 @@ fn first_mark(first: Option<Span>, later: Option<Span>) -> Option<Span>
 /// Puts a part behind the others.
 #[inline(never)]
 pub fn joined<P: Cursor, A: Drop>(p: &mut P, found: &mut Covers<A>, part: Cover<A>) -> PResult<()>
-    ensures found { OnOk result ((view : A → Tree) → covers_of view found.new ≡ exprs.with_cover (covers_of view found.old) (cover_of view part)) }
+    ensures found { OnOk result
+        ((view : A → Tree) → covers_of view found.new
+        ≡ exprs.with_cover (covers_of view found.old) (cover_of view part)) }
     ensures state { OnOk result (P.seen p.new ≡ P.seen p.old) }
     ensures err { IfErr result IsOutOfMemory }
 {
@@ -102,7 +104,8 @@ pub fn joined<P: Cursor, A: Drop>(p: &mut P, found: &mut Covers<A>, part: Cover<
 
 /// A comma stands behind a part, which can be a spread.
 pub fn behind_comma<A>(found: &mut Covers<A>, is_spread: bool)
-    ensures { (view : A → Tree) → covers_of view found.new ≡ exprs.with_comma is_spread (covers_of view found.old) }
+    ensures { (view : A → Tree) → covers_of view found.new
+        ≡ exprs.with_comma is_spread (covers_of view found.old) }
 {
     found.comma = found.comma || is_spread;
 }
@@ -111,7 +114,8 @@ pub fn behind_comma<A>(found: &mut Covers<A>, is_spread: bool)
 #[tactic(auto, unfolding(swc_ecma_parser_reader::specs::Expressions::close))]
 #[inline(never)]
 pub fn close<P: Cursor, T: Trees>(p: &mut P, v: Cover<T::Expr>) -> PResult<T::Expr>
-    ensures { GivesAs T.expr_of (exprs.close (cover_of T.expr_of v) (P.seen p.old)) result (P.seen p.new) }
+    ensures { GivesAs T.expr_of (exprs.close (cover_of T.expr_of v) (P.seen p.old)) result
+        (P.seen p.new) }
 {
     match v.mark {
         Some(mark) => Err(p.reject(SyntaxError::AssignProperty, mark)),
@@ -140,8 +144,10 @@ pub fn target<P: Cursor, T: BuildsPattern>(
     p: &mut P,
     v: Cover<T::Expr>,
 ) -> PResult<T::Pat>
-    ensures gives { GivesAs T.pat_of (exprs.target (cover_of T.expr_of v) (P.seen p.old)) result (P.seen p.new) }
-    ensures pattern { is_literal (T.expr_of v.tree) ≡ true → IfOk result (λ x. is_pattern_target (T.pat_of x) ≡ true) }
+    ensures gives { GivesAs T.pat_of (exprs.target (cover_of T.expr_of v) (P.seen p.old)) result
+        (P.seen p.new) }
+    ensures pattern { is_literal (T.expr_of v.tree) ≡ true
+        → IfOk result (λ x. is_pattern_target (T.pat_of x) ≡ true) }
 {
     let span = T::expr_span(&v.tree);
     if v.comma {
@@ -161,8 +167,11 @@ pub fn nested<
     E: Fn(&MakerOf<T>, &mut P, usize, Reading) -> PResult<Cover<T::Expr>>,
     N: Fn(&MakerOf<T>, &mut P, usize, Part) -> PResult<T::Pat>,
 >(g: &Grammar<S, E, N>, t: &MakerOf<T>, p: &mut P, class: Class) -> PResult<T::Expr>
-    requires { Nests P.seen T.expr_of T.pat_of T.stmt_of g.now.depth (S.pre g.now.stmt) (S.post g.now.stmt) (E.pre g.now.expr) (E.post g.now.expr) (N.pre g.now.pat) (N.post g.now.pat) }
-    ensures { GivesAs T.expr_of (rules.expr g.now.depth (class_of class) (P.seen p.old)) result (P.seen p.new) }
+    requires { Nests P.seen T.expr_of T.pat_of T.stmt_of g.now.depth
+        (S.pre g.now.stmt) (S.post g.now.stmt) (E.pre g.now.expr) (E.post g.now.expr)
+        (N.pre g.now.pat) (N.post g.now.pat) }
+    ensures { GivesAs T.expr_of (rules.expr g.now.depth (class_of class) (P.seen p.old)) result
+        (P.seen p.new) }
 {
     let found = (g.expr)(t, p, g.depth, Reading::Expr(class))?;
     Ok(found.tree)
@@ -177,8 +186,12 @@ pub fn covered<
     E: Fn(&MakerOf<T>, &mut P, usize, Reading) -> PResult<Cover<T::Expr>>,
     N: Fn(&MakerOf<T>, &mut P, usize, Part) -> PResult<T::Pat>,
 >(g: &Grammar<S, E, N>, t: &MakerOf<T>, p: &mut P) -> PResult<Cover<T::Expr>>
-    requires { Nests P.seen T.expr_of T.pat_of T.stmt_of g.now.depth (S.pre g.now.stmt) (S.post g.now.stmt) (E.pre g.now.expr) (E.post g.now.expr) (N.pre g.now.pat) (N.post g.now.pat) }
-    ensures { GivesAs (cover_of T.expr_of) (exprs.covered (rules.expr g.now.depth) (rules.cover g.now.depth) (P.seen p.old)) result (P.seen p.new) }
+    requires { Nests P.seen T.expr_of T.pat_of T.stmt_of g.now.depth
+        (S.pre g.now.stmt) (S.post g.now.stmt) (E.pre g.now.expr) (E.post g.now.expr)
+        (N.pre g.now.pat) (N.post g.now.pat) }
+    ensures { GivesAs (cover_of T.expr_of)
+        (exprs.covered (rules.expr g.now.depth) (rules.cover g.now.depth) (P.seen p.old)) result
+        (P.seen p.new) }
 {
     let outer = p.flags();
     p.set_flags(with_in(outer));
@@ -196,8 +209,12 @@ pub fn inside<
     E: Fn(&MakerOf<T>, &mut P, usize, Reading) -> PResult<Cover<T::Expr>>,
     N: Fn(&MakerOf<T>, &mut P, usize, Part) -> PResult<T::Pat>,
 >(g: &Grammar<S, E, N>, t: &MakerOf<T>, p: &mut P, class: Class) -> PResult<T::Expr>
-    requires { Nests P.seen T.expr_of T.pat_of T.stmt_of g.now.depth (S.pre g.now.stmt) (S.post g.now.stmt) (E.pre g.now.expr) (E.post g.now.expr) (N.pre g.now.pat) (N.post g.now.pat) }
-    ensures { GivesAs (T.expr_of) (exprs.inside (rules.expr g.now.depth) (rules.cover g.now.depth) (class_of class) (P.seen p.old)) result (P.seen p.new) }
+    requires { Nests P.seen T.expr_of T.pat_of T.stmt_of g.now.depth
+        (S.pre g.now.stmt) (S.post g.now.stmt) (E.pre g.now.expr) (E.post g.now.expr)
+        (N.pre g.now.pat) (N.post g.now.pat) }
+    ensures { GivesAs (T.expr_of)
+        (exprs.inside (rules.expr g.now.depth) (rules.cover g.now.depth) (class_of class)
+        (P.seen p.old)) result (P.seen p.new) }
 {
     let outer = p.flags();
     p.set_flags(with_in(outer));

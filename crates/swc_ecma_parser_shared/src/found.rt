@@ -18,7 +18,9 @@ pub fn found_module_item<P: Cursor>(alloc: Global, p: &mut P) -> bool
 
 /// Sets whether something was.
 pub fn set_found_module_item<P: Cursor>(alloc: Global, p: &mut P, found: bool)
-    ensures { P.seen p.new ≡ record (P.seen p.old) { notes = record (P.seen p.old).notes { found_module_item = found } } }
+    ensures { P.seen p.new
+        ≡ record (P.seen p.old)
+        { notes = record (P.seen p.old).notes { found_module_item = found } } }
 {
     let Around {
         labels,

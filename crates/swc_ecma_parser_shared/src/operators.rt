@@ -62,7 +62,8 @@ fn unmixed<P: Cursor, T: BuildsOperator>(
     x: T::Expr,
     y: T::Expr,
 ) -> PResult<T::Expr>
-    ensures { GivesAs T.expr_of (exprs.unmixed start op (T.expr_of x) (T.expr_of y) (P.seen p.old)) result (P.seen p.new) }
+    ensures { GivesAs T.expr_of (exprs.unmixed start op (T.expr_of x) (T.expr_of y) (P.seen p.old))
+        result (P.seen p.new) }
 {
     let span = since(p, start);
     if mixes_with::<T>(op, &x) || mixes_with::<T>(op, &y) {
@@ -97,8 +98,11 @@ fn right_operand<
     operands: Operands,
     class: Class,
 ) -> PResult<T::Expr>
-    requires { Nests P.seen T.expr_of T.pat_of T.stmt_of g.now.depth (S.pre g.now.stmt) (S.post g.now.stmt) (E.pre g.now.expr) (E.post g.now.expr) (N.pre g.now.pat) (N.post g.now.pat) }
-    ensures { GivesAs T.expr_of (right g.now.depth operands (class_of class) (P.seen p.old)) result (P.seen p.new) }
+    requires { Nests P.seen T.expr_of T.pat_of T.stmt_of g.now.depth
+        (S.pre g.now.stmt) (S.post g.now.stmt) (E.pre g.now.expr) (E.post g.now.expr)
+        (N.pre g.now.pat) (N.post g.now.pat) }
+    ensures { GivesAs T.expr_of (right g.now.depth operands (class_of class) (P.seen p.old)) result
+        (P.seen p.new) }
 {
     match operands {
         Operands::Nested => nested(g, t, p, class),
@@ -127,8 +131,12 @@ fn operated<
     x: T::Expr,
     op: BinaryOp,
 ) -> PResult<T::Expr>
-    requires { Nests P.seen T.expr_of T.pat_of T.stmt_of g.now.depth (S.pre g.now.stmt) (S.post g.now.stmt) (E.pre g.now.expr) (E.post g.now.expr) (N.pre g.now.pat) (N.post g.now.pat) }
-    ensures { GivesAs (T.expr_of) (exprs.operated (right g.now.depth operands) (rules.cover g.now.depth) start (T.expr_of x) op (P.seen p.old)) result (P.seen p.new) }
+    requires { Nests P.seen T.expr_of T.pat_of T.stmt_of g.now.depth
+        (S.pre g.now.stmt) (S.post g.now.stmt) (E.pre g.now.expr) (E.post g.now.expr)
+        (N.pre g.now.pat) (N.post g.now.pat) }
+    ensures { GivesAs (T.expr_of)
+        (exprs.operated (right g.now.depth operands) (rules.cover g.now.depth) start (T.expr_of x)
+        op (P.seen p.old)) result (P.seen p.new) }
 {
     left_operand::<P, T>(p, op, &x)?;
     p.skip()?;
@@ -166,8 +174,12 @@ pub fn binary_from<
     start: Span,
     x: T::Expr,
 ) -> PResult<T::Expr>
-    requires { Nests P.seen T.expr_of T.pat_of T.stmt_of g.now.depth (S.pre g.now.stmt) (S.post g.now.stmt) (E.pre g.now.expr) (E.post g.now.expr) (N.pre g.now.pat) (N.post g.now.pat) }
-    ensures { GivesAs (T.expr_of) (exprs.binary_from (right g.now.depth operands) (rules.cover g.now.depth) n start (T.expr_of x) (P.seen p.old)) result (P.seen p.new) }
+    requires { Nests P.seen T.expr_of T.pat_of T.stmt_of g.now.depth
+        (S.pre g.now.stmt) (S.post g.now.stmt) (E.pre g.now.expr) (E.post g.now.expr)
+        (N.pre g.now.pat) (N.post g.now.pat) }
+    ensures { GivesAs (T.expr_of)
+        (exprs.binary_from (right g.now.depth operands) (rules.cover g.now.depth) n start
+        (T.expr_of x) (P.seen p.old)) result (P.seen p.new) }
 {
     let mut x = x;
     'operators: loop {

@@ -55,7 +55,8 @@ pub fn grown<P: Cursor, A>(p: &mut P, made: Result<A, AllocError>) -> PResult<A>
 #[tactic(auto, unfolding(swc_ecma_parser_reader::specs::State::as_name))]
 #[inline(never)]
 pub fn as_name<P: Cursor>(p: &mut P, may_await: bool, name: &Ident) -> PResult<()>
-    ensures { Gives (reader.as_name (λ flags. may_await) name.now.span name.now.sym (P.seen p.old)) result (P.seen p.new) }
+    ensures { Gives (reader.as_name (λ flags. may_await) name.now.span name.now.sym (P.seen p.old))
+        result (P.seen p.new) }
 {
     if is_name(p.flags(), name.sym.as_str()) {
         return Ok(());
@@ -69,7 +70,8 @@ pub fn as_name<P: Cursor>(p: &mut P, may_await: bool, name: &Ident) -> PResult<(
 /// Records a fault, where it is one.
 #[inline(never)]
 pub fn told_if<P: Cursor>(p: &mut P, is_fault: bool, kind: SyntaxError, span: Span) -> PResult<()>
-    ensures { Gives (told (only is_fault (kind_of kind) span) (P.seen p.old)) result (P.seen p.new) }
+    ensures { Gives (told (only is_fault (kind_of kind) span) (P.seen p.old)) result
+        (P.seen p.new) }
 {
     if !is_fault {
         return Ok(());

@@ -40,7 +40,8 @@ fn stands_around<P: Cursor>(p: &P, label: &Option<Ident>) -> bool
 /// Records that no such label stands around, or that there is nothing to break.
 #[tactic(auto, unfolding(swc_ecma_parser_reader::specs::Reader::unbroken))]
 fn unbroken<P: Cursor>(p: &mut P, label: &Option<Ident>, span: Span) -> PResult<()>
-    ensures { Gives (rules.unbroken (label_of label.now) span (P.seen p.old)) result (P.seen p.new) }
+    ensures { Gives (rules.unbroken (label_of label.now) span (P.seen p.old)) result
+        (P.seen p.new) }
 {
     if !stands_around(p, label) {
         p.fault(SyntaxError::TS1116, span)?;
@@ -68,7 +69,8 @@ pub fn break_stmt<P: Cursor, T: BuildsControl>(alloc: Global, p: &mut P) -> PRes
 /// Records that there is nothing to continue, or that no such label stands around.
 #[tactic(auto, unfolding(swc_ecma_parser_reader::specs::Reader::uncontinued))]
 fn uncontinued<P: Cursor>(p: &mut P, label: &Option<Ident>, span: Span) -> PResult<()>
-    ensures { Gives (rules.uncontinued (label_of label.now) span (P.seen p.old)) result (P.seen p.new) }
+    ensures { Gives (rules.uncontinued (label_of label.now) span (P.seen p.old)) result
+        (P.seen p.new) }
 {
     if !p.flags().is_continue_allowed {
         p.fault(SyntaxError::TS1115, span)?;

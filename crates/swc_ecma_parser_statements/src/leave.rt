@@ -34,7 +34,8 @@ fn misplaced<P: Cursor>(p: &mut P, start: Span) -> PResult<()>
 
 /// The refusal of what stands behind `return`, with the fault of its own recorded. One for want of memory or depth stays as it is.
 fn refused<P: Cursor>(p: &mut P, start: Span, error: Error) -> Error
-    ensures memory { kind_of result.kind ≢ kinds.OutOfMemory → kind_of error.kind ≢ kinds.OutOfMemory }
+    ensures memory { kind_of result.kind ≢ kinds.OutOfMemory → kind_of error.kind
+        ≢ kinds.OutOfMemory }
     ensures gives { kind_of result.kind ≢ kinds.OutOfMemory
         → rules.after_return start (Err (fault_of error, P.seen p.old)) ≡ Err (fault_of result, P.seen p.new) }
 {
@@ -56,8 +57,11 @@ fn operand<
     E: Fn(&MakerOf<T>, &mut P, usize, Reading) -> PResult<Cover<T::Expr>>,
     N: Fn(&MakerOf<T>, &mut P, usize, Part) -> PResult<T::Pat>,
 >(g: &Grammar<S, E, N>, t: &MakerOf<T>, p: &mut P) -> PResult<Option<T::Expr>>
-    requires { Nests P.seen T.expr_of T.pat_of T.stmt_of g.now.depth (S.pre g.now.stmt) (S.post g.now.stmt) (E.pre g.now.expr) (E.post g.now.expr) (N.pre g.now.pat) (N.post g.now.pat) }
-    ensures { GivesAs (part_of T.expr_of) (rules.operand (rules.expr g.now.depth expression) (P.seen p.old)) result (P.seen p.new) }
+    requires { Nests P.seen T.expr_of T.pat_of T.stmt_of g.now.depth
+        (S.pre g.now.stmt) (S.post g.now.stmt) (E.pre g.now.expr) (E.post g.now.expr)
+        (N.pre g.now.pat) (N.post g.now.pat) }
+    ensures { GivesAs (part_of T.expr_of)
+        (rules.operand (rules.expr g.now.depth expression) (P.seen p.old)) result (P.seen p.new) }
 {
     if ends_at(p) {
         return Ok(None);
@@ -75,8 +79,12 @@ fn returned<
     E: Fn(&MakerOf<T>, &mut P, usize, Reading) -> PResult<Cover<T::Expr>>,
     N: Fn(&MakerOf<T>, &mut P, usize, Part) -> PResult<T::Pat>,
 >(g: &Grammar<S, E, N>, t: &MakerOf<T>, p: &mut P, start: Span) -> PResult<T::Stmt>
-    requires { Nests P.seen T.expr_of T.pat_of T.stmt_of g.now.depth (S.pre g.now.stmt) (S.post g.now.stmt) (E.pre g.now.expr) (E.post g.now.expr) (N.pre g.now.pat) (N.post g.now.pat) }
-    ensures { GivesAs T.stmt_of (rules.returned (rules.expr g.now.depth expression) start (P.seen p.old)) result (P.seen p.new) }
+    requires { Nests P.seen T.expr_of T.pat_of T.stmt_of g.now.depth
+        (S.pre g.now.stmt) (S.post g.now.stmt) (E.pre g.now.expr) (E.post g.now.expr)
+        (N.pre g.now.pat) (N.post g.now.pat) }
+    ensures { GivesAs T.stmt_of
+        (rules.returned (rules.expr g.now.depth expression) start (P.seen p.old)) result
+        (P.seen p.new) }
 {
     let arg = operand(g, t, p)?;
     p.end(Wanted::Token(";"))?;
@@ -94,8 +102,12 @@ pub fn return_stmt<
     E: Fn(&MakerOf<T>, &mut P, usize, Reading) -> PResult<Cover<T::Expr>>,
     N: Fn(&MakerOf<T>, &mut P, usize, Part) -> PResult<T::Pat>,
 >(g: &Grammar<S, E, N>, t: &MakerOf<T>, p: &mut P) -> PResult<T::Stmt>
-    requires { Nests P.seen T.expr_of T.pat_of T.stmt_of g.now.depth (S.pre g.now.stmt) (S.post g.now.stmt) (E.pre g.now.expr) (E.post g.now.expr) (N.pre g.now.pat) (N.post g.now.pat) }
-    ensures { GivesAs T.stmt_of (rules.return_stmt (rules.expr g.now.depth expression) (P.seen p.old)) result (P.seen p.new) }
+    requires { Nests P.seen T.expr_of T.pat_of T.stmt_of g.now.depth
+        (S.pre g.now.stmt) (S.post g.now.stmt) (E.pre g.now.expr) (E.post g.now.expr)
+        (N.pre g.now.pat) (N.post g.now.pat) }
+    ensures { GivesAs T.stmt_of
+        (rules.return_stmt (rules.expr g.now.depth expression) (P.seen p.old)) result
+        (P.seen p.new) }
 {
     let start = p.span();
     p.skip()?;
@@ -118,8 +130,11 @@ pub fn throw<
     E: Fn(&MakerOf<T>, &mut P, usize, Reading) -> PResult<Cover<T::Expr>>,
     N: Fn(&MakerOf<T>, &mut P, usize, Part) -> PResult<T::Pat>,
 >(g: &Grammar<S, E, N>, t: &MakerOf<T>, p: &mut P) -> PResult<T::Stmt>
-    requires { Nests P.seen T.expr_of T.pat_of T.stmt_of g.now.depth (S.pre g.now.stmt) (S.post g.now.stmt) (E.pre g.now.expr) (E.post g.now.expr) (N.pre g.now.pat) (N.post g.now.pat) }
-    ensures { GivesAs T.stmt_of (rules.throw (rules.expr g.now.depth expression) (P.seen p.old)) result (P.seen p.new) }
+    requires { Nests P.seen T.expr_of T.pat_of T.stmt_of g.now.depth
+        (S.pre g.now.stmt) (S.post g.now.stmt) (E.pre g.now.expr) (E.post g.now.expr)
+        (N.pre g.now.pat) (N.post g.now.pat) }
+    ensures { GivesAs T.stmt_of (rules.throw (rules.expr g.now.depth expression) (P.seen p.old))
+        result (P.seen p.new) }
 {
     let start = p.span();
     p.skip()?;

@@ -32,7 +32,9 @@ fn misused<P: Cursor, T: BuildsVariables>(
     span: Span,
     declarator: &T::Declarator,
 ) -> PResult<()>
-    ensures { Gives (rules.told (resources.misused span (T.declarator_of declarator.now)) (P.seen p.old)) result (P.seen p.new) }
+    ensures { Gives
+        (rules.told (resources.misused span (T.declarator_of declarator.now)) (P.seen p.old)) result
+        (P.seen p.new) }
 {
     if !T::declares_name(declarator) {
         p.fault(SyntaxError::InvalidNameInUsingDecl, span)?;
@@ -49,7 +51,9 @@ fn each_misused<P: Cursor, T: BuildsVariables>(
     span: Span,
     found: &[T::Declarator],
 ) -> PResult<()>
-    ensures { Gives (rules.told (resources.each_misused span (map T.declarator_of found.now)) (P.seen p.old)) result (P.seen p.new) }
+    ensures { Gives
+        (rules.told (resources.each_misused span (map T.declarator_of found.now)) (P.seen p.old))
+        result (P.seen p.new) }
 {
     'found: for declarator in found {
         misused::<P, T>(p, span, declarator)?;
@@ -64,7 +68,8 @@ fn misusing<P: Cursor, T: BuildsVariables>(
     span: Span,
     found: &[T::Declarator],
 ) -> PResult<()>
-    ensures { Gives (rules.misusing span (map T.declarator_of found.now) (P.seen p.old)) result (P.seen p.new) }
+    ensures { Gives (rules.misusing span (map T.declarator_of found.now) (P.seen p.old)) result
+        (P.seen p.new) }
 {
     if !p.explicit_resource_management() {
         p.fault(SyntaxError::UsingDeclNotEnabled, span)?;
@@ -81,8 +86,13 @@ fn using_from<
     E: Fn(&MakerOf<T>, &mut P, usize, Reading) -> PResult<Cover<T::Expr>>,
     N: Fn(&MakerOf<T>, &mut P, usize, Part) -> PResult<T::Pat>,
 >(g: &Grammar<S, E, N>, t: &MakerOf<T>, p: &mut P, is_await: bool, start: Span) -> PResult<T::Stmt>
-    requires { Nests P.seen T.expr_of T.pat_of T.stmt_of g.now.depth (S.pre g.now.stmt) (S.post g.now.stmt) (E.pre g.now.expr) (E.post g.now.expr) (N.pre g.now.pat) (N.post g.now.pat) }
-    ensures { GivesAs T.stmt_of (rules.using_from (rules.declarators (rules.expr g.now.depth) (rules.pattern g.now.depth) false decl.Var) is_await start (P.seen p.old)) result (P.seen p.new) }
+    requires { Nests P.seen T.expr_of T.pat_of T.stmt_of g.now.depth
+        (S.pre g.now.stmt) (S.post g.now.stmt) (E.pre g.now.expr) (E.post g.now.expr)
+        (N.pre g.now.pat) (N.post g.now.pat) }
+    ensures { GivesAs T.stmt_of
+        (rules.using_from
+        (rules.declarators (rules.expr g.now.depth) (rules.pattern g.now.depth) false decl.Var)
+        is_await start (P.seen p.old)) result (P.seen p.new) }
 {
     p.skip()?;
     let outer = p.flags();
@@ -107,8 +117,13 @@ pub fn using_stmt<
     E: Fn(&MakerOf<T>, &mut P, usize, Reading) -> PResult<Cover<T::Expr>>,
     N: Fn(&MakerOf<T>, &mut P, usize, Part) -> PResult<T::Pat>,
 >(g: &Grammar<S, E, N>, t: &MakerOf<T>, p: &mut P) -> PResult<T::Stmt>
-    requires { Nests P.seen T.expr_of T.pat_of T.stmt_of g.now.depth (S.pre g.now.stmt) (S.post g.now.stmt) (E.pre g.now.expr) (E.post g.now.expr) (N.pre g.now.pat) (N.post g.now.pat) }
-    ensures { GivesAs T.stmt_of (rules.using_stmt (rules.declarators (rules.expr g.now.depth) (rules.pattern g.now.depth) false decl.Var) (P.seen p.old)) result (P.seen p.new) }
+    requires { Nests P.seen T.expr_of T.pat_of T.stmt_of g.now.depth
+        (S.pre g.now.stmt) (S.post g.now.stmt) (E.pre g.now.expr) (E.post g.now.expr)
+        (N.pre g.now.pat) (N.post g.now.pat) }
+    ensures { GivesAs T.stmt_of
+        (rules.using_stmt
+        (rules.declarators (rules.expr g.now.depth) (rules.pattern g.now.depth) false decl.Var)
+        (P.seen p.old)) result (P.seen p.new) }
 {
     let start = p.span();
     using_from(g, t, p, false, start)
@@ -146,9 +161,14 @@ pub fn await_stmt<
     E: Fn(&MakerOf<T>, &mut P, usize, Reading) -> PResult<Cover<T::Expr>>,
     N: Fn(&MakerOf<T>, &mut P, usize, Part) -> PResult<T::Pat>,
 >(g: &Grammar<S, E, N>, t: &MakerOf<T>, p: &mut P, at: Position) -> PResult<T::Stmt>
-    requires readers { Nests P.seen T.expr_of T.pat_of T.stmt_of g.now.depth (S.pre g.now.stmt) (S.post g.now.stmt) (E.pre g.now.expr) (E.post g.now.expr) (N.pre g.now.pat) (N.post g.now.pat) }
-    requires begins { (rules.nests g.now.depth && words.begins_await_using at (P.seen p.now).at) ≡ true }
-    ensures { GivesAs T.stmt_of (words.stmt_behind_await g.now.depth (looks.span_at (P.seen p.old).at) (reader.moved (P.seen p.old))) result (P.seen p.new) }
+    requires readers { Nests P.seen T.expr_of T.pat_of T.stmt_of g.now.depth
+        (S.pre g.now.stmt) (S.post g.now.stmt) (E.pre g.now.expr) (E.post g.now.expr)
+        (N.pre g.now.pat) (N.post g.now.pat) }
+    requires begins { (rules.nests g.now.depth && words.begins_await_using at (P.seen p.now).at)
+        ≡ true }
+    ensures { GivesAs T.stmt_of
+        (words.stmt_behind_await g.now.depth (looks.span_at (P.seen p.old).at)
+        (reader.moved (P.seen p.old))) result (P.seen p.new) }
 {
     let start = p.span();
     p.skip()?;

@@ -33,7 +33,9 @@ fn needs_no_initializer<P: Cursor, T: BuildsPattern>(
     word: VarDeclKind,
     name: &T::Pat,
 ) -> bool
-    ensures { result ≡ variables.needs_no_initializer (P.seen p.now).code in_head word (T.pat_of name.now) (P.seen p.now).at }
+    ensures { result
+        ≡ variables.needs_no_initializer (P.seen p.now).code in_head word (T.pat_of name.now)
+        (P.seen p.now).at }
 {
     in_head && (p.sees(TokenKind::In) || p.word_at("of"))
         || T::is_binding_name(name) && !is_strict_const(p, word)
@@ -54,8 +56,12 @@ fn declarator<
     in_head: bool,
     word: VarDeclKind,
 ) -> PResult<T::Declarator>
-    requires { Nests P.seen T.expr_of T.pat_of T.stmt_of g.now.depth (S.pre g.now.stmt) (S.post g.now.stmt) (E.pre g.now.expr) (E.post g.now.expr) (N.pre g.now.pat) (N.post g.now.pat) }
-    ensures { GivesAs T.declarator_of (rules.declarator (rules.expr g.now.depth) (rules.pattern g.now.depth) in_head word (P.seen p.old)) result (P.seen p.new) }
+    requires { Nests P.seen T.expr_of T.pat_of T.stmt_of g.now.depth
+        (S.pre g.now.stmt) (S.post g.now.stmt) (E.pre g.now.expr) (E.post g.now.expr)
+        (N.pre g.now.pat) (N.post g.now.pat) }
+    ensures { GivesAs T.declarator_of
+        (rules.declarator (rules.expr g.now.depth) (rules.pattern g.now.depth) in_head word
+        (P.seen p.old)) result (P.seen p.new) }
 {
     let start = p.span();
     let name = inner_pat(g, t, p, Part::Pattern)?;
@@ -113,8 +119,12 @@ pub fn declarators<
     in_head: bool,
     word: VarDeclKind,
 ) -> PResult<Vec<T::Declarator>>
-    requires { Nests P.seen T.expr_of T.pat_of T.stmt_of g.now.depth (S.pre g.now.stmt) (S.post g.now.stmt) (E.pre g.now.expr) (E.post g.now.expr) (N.pre g.now.pat) (N.post g.now.pat) }
-    ensures { GivesAs (λ found. map T.declarator_of found.items) (rules.declarators (rules.expr g.now.depth) (rules.pattern g.now.depth) in_head word (P.seen p.old)) result (P.seen p.new) }
+    requires { Nests P.seen T.expr_of T.pat_of T.stmt_of g.now.depth
+        (S.pre g.now.stmt) (S.post g.now.stmt) (E.pre g.now.expr) (E.post g.now.expr)
+        (N.pre g.now.pat) (N.post g.now.pat) }
+    ensures { GivesAs (λ found. map T.declarator_of found.items)
+        (rules.declarators (rules.expr g.now.depth) (rules.pattern g.now.depth) in_head word
+        (P.seen p.old)) result (P.seen p.new) }
 {
     let mut found = Vec::new(t.alloc);
     'declarators: loop {
@@ -142,8 +152,12 @@ pub fn variables<
     E: Fn(&MakerOf<T>, &mut P, usize, Reading) -> PResult<Cover<T::Expr>>,
     N: Fn(&MakerOf<T>, &mut P, usize, Part) -> PResult<T::Pat>,
 >(g: &Grammar<S, E, N>, t: &MakerOf<T>, p: &mut P, word: VarDeclKind) -> PResult<T::Stmt>
-    requires { Nests P.seen T.expr_of T.pat_of T.stmt_of g.now.depth (S.pre g.now.stmt) (S.post g.now.stmt) (E.pre g.now.expr) (E.post g.now.expr) (N.pre g.now.pat) (N.post g.now.pat) }
-    ensures { GivesAs T.stmt_of (rules.variables (rules.expr g.now.depth) (rules.pattern g.now.depth) word (P.seen p.old)) result (P.seen p.new) }
+    requires { Nests P.seen T.expr_of T.pat_of T.stmt_of g.now.depth
+        (S.pre g.now.stmt) (S.post g.now.stmt) (E.pre g.now.expr) (E.post g.now.expr)
+        (N.pre g.now.pat) (N.post g.now.pat) }
+    ensures { GivesAs T.stmt_of
+        (rules.variables (rules.expr g.now.depth) (rules.pattern g.now.depth) word (P.seen p.old))
+        result (P.seen p.new) }
 {
     let start = p.span();
     p.skip()?;
@@ -166,8 +180,14 @@ pub fn const_stmt<
     E: Fn(&MakerOf<T>, &mut P, usize, Reading) -> PResult<Cover<T::Expr>>,
     N: Fn(&MakerOf<T>, &mut P, usize, Part) -> PResult<T::Pat>,
 >(g: &Grammar<S, E, N>, t: &MakerOf<T>, p: &mut P, at: Position) -> PResult<T::Stmt>
-    requires { Nests P.seen T.expr_of T.pat_of T.stmt_of g.now.depth (S.pre g.now.stmt) (S.post g.now.stmt) (E.pre g.now.expr) (E.post g.now.expr) (N.pre g.now.pat) (N.post g.now.pat) }
-    ensures { GivesAs T.stmt_of (rules.const_stmt (rules.stmt g.now.depth) (rules.expr g.now.depth) (rules.pattern g.now.depth) (rules.head_cover g.now.depth) (rules.parameters g.now.depth) (rules.member g.now.depth) (rules.operators g.now.depth) at (P.seen p.old)) result (P.seen p.new) }
+    requires { Nests P.seen T.expr_of T.pat_of T.stmt_of g.now.depth
+        (S.pre g.now.stmt) (S.post g.now.stmt) (E.pre g.now.expr) (E.post g.now.expr)
+        (N.pre g.now.pat) (N.post g.now.pat) }
+    ensures { GivesAs T.stmt_of
+        (rules.const_stmt (rules.stmt g.now.depth) (rules.expr g.now.depth)
+        (rules.pattern g.now.depth) (rules.head_cover g.now.depth) (rules.parameters g.now.depth)
+        (rules.member g.now.depth) (rules.operators g.now.depth) at (P.seen p.old)) result
+        (P.seen p.new) }
 {
     if !at.include_decl {
         return Err(p.wanted(Wanted::Expression));
