@@ -4,6 +4,7 @@ ghost use Rattle.std.specs.Prelude.{◌≡◌, ◌&&◌, IfOk, map};
 ghost use Rattle.swc_ecma_parser_error.specs.Kind.{kind_of};
 ghost use Rattle.swc_ecma_parser_grammar.specs.language.Continues.{continues_conditional};
 ghost use Rattle.swc_ecma_parser_shared.specs.Nests.{Nests};
+ghost use Rattle.swc_ecma_parser_reader.specs.Arrows as arrows;
 ghost use Rattle.swc_ecma_parser_reader.specs.Classes.{class_of};
 ghost use Rattle.swc_ecma_parser_reader.specs.Expressions as exprs;
 ghost use Rattle.swc_ecma_parser_reader.specs.Reader as rules;
@@ -357,8 +358,16 @@ fn operators_expr<
     behind_operators(g, t, p, is_async, start, x)
 }
 
+/// Whether a name and `=>` stand here. The mark is asked for first, since it is the rarer of the two.
+#[tactic(auto, unfolding(swc_ecma_parser_reader::specs::Arrows::begins_named_arrow))]
+fn begins_named_arrow<P: Cursor>(p: &P) -> bool
+    ensures { result ≡ arrows.begins_named_arrow (P.seen p.now).code.flags (P.seen p.now).at }
+{
+    p.next_sees(TokenKind::Arrow) && p.name_at()
+}
+
 /// `yield` and arrow functions, which are no operands, or operands and operators.
-#[tactic(auto, unfolding(swc_ecma_parser_reader::specs::Expressions::plain_expr, swc_ecma_parser_reader::specs::Arrows::begins_named_arrow))]
+#[tactic(auto, unfolding(swc_ecma_parser_reader::specs::Expressions::plain_expr))]
 pub(crate) fn plain_expr<
     P: Cursor,
     T: BuildsExpr + BuildsCall + BuildsMethod + BuildsOperator + BuildsPattern,
@@ -376,7 +385,7 @@ pub(crate) fn plain_expr<
     if begins_yield(p) {
         return yield_expr(g, t, p);
     }
-    if p.name_at() && p.next_sees(TokenKind::Arrow) {
+    if begins_named_arrow(p) {
         return named_arrow(g, t, p);
     }
     if p.sees(TokenKind::LParen) {
