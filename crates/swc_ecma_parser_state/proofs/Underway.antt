@@ -1,8 +1,8 @@
 -- What a call leaves of the state that it began in, where it draws a token, records a fault, holds one back or sets a context.
-use Rattle.std.proofs.Common.{◌≡◌, Bool, true, false, cond, List, [], ◌∷◌, ◌++◌, map, Option, Some, None, refl, sym, ap, ◌∙◌, subst, append-nil, true≢false}
+use Rattle.std.proofs.Common.{◌≡◌, Bool, true, false, cond, List, [], ◌∷◌, ◌++◌, map, Option, Some, None, refl, sym, ap, ◌∙◌, subst, true≢false}
 use Rattle.std.proofs.lemmas.List.{map-append}
 use Rattle.swc_ecma_parser_error.specs.declared.error.Error.{Error}
-use Rattle.swc_ecma_parser_error.specs.Kind.{Fault, fault_of, faults_of}
+use Rattle.swc_ecma_parser_error.specs.Kind.{fault_of, faults_of}
 use Rattle.swc_ecma_parser_grammar.specs.Notes.{as_note}
 use Rattle.swc_ecma_parser_input.specs.declared.context.Context.{Context}
 use Rattle.swc_ecma_parser_input.specs.Buffered as buffered

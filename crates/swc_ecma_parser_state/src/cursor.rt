@@ -7,14 +7,15 @@ use std::alloc::Global;
 use std::mem;
 use swc_ecma_parser_common::{Atom, Span};
 use swc_ecma_parser_cursor::{
-    Around, Cursor, Literal, Wanted, begins_operand, count_labels, ends_key, is_identifier,
-    is_label, may_bind_await,
+    Around, Cursor, Literal, Wanted, begins_operand, count_labels, ends_key, is_label,
+    may_bind_await,
 };
 use swc_ecma_parser_error::{Error, PResult, SyntaxError};
 use swc_ecma_parser_grammar::Position;
 use swc_ecma_parser_input::{Context, Tokens};
 use swc_ecma_parser_model::Ident;
 use swc_ecma_parser_reader::Mark;
+use swc_ecma_parser_reserved::is_free;
 use swc_ecma_parser_token::{Token, TokenAndSpan, TokenKind, Word};
 
 impl<O: Origin, I: Tokens> Cursor for Call<O, I> {
@@ -151,7 +152,7 @@ impl<O: Origin, I: Tokens> Cursor for Call<O, I> {
                     token: Token::Word(word),
                     ..
                 },
-            ) => is_identifier(self.flags(), word.as_str()),
+            ) => is_free(self.flags(), word),
             _ => false,
         }
     }
@@ -377,11 +378,11 @@ impl<O: Origin, I: Tokens> Cursor for Call<O, I> {
 
     #[tactic(auto, using(crate::proofs::Taken::name_none, crate::proofs::Taken::name_clean, crate::proofs::Taken::name_refused, crate::proofs::Taken::name_unclean))]
     fn name(&mut self, wanted: Wanted) -> PResult<Ident> {
-        if !self.name_at() {
-            return Err(self.wanted(wanted));
-        }
         if self.clean_name_at() {
             return self.any_word();
+        }
+        if !self.name_at() {
+            return Err(self.wanted(wanted));
         }
         if !may_bind_await(self.flags()) {
             return Err(self.wanted(Wanted::Name));

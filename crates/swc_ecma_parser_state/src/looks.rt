@@ -9,8 +9,9 @@ ghost use Rattle.swc_ecma_parser_input.specs.Place as place;
 ghost use Rattle.swc_ecma_parser_state.specs.Taken as taken;
 
 use crate::state::{Call, Origin};
-use swc_ecma_parser_cursor::{Cursor, follows_let, is_identifier, is_name};
+use swc_ecma_parser_cursor::{Cursor, follows_let};
 use swc_ecma_parser_input::Tokens;
+use swc_ecma_parser_reserved::{is_clean, is_free};
 use swc_ecma_parser_token::{Token, TokenAndSpan, TokenKind};
 
 impl<O: Origin, I: Tokens> Call<O, I> {
@@ -33,7 +34,7 @@ impl<O: Origin, I: Tokens> Call<O, I> {
                     token: Token::Word(word),
                     ..
                 },
-            ) => is_identifier(self.flags(), word.as_str()),
+            ) => is_free(self.flags(), word),
             _ => false,
         }
     }
@@ -77,7 +78,7 @@ impl<O: Origin, I: Tokens> Call<O, I> {
                     token: Token::Word(word),
                     ..
                 },
-            ) => is_name(self.buffer.ctx(), word.as_str()),
+            ) => is_clean(self.buffer.ctx(), word),
             _ => false,
         }
     }
