@@ -5,7 +5,7 @@ ghost use Rattle.swc_ecma_parser_lexer.specs.Make as read;
 
 use crate::escape::{is_well_escaped, value_of};
 use crate::plain::plain_text;
-use crate::words::keyword_of;
+use crate::words::{is_false, is_null, is_true, keyword_of};
 use std::alloc::{AllocError, Global};
 use swc_ecma_parser_common::{Atom, Span};
 use swc_ecma_parser_error::{Error, SyntaxError};
@@ -18,11 +18,11 @@ fn word_of(alloc: Global, name: &str) -> Result<Word, AllocError>
 {
     let word = if let Some(keyword) = keyword_of(name) {
         Word::Keyword(keyword)
-    } else if name == "null" {
+    } else if is_null(name) {
         Word::Null
-    } else if name == "true" {
+    } else if is_true(name) {
         Word::True
-    } else if name == "false" {
+    } else if is_false(name) {
         Word::False
     } else {
         Word::Ident(Atom::new(alloc, name)?)

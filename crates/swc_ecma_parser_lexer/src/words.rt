@@ -1,6 +1,7 @@
 //! Keywords by their length and first bytes: at most one can be spelled as a name is, so that one comparison tells.
 
-ghost use Rattle.std.specs.Prelude.{◌≡◌};
+ghost use Rattle.std.specs.Prelude.{◌≡◌, codes};
+ghost use Rattle.std.specs.Str.{bytes_eq};
 ghost use Rattle.swc_ecma_parser_lexer.specs.Make as read;
 ghost use Rattle.swc_ecma_parser_lexer.specs.Candidates as candidates;
 
@@ -164,4 +165,31 @@ pub fn keyword_of(name: &str) -> Option<Keyword>
         },
         None => None,
     }
+}
+
+/// Whether a name is `null`: most are told by their length or their first byte.
+#[inline]
+pub fn is_null(name: &str) -> bool
+    ensures { result ≡ bytes_eq name.now (codes "null") }
+{
+    let bytes = name.as_bytes();
+    bytes.len() == 4 && bytes[0] == b'n' && name == "null"
+}
+
+/// Whether a name is `true`: most are told by their length or their first byte.
+#[inline]
+pub fn is_true(name: &str) -> bool
+    ensures { result ≡ bytes_eq name.now (codes "true") }
+{
+    let bytes = name.as_bytes();
+    bytes.len() == 4 && bytes[0] == b't' && name == "true"
+}
+
+/// Whether a name is `false`: most are told by their length or their first byte.
+#[inline]
+pub fn is_false(name: &str) -> bool
+    ensures { result ≡ bytes_eq name.now (codes "false") }
+{
+    let bytes = name.as_bytes();
+    bytes.len() == 5 && bytes[0] == b'f' && name == "false"
 }
