@@ -4,3 +4,4 @@ pub mod Step
 pub mod Scan
 pub mod Runs
 pub mod Splits
+pub mod Lone

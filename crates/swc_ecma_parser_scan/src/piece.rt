@@ -1,11 +1,13 @@
 //! Pieces of a text: tokens, comments, white space and line breaks. Each character is looked at a bounded number of
 //! times, and nothing is allocated.
 
-ghost use Rattle.std.specs.Prelude.{◌≡◌, ◌++◌, [], List, ℕ, MatchOption};
+ghost use Rattle.std.specs.Prelude.{◌≡◌, ◌<◌, ◌++◌, [], List, ℕ, true, get_or, IfSome, MatchOption};
 ghost use Rattle.std.specs.Str.{chars, IsUtf8};
+ghost use Rattle.swc_ecma_parser_scan.specs.Lone as lone;
 ghost use Rattle.swc_ecma_parser_scan.specs.Scan as read;
+ghost use Rattle.swc_ecma_parser_scan.specs.declared.state.State.TheVariants as state;
 
-use crate::chars::first_char;
+use crate::chars::{first_char, is_name_start};
 use crate::run::past_run;
 use crate::state::{Mark, State};
 use crate::step::{begin, step};
@@ -71,12 +73,84 @@ fn before<'a>(text: &'a str, rest: &str) -> &'a str
     &text[..length]
 }
 
+/// A mark that nothing goes on with.
+fn lone_mark(c: char) -> Option<Mark>
+    ensures { IfSome result (λ mark. lone.IsLone c mark) }
+{
+    match c {
+        '(' => Some(Mark::LParen),
+        ')' => Some(Mark::RParen),
+        '[' => Some(Mark::LBracket),
+        ']' => Some(Mark::RBracket),
+        '{' => Some(Mark::LBrace),
+        '}' => Some(Mark::RBrace),
+        ';' => Some(Mark::Semi),
+        ',' => Some(Mark::Comma),
+        ':' => Some(Mark::Colon),
+        _ => None,
+    }
+}
+
+/// Whether a text does not begin with a character beyond ASCII.
+fn is_ascii_ahead(text: &str) -> bool
+    ensures { result ≡ true → get_or text.now 0 0 < 128 }
+{
+    let bytes = text.as_bytes();
+    bytes.is_empty() || bytes[0] < 128
+}
+
+/// A piece that is neither a name of ASCII nor a mark that nothing goes on with. `behind`: the text behind its first
+/// character.
+#[inline(never)]
+fn other<'a>(first: State, behind: &'a str, text: &'a str) -> Munched<'a>
+    ensures state { result.state ≡ (read.settled (chars behind.entry.now) (read.munch first (chars text.entry.now))).state }
+    ensures rest { chars result.rest.now ≡ (read.settled (chars behind.entry.now) (read.munch first (chars text.entry.now))).left }
+    ensures utf8 { IsUtf8 result.rest.now }
+{
+    settle(behind, munch(first, text))
+}
+
+/// A name, of which `behind` stands behind the first character.
+fn name(behind: &str) -> Munched<'_>
+    ensures state { result.state ≡ (read.settled (chars behind.now) (read.munch state.Name (chars behind.now))).state }
+    ensures rest { chars result.rest.now ≡ (read.settled (chars behind.now) (read.munch state.Name (chars behind.now))).left }
+    ensures utf8 { IsUtf8 result.rest.now }
+{
+    let rest = past_run(State::Name, behind);
+    if is_ascii_ahead(rest) {
+        Munched {
+            state: State::Name,
+            rest,
+        }
+    } else {
+        other(State::Name, behind, rest)
+    }
+}
+
+/// How far the piece goes that a character begins.
+fn whole(is_first: bool, c: char, behind: &str) -> Munched<'_>
+    ensures state { result.state ≡ (read.scan is_first c (chars behind.now)).state }
+    ensures rest { chars result.rest.now ≡ (read.scan is_first c (chars behind.now)).left }
+    ensures utf8 { IsUtf8 result.rest.now }
+{
+    if is_name_start(c) {
+        name(behind)
+    } else if let Some(mark) = lone_mark(c) {
+        Munched {
+            state: State::Mark(mark),
+            rest: behind,
+        }
+    } else {
+        other(begin(is_first, c), behind, behind)
+    }
+}
+
 /// The first piece of a text, if it is not empty. `is_first`: nothing stands before the text.
 pub fn scan(is_first: bool, text: &str) -> Option<Piece<'_>>
     ensures { MatchOption result (chars text.now ≡ []) (λ piece. read.IsFirstPiece is_first text.now piece) }
 {
     let (c, behind) = first_char(text)?;
-    let munched = settle(behind, munch(begin(is_first, c), behind));
+    let munched = whole(is_first, c, behind);
     Some(Piece {
         state: munched.state,
         text: before(text, munched.rest),

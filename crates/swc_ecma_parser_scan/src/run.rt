@@ -1,6 +1,6 @@
 //! Runs of bytes that leave a piece as it is.
 
-ghost use Rattle.std.specs.Prelude.{◌≡◌, ◌≤◌, length};
+ghost use Rattle.std.specs.Prelude.{◌≡◌, ◌<◌, ◌≤◌, false, length, get_or};
 ghost use Rattle.std.specs.Str.{chars, IsUtf8};
 ghost use Rattle.swc_ecma_parser_scan.specs.Runs as run;
 ghost use Rattle.swc_ecma_parser_scan.specs.Scan as read;
@@ -52,6 +52,7 @@ fn is_of(class: u8, byte: u8) -> bool
 pub fn past_run(state: State, text: &str) -> &str
     ensures state { (read.munch state (chars result.now)).state ≡ (read.munch state (chars text.now)).state }
     ensures left { (read.munch state (chars result.now)).left ≡ (read.munch state (chars text.now)).left }
+    ensures ends { 0 < length result.now → run.is_of (run.class_of state) (get_or result.now 0 0) ≡ false }
     ensures shorter { length result.now ≤ length text.now }
     ensures utf8 { IsUtf8 result.now }
 {

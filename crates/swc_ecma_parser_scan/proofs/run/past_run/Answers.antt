@@ -28,10 +28,11 @@ loop-at-preserved c =
 pub range_from-requires : goal.range_from-requires
 range_from-requires c = λ _. IsCharBoundary-from_drop c.args.text.now c.loop-at.at c.loop-at.invariant.within c.loop-at.invariant.utf8
 
-pub returns : goal.returns
-returns c = record {
-  state = ap (λ xs. (munch c.args.state (chars xs)).state) c.range_from.ensures.value ∙ c.loop-at.invariant.state;
-  left = ap (λ xs. (munch c.args.state (chars xs)).left) c.range_from.ensures.value ∙ c.loop-at.invariant.left;
-  shorter = omega (arith, ap length c.range_from.ensures.value, length-drop c.loop-at.at c.args.text.now);
-  utf8 = c.range_from.utf8;
-}
+pub returns-clause-state : goal.returns-clause-state
+returns-clause-state c = ap (λ xs. (munch c.args.state (chars xs)).state) c.range_from.ensures.value ∙ c.loop-at.invariant.state
+
+pub returns-clause-left : goal.returns-clause-left
+returns-clause-left c = ap (λ xs. (munch c.args.state (chars xs)).left) c.range_from.ensures.value ∙ c.loop-at.invariant.left
+
+pub returns-clause-shorter : goal.returns-clause-shorter
+returns-clause-shorter c = omega (arith, ap length c.range_from.ensures.value, length-drop c.loop-at.at c.args.text.now)

@@ -1,0 +1,86 @@
+-- Marks that nothing goes on with, and names that end.
+use Rattle.std.proofs.Common.{◌≡◌, ℕ, ◌<◌, Bool, true, false, cond, List, [], ◌∷◌, ◌++◌, length, get_or, Some, None, refl, ap, sym, ◌∙◌, arith}
+use Rattle.std.specs.Str.{chars, IsUtf8}
+use Rattle.std.proofs.lemmas.Str.{encode_ascii, chars_past_char}
+use Rattle.unicode_ident.proofs.IdentLemmas.{is_xid_start-ascii}
+use Rattle.swc_ecma_parser_scan.specs.declared.state.State.{State}
+use Rattle.swc_ecma_parser_scan.specs.declared.state.State.TheVariants as state
+use Rattle.swc_ecma_parser_scan.specs.declared.state.Mark.{Mark}
+use Rattle.swc_ecma_parser_scan.specs.declared.state.Mark.TheVariants as mark
+use Rattle.swc_ecma_parser_scan.specs.Chars.{is_name_start, is_space, is_line_break, is_digit}
+use Rattle.swc_ecma_parser_scan.specs.Step.{begin, begin_mark, step, step_mark, step_name}
+use Rattle.swc_ecma_parser_scan.specs.Scan.{munch, scan, settled}
+use Rattle.swc_ecma_parser_scan.specs.Splits.{munch-end, munch-stop}
+use Rattle.swc_ecma_parser_scan.specs.Runs.{is_of}
+use Rattle.swc_ecma_parser_scan.specs.Lone.{IsLone}
+use Rattle.swc_ecma_parser_scan.proofs.Blanks.{alone}
+use Rattle.swc_ecma_parser_scan.proofs.Bytes.{agree_below, agree_at, is_plain_part, is_name_part-ascii}
+use Rattle.swc_ecma_parser_scan.proofs.Scans.{munch-before}
+
+-- what a piece is follows from what its first character begins
+pub scan-begun : (f : Bool) (c : ℕ) (cs : List ℕ) (s : State) → begin f c ≡ s → scan f c cs ≡ settled cs (munch s cs)
+unfolding scan
+scan-begun f c cs s e = ap (λ s. settled cs (munch s cs)) e
+
+pub name-begun : (f : Bool) (c : ℕ) → is_name_start c ≡ true → begin f c ≡ state.Name
+unfolding begin
+name-begun f c e = rw e refl
+
+munch-lone : (m : Mark) → ((d : ℕ) → step (state.Mark m) d ≡ None) → (cs : List ℕ) → munch (state.Mark m) cs ≡ alone (state.Mark m) cs
+munch-lone m h [] = munch-end (state.Mark m)
+munch-lone m h (d ∷ ds) = munch-stop (state.Mark m) d ds (h d)
+
+lone : (c : ℕ) (m : Mark) → ((f : Bool) → begin f c ≡ state.Mark m) → ((d : ℕ) → step (state.Mark m) d ≡ None) → ((cs : List ℕ) → settled cs (alone (state.Mark m) cs) ≡ alone (state.Mark m) cs) → IsLone c m
+lone c m b h k = λ f cs. scan-begun f c cs (state.Mark m) (b f) ∙ ap (settled cs) (munch-lone m h cs) ∙ k cs
+
+pub lone-40 : IsLone 40 mark.LParen
+unfolding begin begin_mark is_name_start is_space is_line_break is_digit step step_mark settled
+lone-40 = lone 40 mark.LParen (λ f. ap (λ x. cond x state.Name (state.Mark mark.LParen)) (is_xid_start-ascii 40 (omega arith))) (λ d. refl) (λ cs. refl)
+
+pub lone-41 : IsLone 41 mark.RParen
+unfolding begin begin_mark is_name_start is_space is_line_break is_digit step step_mark settled
+lone-41 = lone 41 mark.RParen (λ f. ap (λ x. cond x state.Name (state.Mark mark.RParen)) (is_xid_start-ascii 41 (omega arith))) (λ d. refl) (λ cs. refl)
+
+pub lone-91 : IsLone 91 mark.LBracket
+unfolding begin begin_mark is_name_start is_space is_line_break is_digit step step_mark settled
+lone-91 = lone 91 mark.LBracket (λ f. ap (λ x. cond x state.Name (state.Mark mark.LBracket)) (is_xid_start-ascii 91 (omega arith))) (λ d. refl) (λ cs. refl)
+
+pub lone-93 : IsLone 93 mark.RBracket
+unfolding begin begin_mark is_name_start is_space is_line_break is_digit step step_mark settled
+lone-93 = lone 93 mark.RBracket (λ f. ap (λ x. cond x state.Name (state.Mark mark.RBracket)) (is_xid_start-ascii 93 (omega arith))) (λ d. refl) (λ cs. refl)
+
+pub lone-123 : IsLone 123 mark.LBrace
+unfolding begin begin_mark is_name_start is_space is_line_break is_digit step step_mark settled
+lone-123 = lone 123 mark.LBrace (λ f. ap (λ x. cond x state.Name (state.Mark mark.LBrace)) (is_xid_start-ascii 123 (omega arith))) (λ d. refl) (λ cs. refl)
+
+pub lone-125 : IsLone 125 mark.RBrace
+unfolding begin begin_mark is_name_start is_space is_line_break is_digit step step_mark settled
+lone-125 = lone 125 mark.RBrace (λ f. ap (λ x. cond x state.Name (state.Mark mark.RBrace)) (is_xid_start-ascii 125 (omega arith))) (λ d. refl) (λ cs. refl)
+
+pub lone-59 : IsLone 59 mark.Semi
+unfolding begin begin_mark is_name_start is_space is_line_break is_digit step step_mark settled
+lone-59 = lone 59 mark.Semi (λ f. ap (λ x. cond x state.Name (state.Mark mark.Semi)) (is_xid_start-ascii 59 (omega arith))) (λ d. refl) (λ cs. refl)
+
+pub lone-44 : IsLone 44 mark.Comma
+unfolding begin begin_mark is_name_start is_space is_line_break is_digit step step_mark settled
+lone-44 = lone 44 mark.Comma (λ f. ap (λ x. cond x state.Name (state.Mark mark.Comma)) (is_xid_start-ascii 44 (omega arith))) (λ d. refl) (λ cs. refl)
+
+pub lone-58 : IsLone 58 mark.Colon
+unfolding begin begin_mark is_name_start is_space is_line_break is_digit step step_mark settled
+lone-58 = lone 58 mark.Colon (λ f. ap (λ x. cond x state.Name (state.Mark mark.Colon)) (is_xid_start-ascii 58 (omega arith))) (λ d. refl) (λ cs. refl)
+
+names-ascii : (b : ℕ) → b < 128 → is_of 1 b ≡ is_plain_part b
+unfolding agree_below is_of
+names-ascii b h = agree_at (is_of 1) is_plain_part 128 refl b h
+
+name-stops : (b : ℕ) → b < 128 → is_of 1 b ≡ false → step state.Name b ≡ None
+unfolding step step_name
+name-stops b h e = ap (λ x. cond x (Some state.Name) None) (sym (is_name_part-ascii b h) ∙ sym (names-ascii b h) ∙ e)
+
+-- a name ends before a character of ASCII that is no part of names
+pub name-ends : (text : List ℕ) → IsUtf8 text → (0 < length text → is_of 1 (get_or text 0 0) ≡ false) → get_or text 0 0 < 128 → munch state.Name (chars text) ≡ alone state.Name (chars text)
+unfolding chars
+name-ends [] u e h = munch-end state.Name
+name-ends (b ∷ bs) u e h =
+    let begins : chars (b ∷ bs) ≡ b ∷ chars bs = chars_past_char (b ∷ bs) bs b u (ap (λ xs. xs ++ bs) (sym (encode_ascii b h))) in
+    munch-before state.Name b (chars (b ∷ bs)) (chars bs) begins (sym (name-stops b h (e (omega arith))))
