@@ -96,12 +96,16 @@ impl<'a> Tokens for Lexer<'a> {
     {
         let found = find(self.place, &mut self.comments);
         let Some(piece) = found.piece else {
-            self.place = found.place;
+            self.place.at = found.place.at;
+            self.place.had_line_break = found.place.had_line_break;
+            self.place.rest = found.place.rest;
             return None;
         };
         let span = span_of(found.place, piece);
         let token = token_or_fault(self.alloc, piece.state, piece.text, span);
-        self.place = past(found.place, piece);
+        self.place.at = found.place.at + piece.text.len() as u32;
+        self.place.had_line_break = false;
+        self.place.rest = piece.rest;
         Some(TokenAndSpan {
             token,
             had_line_break: found.place.had_line_break,
