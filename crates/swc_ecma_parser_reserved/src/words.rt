@@ -36,6 +36,22 @@ fn is_clean_keyword(flags: Context, keyword: Keyword) -> bool
     }
 }
 
+/// A special text that is not reserved here. It is asked of few words, and stands apart so that others pass by it.
+#[inline(never)]
+fn is_free_text(flags: Context, text: &str) -> bool
+    ensures { result ≡ names.is_identifier flags text.now }
+{
+    is_identifier(flags, text)
+}
+
+/// The same of names without a fault.
+#[inline(never)]
+fn is_clean_text(flags: Context, text: &str) -> bool
+    ensures { result ≡ names.is_name flags text.now }
+{
+    is_name(flags, text)
+}
+
 /// Not reserved; a text that is no special one is none.
 #[inline]
 #[tactic(auto, unfolding(crate::specs::Words::is_free_word))]
@@ -48,7 +64,7 @@ fn is_free_word(flags: Context, word: &Word) -> bool
         Word::True => false,
         Word::False => false,
         Word::Ident(text) => if is_special(text.as_str()) {
-            is_identifier(flags, text.as_str())
+            is_free_text(flags, text.as_str())
         } else {
             true
         },
@@ -67,7 +83,7 @@ fn is_clean_word(flags: Context, word: &Word) -> bool
         Word::True => false,
         Word::False => false,
         Word::Ident(text) => if is_special(text.as_str()) {
-            is_name(flags, text.as_str())
+            is_clean_text(flags, text.as_str())
         } else {
             true
         },
