@@ -376,20 +376,12 @@ impl<O: Origin, I: Tokens> Cursor for Call<O, I> {
         Err(self.refuse(wanted))
     }
 
-    #[tactic(auto, using(crate::proofs::Taken::name_none, crate::proofs::Taken::name_clean, crate::proofs::Taken::name_refused, crate::proofs::Taken::name_unclean))]
+    #[tactic(auto, using(crate::proofs::Taken::name_clean))]
     fn name(&mut self, wanted: Wanted) -> PResult<Ident> {
         if self.clean_name_at() {
             return self.any_word();
         }
-        if !self.name_at() {
-            return Err(self.wanted(wanted));
-        }
-        if !may_bind_await(self.flags()) {
-            return Err(self.wanted(Wanted::Name));
-        }
-        let name = self.any_word()?;
-        self.fault(SyntaxError::InvalidIdentInAsync, name.span)?;
-        Ok(name)
+        self.unclean_name(wanted)
     }
 
     #[tactic(auto, unfolding(swc_ecma_parser_reader::specs::State::reference))]
@@ -450,5 +442,31 @@ impl<O: Origin, I: Tokens> Cursor for Call<O, I> {
 
     fn set_flags(&mut self, flags: Context) {
         self.buffer.set_ctx(flags);
+    }
+}
+
+impl<O: Origin, I: Tokens> Call<O, I> {
+    ghost use Rattle.std.specs.Prelude.{◌≡◌, false};
+    ghost use Rattle.swc_ecma_parser_cursor.specs.Wanted.{wanted_kind};
+    ghost use Rattle.swc_ecma_parser_reader.specs.State as reader;
+    ghost use Rattle.swc_ecma_parser_reader.specs.State.{Gives};
+    ghost use Rattle.swc_ecma_parser_state.specs.Taken as taken;
+
+    /// A name where no clean one stands: `await` with a fault, or a refusal. Few names come here, so it stands apart.
+    #[tactic(auto, using(crate::proofs::Taken::name_none, crate::proofs::Taken::name_refused, crate::proofs::Taken::name_unclean))]
+    #[inline(never)]
+    fn unclean_name(&mut self, wanted: Wanted) -> PResult<Ident>
+        requires { taken.clean_first self.old.code.flags self.old.at.left ≡ false }
+        ensures { Gives (reader.name (wanted_kind wanted) self.old) result self.new }
+    {
+        if !self.name_at() {
+            return Err(self.wanted(wanted));
+        }
+        if !may_bind_await(self.flags()) {
+            return Err(self.wanted(Wanted::Name));
+        }
+        let name = self.any_word()?;
+        self.fault(SyntaxError::InvalidIdentInAsync, name.span)?;
+        Ok(name)
     }
 }
