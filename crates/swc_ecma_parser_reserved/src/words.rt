@@ -90,7 +90,7 @@ fn is_clean_word(flags: Context, word: &Word) -> bool
     }
 }
 
-/// Whether a word is not reserved here.
+/// Whether a word is not reserved in code with these flags: ECMA-262, section 12.7.2.
 #[inline]
 pub fn is_free(flags: Context, word: &Word) -> bool
     ensures { result ≡ names.is_identifier flags (word_text word.now) }
@@ -98,7 +98,7 @@ pub fn is_free(flags: Context, word: &Word) -> bool
     is_free_word(flags, word)
 }
 
-/// Whether a word names something here without a fault.
+/// Whether a word is a name in code with these flags, and no fault as one: ECMA-262, section 13.1.
 #[inline]
 pub fn is_clean(flags: Context, word: &Word) -> bool
     ensures { result ≡ names.is_name flags (word_text word.now) }
