@@ -1,5 +1,6 @@
 //! The state as what the rules read from: what they ask of the tokens that stand next, and the steps that every rule is made of.
 
+use crate::call::no_memory;
 use crate::entry::copied;
 use crate::state::{Call, Origin};
 use crate::steps::literal_of;
@@ -269,7 +270,11 @@ impl<O: Origin, I: Tokens> Cursor for Call<O, I> {
     }
 
     fn skip(&mut self) -> PResult<()> {
-        let _token = self.take()?;
+        mem::drop(self.buffer.bump());
+        if self.buffer.is_out_of_memory() {
+            self.mark = Some(Mark::OutOfMemory);
+            return Err(no_memory(self.buffer.last_span()));
+        }
         Ok(())
     }
 
