@@ -1,18 +1,23 @@
 -- Marks that nothing goes on with, and names that end.
-use Rattle.std.proofs.Common.{◌≡◌, ℕ, ◌<◌, Bool, true, false, cond, List, [], ◌∷◌, ◌++◌, length, get_or, Some, None, refl, ap, sym, ◌∙◌, arith}
+use Rattle.std.proofs.Common.{◌≡◌, ℕ, ◌<◌, Bool, true, false, ◌==◌, ◌≤◌, cond, List, [], ◌∷◌, ◌++◌, length, get_or, Some, None, refl, ap, sym, ◌∙◌, arith}
 use Rattle.std.specs.Str.{chars, IsUtf8}
+use Rattle.std.proofs.Math.Bool.{and-false}
+use Rattle.std.proofs.Math.Dec.{leb}
+use Rattle.std.proofs.lemmas.Bool.{lt-leb, ne_eqb}
 use Rattle.std.proofs.lemmas.Str.{encode_ascii, chars_past_char}
 use Rattle.unicode_ident.proofs.IdentLemmas.{is_xid_start-ascii}
 use Rattle.swc_ecma_parser_scan.specs.declared.state.State.{State}
 use Rattle.swc_ecma_parser_scan.specs.declared.state.State.TheVariants as state
 use Rattle.swc_ecma_parser_scan.specs.declared.state.Mark.{Mark}
 use Rattle.swc_ecma_parser_scan.specs.declared.state.Mark.TheVariants as mark
+use Rattle.swc_ecma_parser_scan.specs.declared.state.Number.TheVariants as number
+use Rattle.swc_ecma_parser_token.specs.declared.operator.AssignOp.TheVariants as assign
 use Rattle.swc_ecma_parser_scan.specs.Chars.{is_name_start, is_space, is_line_break, is_digit}
-use Rattle.swc_ecma_parser_scan.specs.Step.{begin, begin_mark, step, step_mark, step_name}
+use Rattle.swc_ecma_parser_scan.specs.Step.{begin, begin_mark, begin_operator, only, step, step_assign_op, step_dot, step_mark, step_name}
 use Rattle.swc_ecma_parser_scan.specs.Scan.{munch, scan, settled}
 use Rattle.swc_ecma_parser_scan.specs.Splits.{munch-end, munch-stop}
 use Rattle.swc_ecma_parser_scan.specs.Runs.{is_of}
-use Rattle.swc_ecma_parser_scan.specs.Lone.{IsLone}
+use Rattle.swc_ecma_parser_scan.specs.Lone.{IsAt, IsBefore, IsLone}
 use Rattle.swc_ecma_parser_scan.proofs.Blanks.{alone}
 use Rattle.swc_ecma_parser_scan.proofs.Bytes.{agree_below, agree_at, is_plain_part, is_name_part-ascii}
 use Rattle.swc_ecma_parser_scan.proofs.Scans.{munch-before}
@@ -69,6 +74,27 @@ pub lone-58 : IsLone 58 mark.Colon
 unfolding begin begin_mark is_name_start is_space is_line_break is_digit step step_mark settled
 lone-58 = lone 58 mark.Colon (λ f. ap (λ x. cond x state.Name (state.Mark mark.Colon)) (is_xid_start-ascii 58 (omega arith))) (λ d. refl) (λ cs. refl)
 
+-- `.` and `=`, with a character behind them that they do not go on with
+before : (c : ℕ) (d : ℕ) (s : State) → ((f : Bool) → begin f c ≡ s) → step s d ≡ None → ((cs : List ℕ) → settled cs (alone s cs) ≡ alone s cs) → (cs : List ℕ) → IsAt c (d ∷ cs) s
+before c d s b h k cs = λ f. scan-begun f c (d ∷ cs) s (b f) ∙ ap (settled (d ∷ cs)) (munch-stop s d cs h) ∙ k (d ∷ cs)
+
+no-digit : (d : ℕ) → 58 ≤ d → is_digit d ≡ false
+unfolding is_digit
+no-digit d h = rw (lt-leb d 57 (omega (arith, h))) (and-false (leb 48 d))
+
+pub dot-before : (d : ℕ) → 58 ≤ d → (cs : List ℕ) → IsAt 46 (d ∷ cs) (state.Mark mark.Dot)
+unfolding begin begin_mark is_name_start is_space is_line_break is_digit step step_mark step_dot only settled
+dot-before d h cs =
+    before 46 d (state.Mark mark.Dot) (λ f. ap (λ x. cond x state.Name (state.Mark mark.Dot)) (is_xid_start-ascii 46 (omega arith)))
+    (ap (λ x. cond x (Some (state.Number number.Fraction)) (cond (d == 46) (Some (state.Mark mark.DotDot)) None)) (no-digit d h)
+    ∙ ap (λ x. cond x (Some (state.Mark mark.DotDot)) None) (ne_eqb d 46 (λ e. omega (arith, e, h))))
+    (λ cs. refl) cs
+
+pub assign-before : (cs : List ℕ) → IsAt 61 (32 ∷ cs) (state.AssignOp assign.Assign)
+unfolding begin begin_mark begin_operator is_name_start is_space is_line_break is_digit step step_assign_op only settled
+assign-before cs =
+    before 61 32 (state.AssignOp assign.Assign) (λ f. ap (λ x. cond x state.Name (state.AssignOp assign.Assign)) (is_xid_start-ascii 61 (omega arith))) refl (λ cs. refl) cs
+
 names-ascii : (b : ℕ) → b < 128 → is_of 1 b ≡ is_plain_part b
 unfolding agree_below is_of
 names-ascii b h = agree_at (is_of 1) is_plain_part 128 refl b h
@@ -77,10 +103,18 @@ name-stops : (b : ℕ) → b < 128 → is_of 1 b ≡ false → step state.Name b
 unfolding step step_name
 name-stops b h e = ap (λ x. cond x (Some state.Name) None) (sym (is_name_part-ascii b h) ∙ sym (names-ascii b h) ∙ e)
 
+ascii-ahead : (b : ℕ) (bs : List ℕ) → IsUtf8 (b ∷ bs) → b < 128 → chars (b ∷ bs) ≡ b ∷ chars bs
+ascii-ahead b bs u h = chars_past_char (b ∷ bs) bs b u (ap (λ xs. xs ++ bs) (sym (encode_ascii b h)))
+
 -- a name ends before a character of ASCII that is no part of names
 pub name-ends : (text : List ℕ) → IsUtf8 text → (0 < length text → is_of 1 (get_or text 0 0) ≡ false) → get_or text 0 0 < 128 → munch state.Name (chars text) ≡ alone state.Name (chars text)
 unfolding chars
 name-ends [] u e h = munch-end state.Name
 name-ends (b ∷ bs) u e h =
-    let begins : chars (b ∷ bs) ≡ b ∷ chars bs = chars_past_char (b ∷ bs) bs b u (ap (λ xs. xs ++ bs) (sym (encode_ascii b h))) in
-    munch-before state.Name b (chars (b ∷ bs)) (chars bs) begins (sym (name-stops b h (e (omega arith))))
+    munch-before state.Name b (chars (b ∷ bs)) (chars bs) (ascii-ahead b bs u h) (sym (name-stops b h (e (omega arith))))
+
+-- a mark that ends before the first byte of a text
+pub at-text : (c : ℕ) (text : List ℕ) (s : State) → IsUtf8 text → 0 < length text → IsBefore c (get_or text 0 0) s → IsAt c (chars text) s
+at-text c [] s u l h = absurd (omega arith)
+at-text c (b ∷ bs) s u l h = λ f. ap (scan f c) (ascii-ahead b bs u h.ascii) ∙ h.alone (chars bs) f
+    ∙ ap (λ cs. record { taken = []; left = cs; state = s }) (sym (ascii-ahead b bs u h.ascii))

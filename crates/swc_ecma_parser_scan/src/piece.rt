@@ -11,6 +11,7 @@ use crate::chars::{first_char, is_name_start};
 use crate::run::past_run;
 use crate::state::{Mark, State};
 use crate::step::{begin, step};
+use swc_ecma_parser_token::AssignOp;
 
 /// How far a piece goes.
 #[derive(Clone, Copy)]
@@ -110,6 +111,15 @@ fn other<'a>(first: State, behind: &'a str, text: &'a str) -> Munched<'a>
     settle(behind, munch(first, text))
 }
 
+/// A name that goes on with a character beyond ASCII, or ends before one.
+fn long_name<'a>(behind: &'a str, rest: &'a str) -> Munched<'a>
+    ensures state { result.state ≡ (read.settled (chars behind.entry.now) (read.munch state.Name (chars rest.entry.now))).state }
+    ensures rest { chars result.rest.now ≡ (read.settled (chars behind.entry.now) (read.munch state.Name (chars rest.entry.now))).left }
+    ensures utf8 { IsUtf8 result.rest.now }
+{
+    other(State::Name, behind, rest)
+}
+
 /// A name, of which `behind` stands behind the first character.
 fn name(behind: &str) -> Munched<'_>
     ensures state { result.state ≡ (read.settled (chars behind.now) (read.munch state.Name (chars behind.now))).state }
@@ -123,8 +133,48 @@ fn name(behind: &str) -> Munched<'_>
             rest,
         }
     } else {
-        other(State::Name, behind, rest)
+        long_name(behind, rest)
     }
+}
+
+/// A `.` before a letter, or a `=` before a space: the mark ends there.
+fn mark_before(c: char, next: u8) -> Option<State>
+    ensures { IfSome result (λ found. lone.IsBefore c next found) }
+{
+    match c {
+        '.' => if b'A' <= next && next < 128 {
+            Some(State::Mark(Mark::Dot))
+        } else {
+            None
+        },
+        '=' => if next == b' ' {
+            Some(State::AssignOp(AssignOp::Assign))
+        } else {
+            None
+        },
+        _ => None,
+    }
+}
+
+/// The same, if the text behind the character begins so.
+fn mark_at(c: char, behind: &str) -> Option<State>
+    ensures { IfSome result (λ found. lone.IsAt c (chars behind.now) found) }
+{
+    let bytes = behind.as_bytes();
+    if bytes.len() == 0 {
+        None
+    } else {
+        mark_before(c, bytes[0])
+    }
+}
+
+/// A piece that is read on to its end.
+fn long(is_first: bool, c: char, behind: &str) -> Munched<'_>
+    ensures state { result.state ≡ (read.scan is_first c (chars behind.now)).state }
+    ensures rest { chars result.rest.now ≡ (read.scan is_first c (chars behind.now)).left }
+    ensures utf8 { IsUtf8 result.rest.now }
+{
+    other(begin(is_first, c), behind, behind)
 }
 
 /// How far the piece goes that a character begins.
@@ -140,8 +190,13 @@ fn whole(is_first: bool, c: char, behind: &str) -> Munched<'_>
             state: State::Mark(mark),
             rest: behind,
         }
+    } else if let Some(state) = mark_at(c, behind) {
+        Munched {
+            state,
+            rest: behind,
+        }
     } else {
-        other(begin(is_first, c), behind, behind)
+        long(is_first, c, behind)
     }
 }
 

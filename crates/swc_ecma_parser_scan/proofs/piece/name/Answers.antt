@@ -30,10 +30,10 @@ pub returns-else-is_ascii_ahead-clause-state : goal.returns-else-is_ascii_ahead-
 returns-else-is_ascii_ahead-clause-state c =
     let run = c.past_run-rest in
     let same = settled-same (chars c.args.behind.now) (munch state.Name (chars run.result.now)) (munch state.Name (chars c.args.behind.now)) run.ensures.state run.ensures.left in
-    c.other.ensures.state ∙ same.0
+    c.long_name.ensures.state ∙ same.0
 
 pub returns-else-is_ascii_ahead-clause-rest : goal.returns-else-is_ascii_ahead-clause-rest
 returns-else-is_ascii_ahead-clause-rest c =
     let run = c.past_run-rest in
     let same = settled-same (chars c.args.behind.now) (munch state.Name (chars run.result.now)) (munch state.Name (chars c.args.behind.now)) run.ensures.state run.ensures.left in
-    c.other.ensures.rest ∙ same.1
+    c.long_name.ensures.rest ∙ same.1

@@ -14,11 +14,3 @@ pub returns-then-is_name_start-clause-rest : goal.returns-then-is_name_start-cla
 returns-then-is_name_start-clause-rest c =
     let begun = name-begun c.args.is_first c.args.c (sym c.is_name_start.ensures ∙ c.if-is_name_start.true) in
     c.name.ensures.rest ∙ ap (λ (m : Munched). m.left) (sym (scan-begun c.args.is_first c.args.c (chars c.args.behind.now) state.Name begun))
-
-pub returns-in_default-clause-state : goal.returns-in_default-clause-state
-returns-in_default-clause-state c =
-    c.other.ensures.state ∙ ap (λ (m : Munched). m.state) (sym (scan-begun c.args.is_first c.args.c (chars c.args.behind.now) c.begin.result (sym c.begin.ensures)))
-
-pub returns-in_default-clause-rest : goal.returns-in_default-clause-rest
-returns-in_default-clause-rest c =
-    c.other.ensures.rest ∙ ap (λ (m : Munched). m.left) (sym (scan-begun c.args.is_first c.args.c (chars c.args.behind.now) c.begin.result (sym c.begin.ensures)))
