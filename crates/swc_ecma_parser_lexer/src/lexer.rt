@@ -38,6 +38,14 @@ fn no_memory(at: BytePos) -> Error
     }
 }
 
+/// Records what was held back. It is kept out of `set_ctx`, which is called for most tokens.
+#[inline(never)]
+fn release(faults: &mut FaultLists)
+    ensures { faults.new ≡ record { recorded = faults.old.recorded ++ faults.old.held_back; held_back = [] } }
+{
+    faults.release();
+}
+
 impl<'a> Lexer<'a> {
     /// A lexer at the start of a text, in the default context. With `comments` on it keeps the comments that it reads.
     /// It takes no memory.
@@ -115,7 +123,7 @@ impl<'a> Tokens for Lexer<'a> {
 
     fn set_ctx(&mut self, context: Context) {
         if context.module {
-            self.faults.release();
+            release(&mut self.faults);
         }
         self.context = context;
     }

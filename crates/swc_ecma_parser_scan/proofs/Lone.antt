@@ -1,9 +1,9 @@
 -- Marks that nothing goes on with, and names that end.
-use Rattle.std.proofs.Common.{◌≡◌, ℕ, ◌<◌, Bool, true, false, ◌==◌, ◌≤◌, cond, List, [], ◌∷◌, ◌++◌, length, get_or, Some, None, refl, ap, sym, ◌∙◌, arith}
+use Rattle.std.proofs.Common.{◌≡◌, ℕ, ◌<◌, Bool, true, false, ◌==◌, ◌||◌, ◌≤◌, inl, inr, drop, cond, List, [], ◌∷◌, ◌++◌, length, get_or, Some, None, refl, ap, sym, ◌∙◌, arith}
 use Rattle.std.specs.Str.{chars, IsUtf8}
 use Rattle.std.proofs.Math.Bool.{and-false}
 use Rattle.std.proofs.Math.Dec.{leb}
-use Rattle.std.proofs.lemmas.Bool.{lt-leb, ne_eqb}
+use Rattle.std.proofs.lemmas.Bool.{lt-leb, ne_eqb, eq-eqb, eqb-true, or_cases}
 use Rattle.std.proofs.lemmas.Str.{encode_ascii, chars_past_char}
 use Rattle.unicode_ident.proofs.IdentLemmas.{is_xid_start-ascii}
 use Rattle.swc_ecma_parser_scan.specs.declared.state.State.{State}
@@ -13,14 +13,14 @@ use Rattle.swc_ecma_parser_scan.specs.declared.state.Mark.TheVariants as mark
 use Rattle.swc_ecma_parser_scan.specs.declared.state.Number.TheVariants as number
 use Rattle.swc_ecma_parser_token.specs.declared.operator.AssignOp.TheVariants as assign
 use Rattle.swc_ecma_parser_scan.specs.Chars.{is_name_start, is_space, is_line_break, is_digit}
-use Rattle.swc_ecma_parser_scan.specs.Step.{begin, begin_mark, begin_operator, only, step, step_assign_op, step_dot, step_mark, step_name}
-use Rattle.swc_ecma_parser_scan.specs.Scan.{munch, scan, settled}
+use Rattle.swc_ecma_parser_scan.specs.Step.{begin, begin_mark, begin_operator, only, step, step_assign_op, step_dot, step_mark, step_name, step_str}
+use Rattle.swc_ecma_parser_scan.specs.Scan.{Munched, munch, scan, settled}
 use Rattle.swc_ecma_parser_scan.specs.Splits.{munch-end, munch-stop}
 use Rattle.swc_ecma_parser_scan.specs.Runs.{is_of}
 use Rattle.swc_ecma_parser_scan.specs.Lone.{IsAt, IsBefore, IsLone}
 use Rattle.swc_ecma_parser_scan.proofs.Blanks.{alone}
 use Rattle.swc_ecma_parser_scan.proofs.Bytes.{agree_below, agree_at, is_plain_part, is_name_part-ascii}
-use Rattle.swc_ecma_parser_scan.proofs.Scans.{munch-before}
+use Rattle.swc_ecma_parser_scan.proofs.Scans.{munch-before, munch-past, settled-same}
 
 -- what a piece is follows from what its first character begins
 pub scan-begun : (f : Bool) (c : ℕ) (cs : List ℕ) (s : State) → begin f c ≡ s → scan f c cs ≡ settled cs (munch s cs)
@@ -118,3 +118,49 @@ pub at-text : (c : ℕ) (text : List ℕ) (s : State) → IsUtf8 text → 0 < le
 at-text c [] s u l h = absurd (omega arith)
 at-text c (b ∷ bs) s u l h = λ f. ap (scan f c) (ascii-ahead b bs u h.ascii) ∙ h.alone (chars bs) f
     ∙ ap (λ cs. record { taken = []; left = cs; state = s }) (sym (ascii-ahead b bs u h.ascii))
+
+munch-ended : (c : ℕ) (cs : List ℕ) → munch (state.StrEnd c) cs ≡ alone (state.StrEnd c) cs
+unfolding step
+munch-ended c [] = munch-end (state.StrEnd c)
+munch-ended c (d ∷ ds) = munch-stop (state.StrEnd c) d ds refl
+
+step-closed : (c b : ℕ) → b ≡ c → Some (state.StrEnd c) ≡ step (state.Str c) b
+unfolding step step_str
+step-closed c b e = ap (λ x. cond x (Some (state.StrEnd c)) (cond (b == 92) (Some (state.StrEscape c)) (cond ((b == 10) || (b == 13)) None (Some (state.Str c))))) (sym (eq-eqb b c e))
+
+munch-closed : (c : ℕ) (text : List ℕ) → IsUtf8 text → 0 < length text → c < 128 → get_or text 0 0 ≡ c → munch (state.Str c) (chars text) ≡ record { taken = c ∷ []; left = chars (drop 1 text); state = state.StrEnd c }
+munch-closed c [] u l h e = absurd (omega arith)
+munch-closed c (b ∷ bs) u l h e =
+    munch-past (state.Str c) (state.StrEnd c) b (chars (b ∷ bs)) (chars bs) (ascii-ahead b bs u (omega (arith, h, e))) (step-closed c b e)
+    ∙ ap (λ (m : Munched). record { taken = b ∷ m.taken; left = m.left; state = m.state }) (munch-ended c (chars bs))
+    ∙ ap (λ k. record { taken = k ∷ []; left = chars bs; state = state.StrEnd c }) e
+
+begin-39 : (f : Bool) → begin f 39 ≡ state.Str 39
+unfolding begin is_name_start is_space is_line_break is_digit
+begin-39 f = ap (λ x. cond x state.Name (state.Str 39)) (is_xid_start-ascii 39 (omega arith))
+
+begin-34 : (f : Bool) → begin f 34 ≡ state.Str 34
+unfolding begin is_name_start is_space is_line_break is_digit
+begin-34 f = ap (λ x. cond x state.Name (state.Str 34)) (is_xid_start-ascii 34 (omega arith))
+
+quote-begins : (f : Bool) (c : ℕ) → ((c == 39) || (c == 34)) ≡ true → begin f c ≡ state.Str c
+quote-begins f c e = elim (or_cases (c == 39) (c == 34) e) [
+  | inl h ↦ rw (eqb-true c 39 h) (begin-39 f)
+  | inr h ↦ rw (eqb-true c 34 h) (begin-34 f)
+]
+
+pub quote-ascii : (c : ℕ) → ((c == 39) || (c == 34)) ≡ true → c < 128
+quote-ascii c e = elim (or_cases (c == 39) (c == 34) e) [
+  | inl h ↦ omega (arith, eqb-true c 39 h)
+  | inr h ↦ omega (arith, eqb-true c 34 h)
+]
+
+-- a string that ends where its quote stands again; the text behind one of its runs is left to read
+pub string-whole : (f : Bool) (c : ℕ) (cs text : List ℕ) → ((c == 39) || (c == 34)) ≡ true → IsUtf8 text → 0 < length text → get_or text 0 0 ≡ c → (munch (state.Str c) (chars text)).state ≡ (munch (state.Str c) cs).state → (munch (state.Str c) (chars text)).left ≡ (munch (state.Str c) cs).left → (state.StrEnd c ≡ (scan f c cs).state) × (chars (drop 1 text) ≡ (scan f c cs).left)
+unfolding settled
+string-whole f c cs text q u l e h k =
+    let closed = munch-closed c text u l (quote-ascii c q) e in
+    let begun = scan-begun f c cs (state.Str c) (quote-begins f c q) in
+    let same = settled-same cs (record { taken = c ∷ []; left = chars (drop 1 text); state = state.StrEnd c }) (munch (state.Str c) cs)
+    (ap (λ (m : Munched). m.state) (sym closed) ∙ h) (ap (λ (m : Munched). m.left) (sym closed) ∙ k) in
+    (same.0 ∙ ap (λ (m : Munched). m.state) (sym begun), same.1 ∙ ap (λ (m : Munched). m.left) (sym begun))

@@ -1,7 +1,7 @@
 //! Pieces of a text: tokens, comments, white space and line breaks. Each character is looked at a bounded number of
 //! times, and nothing is allocated.
 
-ghost use Rattle.std.specs.Prelude.{◌≡◌, ◌<◌, ◌++◌, [], List, ℕ, true, get_or, IfSome, MatchOption};
+ghost use Rattle.std.specs.Prelude.{◌≡◌, ◌==◌, ◌||◌, ◌<◌, ◌++◌, [], List, ℕ, true, get_or, IfSome, MatchOption};
 ghost use Rattle.std.specs.Str.{chars, IsUtf8};
 ghost use Rattle.swc_ecma_parser_scan.specs.Lone as lone;
 ghost use Rattle.swc_ecma_parser_scan.specs.Scan as read;
@@ -177,6 +177,31 @@ fn long(is_first: bool, c: char, behind: &str) -> Munched<'_>
     other(begin(is_first, c), behind, behind)
 }
 
+/// Whether a character begins a string.
+fn is_quote(c: char) -> bool
+    ensures { result ≡ (c == 39) || (c == 34) }
+{
+    (c == '\'') | (c == '"')
+}
+
+/// A string without an escape, which ends where its quote stands again. `behind`: the text behind its first quote.
+fn quoted(c: char, behind: &str) -> Option<Munched<'_>>
+    ensures { IfSome result (λ munched. lone.IsWhole c (chars behind.now) munched) }
+{
+    if !is_quote(c) {
+        return None;
+    }
+    let rest = past_run(State::Str(c), behind);
+    let bytes = rest.as_bytes();
+    if bytes.len() == 0 || bytes[0] as char != c {
+        return None;
+    }
+    Some(Munched {
+        state: State::StrEnd(c),
+        rest: &rest[1..],
+    })
+}
+
 /// How far the piece goes that a character begins.
 fn whole(is_first: bool, c: char, behind: &str) -> Munched<'_>
     ensures state { result.state ≡ (read.scan is_first c (chars behind.now)).state }
@@ -195,6 +220,8 @@ fn whole(is_first: bool, c: char, behind: &str) -> Munched<'_>
             state,
             rest: behind,
         }
+    } else if let Some(munched) = quoted(c, behind) {
+        munched
     } else {
         long(is_first, c, behind)
     }
