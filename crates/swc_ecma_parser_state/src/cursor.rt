@@ -2,6 +2,7 @@
 
 use crate::call::no_memory;
 use crate::entry::copied;
+use crate::looks::is_spelled;
 use crate::state::{Call, Origin};
 use crate::steps::literal_of;
 use std::alloc::Global;
@@ -185,7 +186,7 @@ impl<O: Origin, I: Tokens> Cursor for Call<O, I> {
                     token: Token::Word(Word::Ident(word)),
                     ..
                 },
-            ) => word.as_str() == text,
+            ) => is_spelled(word.as_str(), text),
             _ => false,
         }
     }
@@ -198,7 +199,7 @@ impl<O: Origin, I: Tokens> Cursor for Call<O, I> {
                     token: Token::Word(Word::Ident(next)),
                     ..
                 },
-            ) => next.as_str() == text,
+            ) => is_spelled(next.as_str(), text),
             _ => false,
         }
     }

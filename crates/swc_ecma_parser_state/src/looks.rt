@@ -1,6 +1,7 @@
 //! What the state tells of the tokens that stand next, for what the rules ask.
 
 ghost use Rattle.std.specs.Prelude.{◌≡◌, is_none};
+ghost use Rattle.std.specs.Str.{bytes_eq};
 ghost use Rattle.swc_ecma_parser_grammar.specs.Ends as ends;
 ghost use Rattle.swc_ecma_parser_grammar.specs.Follows as follows;
 ghost use Rattle.swc_ecma_parser_grammar.specs.Looks as looks;
@@ -82,4 +83,11 @@ impl<O: Origin, I: Tokens> Call<O, I> {
             _ => false,
         }
     }
+}
+
+/// Whether a word is spelled so. Most words have another length, so the lengths are compared first.
+pub(crate) fn is_spelled(word: &str, text: &str) -> bool
+    ensures { result ≡ bytes_eq word.now text.now }
+{
+    word.len() == text.len() && word == text
 }

@@ -38,6 +38,7 @@ impl<O: Origin, I: Tokens> Call<O, I> {
     }
 
     /// Takes the current token. Where the token behind the next one finds no memory, that is answered.
+    #[inline(always)]
     pub(crate) fn take(&mut self) -> PResult<Option<TokenAndSpan>>
         ensures token { IfOk result (λ t. t ≡ place.first self.old.at.left) }
         ensures state { IfOk result (λ t. self.new ≡ reader.moved self.old) }
@@ -191,6 +192,7 @@ impl<O: Origin, I: Tokens> Call<O, I> {
 
 impl<O: Origin, I: Tokens> Call<O, I> {
     /// The text of a word.
+    #[inline(always)]
     pub(crate) fn word_atom(&mut self, word: Word) -> PResult<Atom>
         ensures ok { IfOk result (λ a. a ≡ word_text word) }
         ensures state { IfOk result (λ a. self.new ≡ self.old) }
