@@ -156,6 +156,156 @@ fn outcome_of(alloc: Global, word: &str, text: &str) -> Result<String, Fail> {
     )
 }
 
+/// Words, short texts and what runs with them write and end with.
+const SHORT_TEXTS: [(&str, &str, &str); 29] = [
+    (
+        "script",
+        "if (a) b; else c",
+        "Script 0..16\n  If 0..16\n||0",
+    ),
+    (
+        "script",
+        "a: a: a: ;",
+        "Script 0..10\n  Labeled 0..10\nfault 6..7 DuplicateLabel\nfault 6..7 DuplicateLabel\nfault 3..4 DuplicateLabel\n||1",
+    ),
+    (
+        "script",
+        "a\n++b",
+        "Script 0..5\n  Expr 0..1\n  Expr 2..5\n||0",
+    ),
+    ("script", "throw\na", "refused 6..7 LineBreakInThrow\n||2"),
+    (
+        "script",
+        "for (;;) { function f() { break; } }",
+        "Script 0..36\n  For 0..36\nfault 26..32 TS1105\n||1",
+    ),
+    (
+        "script",
+        "class A { static { break; } }",
+        "Script 0..29\n  Class 0..29\nfault 19..25 TS1105\n||1",
+    ),
+    (
+        "script",
+        "for (;;) { class A { static { break; } } }",
+        "Script 0..42\n  For 0..42\n||0",
+    ),
+    (
+        "script",
+        "async\nfunction f(){}",
+        "Script 0..20\n  Expr 0..5\n  Fn 6..20\n||0",
+    ),
+    (
+        "script",
+        "class A { get\n*b(){} }",
+        "Script 0..22\n  Class 0..22\n||0",
+    ),
+    (
+        "script",
+        "function f(a = 1) { \"x\"; \"use strict\"; }",
+        "Script 0..40\n  Fn 0..40\nfault 25..38 IllegalLanguageModeDirective\n||1",
+    ),
+    (
+        "script",
+        "for (var a, b of c) ;",
+        "Script 0..21\n  ForOf 0..21\nfault 12..13 TooManyVarInForInHead\n||1",
+    ),
+    (
+        "script",
+        "import 'foo';",
+        "refused 0..6 ImportExportInScript\n||2",
+    ),
+    (
+        "program",
+        "import 'foo';",
+        "Module 0..13\n  Import 0..13\n||0",
+    ),
+    (
+        "module",
+        "export * as foo, { bar } from \"mod\"",
+        "refused 15..16 Expected\n||2",
+    ),
+    (
+        "script",
+        "with (a) return;",
+        "Script 0..16\n  With 0..16\n||0",
+    ),
+    (
+        "module",
+        "with (a) return;",
+        "Module 0..16\n  With 0..16\nfault 0..4 WithInStrict\n||1",
+    ),
+    (
+        "script",
+        "await promise",
+        "Script 0..13\n  Expr 0..13\nfault 0..5 TopLevelAwaitInScript\n||1",
+    ),
+    (
+        "program",
+        "await promise",
+        "Module 0..13\n  Expr 0..13\n||0",
+    ),
+    (
+        "script",
+        "catch (e) {} a",
+        "Script 0..14\n  Expr 0..5\n  Expr 13..14\nfault 0..5 TS1005\n||1",
+    ),
+    (
+        "script",
+        "if (a) let\nx",
+        "Script 0..12\n  If 0..10\n  Expr 11..12\n||0",
+    ),
+    (
+        "script",
+        "if (a) let x",
+        "refused 11..12 ExpectedSemiForExprStmt\n||2",
+    ),
+    (
+        "script",
+        "{ await using; }",
+        "Script 0..16\n  Block 0..16\n||0",
+    ),
+    (
+        "program",
+        "with (a) b; export {};",
+        "Module 0..22\n  With 0..11\n  ExportNamed 12..22\nfault 0..4 WithInStrict\n||1",
+    ),
+    (
+        "module",
+        "#!/usr/bin/env node\nlet x = 4",
+        "Module 0..29\n  Var 20..29\n||0",
+    ),
+    (
+        "script",
+        "class A { constructor() {} constructor() {} }",
+        "Script 0..45\n  Class 0..45\nfault 27..43 DuplicateConstructor\n||1",
+    ),
+    (
+        "script",
+        "() => { 'use strict'; var public; }",
+        "refused 26..32 ExpectedIdent\n||2",
+    ),
+    (
+        "script",
+        "var a b; c",
+        "Script 0..10\n  Var 0..8\n  Expr 9..10\nfault 6..7 TS1005\n||1",
+    ),
+    ("script", "if ()", "refused 4..5 WithLabel\n||2"),
+    (
+        "script",
+        "break;",
+        "Script 0..6\n  Break 0..6\nfault 0..6 TS1105\n||1",
+    ),
+];
+
+#[test]
+fn short_texts(rt: HostRuntime) -> Result<(), Fail> {
+    for (word, text, wanted) in SHORT_TEXTS {
+        let found = outcome_of(rt.alloc(), word, text)?;
+        assert_eq!(rt; found.as_str(), wanted, "{text:?}");
+    }
+    Ok(())
+}
+
 #[test]
 fn modules(rt: HostRuntime) -> Result<(), Fail> {
     let rows = [
@@ -224,6 +374,14 @@ fn words_and_lengths(rt: HostRuntime) -> Result<(), Fail> {
         let found = outcome(rt.alloc(), Given { word, ..text })?;
         assert_eq!(rt; found.as_str(), wanted, "{word:?}");
     }
+    let short = outcome(
+        rt.alloc(),
+        Given {
+            greatest: 2,
+            ..plain(b"ab")
+        },
+    )?;
+    assert_eq!(rt; short.as_str(), "Script 0..2\n  Expr 0..2\n||0");
     for (greatest, wanted) in [
         (10, lines),
         (9, "|input is too long\n|3"),
@@ -342,5 +500,7 @@ fn two_words(alloc: Global) -> io::Result<Vec<String>> {
 fn a_second_word_and_a_writer_for_faults_that_fails(rt: HostRuntime) -> Result<(), Fail> {
     let found = complaint(rt.alloc(), two_words(rt.alloc()), 4)?;
     assert_eq!(rt; found.as_str(), "usag|a|3");
+    let found = complaint(rt.alloc(), words(rt.alloc(), Some("x")), 0)?;
+    assert_eq!(rt; found.as_str(), "|a|3");
     Ok(())
 }

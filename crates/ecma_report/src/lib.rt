@@ -11,6 +11,7 @@ mod texts;
 
 pub use answer::{Goal, Report, Verdict, parse};
 pub use items::show_item;
+pub use lines::{Whole, lines_of_statement};
 pub use modules::show_module;
 pub use programs::show_program;
 pub use statements::show_statement;

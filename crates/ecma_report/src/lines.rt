@@ -105,7 +105,7 @@ fn write_faults(out: &mut String, faults: &[Error]) -> Result<(), AllocError>
 }
 
 /// A script, a module, or one item by itself.
-pub(crate) trait Whole {
+pub trait Whole {
     ghost view_of: { Self → Tree };
 
     /// Writes the lines of the tree: its own, and those of its items if it has any.

@@ -3,13 +3,13 @@
 
 use crate::counting::Counting;
 use ecma_report::{show, show_item, show_module, show_program, show_statement};
-use ecma_texts::{input, let_go, lexer};
+use ecma_texts::sources::{input, let_go};
 use std::alloc::{AllocError, Global};
 use std::test::Fail;
 use swc_ecma_parser::Parser;
 use swc_ecma_parser_error::PResult;
-use swc_ecma_parser_input::Tokens;
-use swc_ecma_parser_lexer::{Lexer, StringInput};
+use swc_ecma_parser_input::{Syntax, Tokens};
+use swc_ecma_parser_lexer::Lexer;
 
 /// One of the calls by which a parser reads.
 #[derive(Clone, Copy)]
@@ -52,9 +52,14 @@ fn last_answer<I: Tokens>(
     Ok(last)
 }
 
+/// A lexer of a text that counts.
+fn lexer(alloc: Global, text: &str) -> Counting<Lexer<'_>> {
+    Counting::new(Lexer::new(alloc, Syntax::default(), input(text), false))
+}
+
 /// A parser of a text that counts.
-fn counting(alloc: Global, input: StringInput<'_>) -> Parser<Counting<Lexer<'_>>> {
-    Parser::new_from(alloc, Counting::new(lexer(alloc, input)))
+fn counting(alloc: Global, text: &str) -> Parser<Counting<Lexer<'_>>> {
+    Parser::new_from(alloc, lexer(alloc, text))
 }
 
 /// How many tokens a parser has drawn, and how often its source answered that none is left.
@@ -68,11 +73,11 @@ fn counts<I: Tokens>(parser: Parser<Counting<I>>) -> (usize, usize) {
 /// The last of so many answers of a parser of a text, and what it has counted then.
 fn counted(
     alloc: Global,
-    input: StringInput<'_>,
+    text: &str,
     entry: Entry,
     times: u32,
 ) -> Result<(String, (usize, usize)), AllocError> {
-    let mut parser = counting(alloc, input);
+    let mut parser = counting(alloc, text);
     let last = last_answer(alloc, &mut parser, entry, times);
     let counts = counts(parser);
     Ok((last?, counts))
@@ -89,7 +94,7 @@ fn two_tokens_are_drawn_ahead(rt: HostRuntime) -> Result<(), Fail> {
         (4, "refused 7..7 Eof\n", 5, 1),
         (5, "refused 7..7 Eof\n", 5, 1),
     ] {
-        let (last, found) = counted(rt.alloc(), input("a; b; c")?, Entry::StmtListItem, items)?;
+        let (last, found) = counted(rt.alloc(), "a; b; c", Entry::StmtListItem, items)?;
         assert_eq!(rt; last.as_str(), wanted);
         assert_eq!(rt; found, (tokens, ends), "behind {items}");
     }
@@ -109,7 +114,7 @@ fn a_look_ahead_draws_no_more(rt: HostRuntime) -> Result<(), Fail> {
         ("do a; while (b) c; d", "  DoWhile 0..15\n", 9),
         ("for (a of b) c; d; e", "  ForOf 0..15\n", 10),
     ] {
-        let (last, found) = counted(rt.alloc(), input(text)?, Entry::StmtListItem, 1)?;
+        let (last, found) = counted(rt.alloc(), text, Entry::StmtListItem, 1)?;
         assert_eq!(rt; last.as_str(), wanted);
         assert_eq!(rt; found, (tokens, 0), "of {text}");
     }
@@ -145,7 +150,7 @@ fn none_is_asked_for_once(rt: HostRuntime) -> Result<(), Fail> {
             Entry::StmtListItem,
             Entry::ModuleItem,
         ] {
-            let (last, found) = counted(rt.alloc(), input(text)?, entry, 6)?;
+            let (last, found) = counted(rt.alloc(), text, entry, 6)?;
             let head = head_behind_all(rt.alloc(), entry, end)?;
             assert!(rt; last.starts_with(head.as_str()), "{last}");
             assert_eq!(rt; found, (tokens, 1), "of {text}");
@@ -171,7 +176,7 @@ fn cloned<I: Tokens>(
 #[test]
 fn a_clone_counts_on(rt: HostRuntime) -> Result<(), Fail> {
     for (items, tokens, ends) in [(0, 2, 0), (1, 4, 0), (2, 5, 1), (3, 5, 1), (4, 5, 1)] {
-        let mut parser = counting(rt.alloc(), input("a; b; c")?);
+        let mut parser = counting(rt.alloc(), "a; b; c");
         let found = cloned(rt.alloc(), &mut parser, items);
         let left = counts(parser);
         assert_eq!(rt; found?, (5, 1));
@@ -201,7 +206,7 @@ fn each_answer_is_counted(rt: HostRuntime) -> Result<(), Fail> {
         (3, (true, 2, 1)),
         (5, (true, 2, 3)),
     ] {
-        let source = Counting::new(lexer(rt.alloc(), input("a;")?));
+        let source = lexer(rt.alloc(), "a;");
         assert_eq!(rt; drawn(source, times), wanted);
     }
     Ok(())

@@ -1,9 +1,5 @@
-//! Tests of parsers: each of their public functions once, and what they answer for single statements and single items of modules.
+//! Tests of parsers that no row can be: what they hand out beside trees and faults.
 #![tactic(auto)]
 
-#[cfg(test)]
-mod items;
-#[cfg(test)]
-mod module_items;
 #[cfg(test)]
 mod parsers;

@@ -6,6 +6,8 @@ mod check;
 #[cfg(test)]
 mod faults;
 #[cfg(test)]
+mod lexers;
+#[cfg(test)]
 mod places;
 #[cfg(test)]
 mod sizes;

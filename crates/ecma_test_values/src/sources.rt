@@ -147,6 +147,23 @@ fn a_list_is_drawn_and_copied(rt: HostRuntime) {
     expect(&rt, out, written, SOURCE);
 }
 
+/// Whether tokens are in order, and whether they are the other way round.
+fn orders(alloc: Global) -> Result<(bool, bool), AllocError> {
+    let mut tokens = Vec::new(alloc);
+    let are_put = put(&mut tokens);
+    let before = spans_ordered(tokens.as_slice());
+    tokens.reverse();
+    let behind = spans_ordered(tokens.as_slice());
+    let_go(tokens);
+    are_put?;
+    Ok((before, behind))
+}
+
+#[test]
+fn another_order_is_noticed(rt: HostRuntime) {
+    shows(&rt, rt.alloc(), orders(rt.alloc()), "Ok((true, false))\n");
+}
+
 /// How many tokens a source has kept, how many it has then, and how many its copy.
 fn kept<I: Tokens>(source: &mut Capturing<I>) -> Result<(usize, usize, usize), AllocError> {
     let mut copy = made(source.try_clone())?;
