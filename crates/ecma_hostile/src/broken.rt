@@ -1,28 +1,25 @@
 //! Lists that are broken at one place: an error token or a stray bracket stands there, or the list is cut. Each entry is asked three
 //! times over each such list.
 
-use ecma_row_format::asked::{Asked, ENTRIES, Entry};
+use ecma_row_format::asked::{Asked, ENTRIES};
 use ecma_row_format::row::{asked, is_of_tokens, read, text};
 use ecma_row_format::tally::Tally;
-use ecma_texts::answers::{Answer, discard, lacks_memory, refusal};
+use ecma_texts::answers::{Answer, call, discard, lacks_memory, refusal};
 use ecma_texts::sources::{error_at, let_go, listed, tokens};
 use serde_json::Value;
 use std::alloc::{AllocError, Global};
-use swc_ecma_parser::ast::{ModuleItem, Program, Stmt};
+use swc_ecma_parser::Parser;
+use swc_ecma_parser::ast::{Module, ModuleItem, Program, Script, Stmt};
 use swc_ecma_parser::common::{BytePos, Span, Spanned};
 use swc_ecma_parser::error::SyntaxError;
 use swc_ecma_parser::input::{Context, TokensInput};
 use swc_ecma_parser::token::{Token, TokenAndSpan};
-use swc_ecma_parser_ast_trees::Ast;
-use swc_ecma_parser_entries::entry::{item, module, program, script, statement};
-use swc_ecma_parser_grammar::Position;
-use swc_ecma_parser_state::State;
 
 /// The longest list that is broken.
 const LONGEST: usize = 100;
 
 /// The levels within which lists are read.
-const LIMIT: usize = 1000;
+const LIMIT: u32 = 1000;
 
 /// How a list is broken.
 #[derive(Clone, Copy, Debug)]
@@ -42,57 +39,6 @@ const BREAKS: [Break; 5] = [
     Break::Brace,
     Break::Cut,
 ];
-
-/// Asks a state for a statement, which may be a declaration or not.
-fn call_statement(
-    alloc: Global,
-    state: State<TokensInput>,
-    include_decl: bool,
-    top_level: bool,
-) -> (State<TokensInput>, Answer) {
-    let at = Position {
-        include_decl,
-        top_level,
-    };
-    let (state, read) = statement::<TokensInput, Ast>(alloc, state, LIMIT, at);
-    (state, Answer::Statement(read))
-}
-
-/// Asks a state for a script.
-fn call_script(alloc: Global, state: State<TokensInput>) -> (State<TokensInput>, Answer) {
-    let (state, read) = script::<TokensInput, Ast>(alloc, state, LIMIT);
-    (state, Answer::Script(read))
-}
-
-/// Asks a state for a module.
-fn call_module(alloc: Global, state: State<TokensInput>) -> (State<TokensInput>, Answer) {
-    let (state, read) = module::<TokensInput, Ast>(alloc, state, LIMIT);
-    (state, Answer::Module(read))
-}
-
-/// Asks a state for a program.
-fn call_program(alloc: Global, state: State<TokensInput>) -> (State<TokensInput>, Answer) {
-    let (state, read) = program::<TokensInput, Ast>(alloc, state, LIMIT);
-    (state, Answer::Program(read))
-}
-
-/// Asks a state for an item of a module.
-fn call_item(alloc: Global, state: State<TokensInput>) -> (State<TokensInput>, Answer) {
-    let (state, read) = item::<TokensInput, Ast>(alloc, state, LIMIT);
-    (state, Answer::Item(read))
-}
-
-/// Asks a state once, as a parser does.
-fn call(alloc: Global, state: State<TokensInput>, asked: Asked) -> (State<TokensInput>, Answer) {
-    match asked.entry {
-        Entry::Script => call_script(alloc, state),
-        Entry::Module => call_module(alloc, state),
-        Entry::Program => call_program(alloc, state),
-        Entry::Item => call_item(alloc, state),
-        Entry::Statement => call_statement(alloc, state, false, asked.top_level),
-        Entry::ListItem => call_statement(alloc, state, true, asked.top_level),
-    }
-}
 
 /// Where a node ends that runs forward from a place on.
 fn end_of(span: Span, from: BytePos) -> Option<BytePos> {
@@ -120,19 +66,40 @@ fn end_of_items(items: &[ModuleItem], from: BytePos) -> Option<BytePos> {
     Some(end)
 }
 
-/// Where a program's last item ends, if they run forward.
+/// Where a whole ends that runs forward from a place on and whose last item ends in it, if its items run forward.
+fn end_of_whole(span: Span, items: Option<BytePos>, from: BytePos) -> Option<BytePos> {
+    let end = end_of(span, from)?;
+    if items? > end {
+        return None;
+    }
+    Some(end)
+}
+
+/// Where a script ends, if it runs forward.
+fn end_of_script(script: &Script, from: BytePos) -> Option<BytePos> {
+    let items = end_of_statements(script.body.as_slice(), script.span.lo);
+    end_of_whole(script.span, items, from)
+}
+
+/// Where a module ends, if it runs forward.
+fn end_of_module(module: &Module, from: BytePos) -> Option<BytePos> {
+    let items = end_of_items(module.body.as_slice(), module.span.lo);
+    end_of_whole(module.span, items, from)
+}
+
+/// Where a program ends, if it runs forward.
 fn end_of_program(program: &Program, from: BytePos) -> Option<BytePos> {
     match program {
-        Program::Module(module) => end_of_items(module.body.as_slice(), from),
-        Program::Script(script) => end_of_statements(script.body.as_slice(), from),
+        Program::Module(module) => end_of_module(module, from),
+        Program::Script(script) => end_of_script(script, from),
     }
 }
 
 /// Where an answer ends, if it runs forward; where it begins, if it is a refusal.
 fn end_of_answer(answer: &Answer, from: BytePos) -> Option<BytePos> {
     match answer {
-        Answer::Script(Ok(script)) => end_of_statements(script.body.as_slice(), from),
-        Answer::Module(Ok(module)) => end_of_items(module.body.as_slice(), from),
+        Answer::Script(Ok(script)) => end_of_script(script, from),
+        Answer::Module(Ok(module)) => end_of_module(module, from),
         Answer::Program(Ok(program)) => end_of_program(program, from),
         Answer::Item(Ok(item)) => end_of(item.span(), from),
         Answer::Statement(Ok(statement)) => end_of(statement.span(), from),
@@ -140,7 +107,7 @@ fn end_of_answer(answer: &Answer, from: BytePos) -> Option<BytePos> {
     }
 }
 
-/// What a state is in before a call.
+/// What a parser is in before a call.
 #[derive(Clone, Copy)]
 struct Before {
     context: Context,
@@ -148,9 +115,31 @@ struct Before {
     end: BytePos,
 }
 
+/// What a parser is in before a call, where what it read ended here.
+fn before(parser: &Parser<TokensInput>, end: BytePos) -> Before {
+    let state = parser.state();
+    Before {
+        context: state.flags(),
+        found_module_item: state.found_module_item(),
+        end,
+    }
+}
+
+/// What a refusal has not set back.
+fn left_changed(parser: &Parser<TokensInput>, before: Before) -> Option<&'static str> {
+    let state = parser.state();
+    if !state.labels().is_empty() {
+        return Some("a label is left");
+    }
+    if state.flags() != before.context || state.found_module_item() != before.found_module_item {
+        return Some("another context");
+    }
+    None
+}
+
 /// What is wrong with an answer, and where it ends.
 fn judged(
-    state: &State<TokensInput>,
+    parser: &Parser<TokensInput>,
     before: Before,
     answer: &Answer,
 ) -> (Option<&'static str>, BytePos) {
@@ -158,14 +147,7 @@ fn judged(
         return (Some("no memory"), before.end);
     }
     if refusal(answer).is_some() {
-        if !state.labels().is_empty() {
-            return (Some("a label is left"), before.end);
-        }
-        if state.flags() != before.context
-            || state.found_module_item() != before.found_module_item
-        {
-            return (Some("another context"), before.end);
-        }
+        return (left_changed(parser, before), before.end);
     }
     match end_of_answer(answer, before.end) {
         Some(end) => (None, end),
@@ -173,46 +155,46 @@ fn judged(
     }
 }
 
-/// Takes the faults of a state, and tells whether some are left.
-fn leaves_faults(state: &mut State<TokensInput>) -> bool {
-    let_go(state.take_errors());
-    let left = state.take_errors();
+/// Takes the faults of a parser, and tells whether some are left.
+fn leaves_faults(parser: &mut Parser<TokensInput>) -> bool {
+    let_go(parser.take_errors());
+    let left = parser.take_errors();
     let is_left = !left.is_empty();
     let_go(left);
     is_left
 }
 
-/// Asks a state once; what is wrong with the answer, and where it ends.
+/// Asks a parser once; what is wrong with the answer, and where it ends.
 fn ask(
-    alloc: Global,
-    state: State<TokensInput>,
+    parser: &mut Parser<TokensInput>,
     asked: Asked,
     end: BytePos,
-) -> (State<TokensInput>, Option<&'static str>, BytePos) {
-    let before = Before {
-        context: state.flags(),
-        found_module_item: state.found_module_item(),
-        end,
-    };
-    let (state, answer) = call(alloc, state, asked);
-    let mut state = state;
-    let (flaw, end) = judged(&state, before, &answer);
+) -> (Option<&'static str>, BytePos) {
+    let before = before(parser, end);
+    let answer = call(parser, asked);
+    let (flaw, end) = judged(parser, before, &answer);
     discard(answer);
-    if leaves_faults(&mut state) {
-        return (state, Some("a fault is left"), end);
+    if leaves_faults(parser) {
+        return (Some("a fault is left"), end);
     }
-    (state, flaw, end)
+    (flaw, end)
+}
+
+/// Asks a parser three times; what is wrong with an answer.
+fn ask_thrice(parser: &mut Parser<TokensInput>, asked: Asked) -> Option<&'static str> {
+    let (first, end) = ask(parser, asked, BytePos(0));
+    let (second, end) = ask(parser, asked, end);
+    let (third, _) = ask(parser, asked, end);
+    first.or(second).or(third)
 }
 
 /// Asks an entry three times over a list; what is wrong with an answer.
 fn flaw(alloc: Global, tokens: Vec<TokenAndSpan>, asked: Asked) -> Option<&'static str> {
-    let state = State::new(alloc, listed(alloc, tokens, asked));
-    let start = BytePos(0);
-    let (state, first, end) = ask(alloc, state, asked, start);
-    let (state, second, end) = ask(alloc, state, asked, end);
-    let (state, third, _) = ask(alloc, state, asked, end);
-    let_go(state);
-    first.or(second).or(third)
+    let list = listed(alloc, tokens, asked);
+    let mut parser = Parser::new_from_limited(alloc, list, LIMIT);
+    let flaw = ask_thrice(&mut parser, asked);
+    let_go(parser);
+    flaw
 }
 
 /// A bracket of no width.

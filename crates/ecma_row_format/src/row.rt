@@ -50,22 +50,9 @@ pub fn is_of_tokens(row: &Value) -> bool {
     text_or(row, "entry", "") == "lex"
 }
 
-/// Whether a row is one of an expression by itself.
-pub fn is_of_expression(row: &Value) -> bool {
-    text_or(row, "entry", "") == "expression"
-}
-
-/// The entry that a row names; that of scripts where it names none, or an expression.
-fn entry(row: &Value) -> Option<Entry> {
-    if is_of_expression(row) {
-        return Some(Entry::Script);
-    }
-    Entry::named(text_or(row, "entry", "parse_script"))
-}
-
 /// What a row asks for, if it is written as one.
 pub fn asked(row: &Value) -> Option<Asked> {
-    let entry = entry(row)?;
+    let entry = Entry::named(text_or(row, "entry", "parse_script"))?;
     let code = Code::named(text_or(row, "code", "script"))?;
     let settings = settings(row)?;
     Some(Asked {

@@ -1,11 +1,10 @@
 //! Rows, and in what their texts are unlike them.
 
-use crate::expression::check_expression;
 use crate::lexed::check_tokens;
 use crate::limits::write_limits;
 use ecma_row_format::asked::Asked;
 use ecma_row_format::lines::{answers_agree, lines_agree};
-use ecma_row_format::row::{asked, is_of_expression, is_of_tokens, read, text};
+use ecma_row_format::row::{asked, is_of_tokens, read, text};
 use ecma_row_format::tally::Tally;
 use ecma_row_format::trees::write_trees;
 use ecma_texts::answers::Found;
@@ -52,9 +51,6 @@ fn unlike(alloc: Global, row: &Value) -> Result<String, AllocError> {
         return Ok(out);
     }
     match asked(row) {
-        Some(asked) if is_of_expression(row) => {
-            check_expression(alloc, &mut out, row, text.as_str(), asked)?
-        }
         Some(asked) => write_unlike(alloc, &mut out, row, text.as_str(), asked)?,
         None => writeln!(out, "  no row")?,
     }

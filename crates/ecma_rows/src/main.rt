@@ -3,7 +3,6 @@
 #![tactic(auto)]
 
 mod check;
-mod expression;
 mod lexed;
 mod limits;
 

@@ -22,7 +22,7 @@ ghost use Rattle.swc_ecma_parser_exactness.specs.Decides.{DecidesScript, Decides
 ghost use Rattle.swc_ecma_parser_exactness.specs.ModuleDecides.{DecidesModule, DecidesItem, DecidesProgram};
 ghost use Rattle.swc_ecma_parser_exactness.specs.Supports.{Ordered};
 ghost use Rattle.swc_ecma_parser_exactness.specs.Walked.{Walked, whole_module_walk};
-ghost use Rattle.swc_ecma_parser_state.specs.Contents.{source_of};
+ghost use Rattle.swc_ecma_parser_state.specs.Contents.{seen, source_of};
 ghost use Rattle.swc_ecma_parser_state.specs.Keeps.{Keeps};
 ghost use Rattle.swc_ecma_parser_state.specs.Opened.{fresh, opened};
 ghost use Rattle.swc_ecma_parser_token.specs.declared.token.Token.TheVariants as token;
@@ -604,6 +604,14 @@ impl<I: Tokens> Parser<I> {
         let (state, read) = statement::<I, Ast>(alloc, state, limit, at);
         self.state = Some(state);
         read
+    }
+
+    /// The state that calls read from, as it is between two of them: the context of the code around, its labels, and whether
+    /// something was read that makes a program a module. A refused call leaves these as they were, and no label.
+    pub fn state(&self) -> &State<I>
+        ensures { seen result.now ≡ self.now.state }
+    {
+        self.state.as_ref().unwrap()
     }
 
     /// Whether memory ran out for one of the two tokens that were read ahead, as by the functions that make a parser. A call
