@@ -116,7 +116,7 @@ struct Before {
 }
 
 /// What a parser is in before a call, where what it read ended here.
-fn before(parser: &Parser<TokensInput>, end: BytePos) -> Before {
+fn seen_before(parser: &Parser<TokensInput>, end: BytePos) -> Before {
     let state = parser.state();
     Before {
         context: state.flags(),
@@ -170,7 +170,7 @@ fn ask(
     asked: Asked,
     end: BytePos,
 ) -> (Option<&'static str>, BytePos) {
-    let before = before(parser, end);
+    let before = seen_before(parser, end);
     let answer = call(parser, asked);
     let (flaw, end) = judged(parser, before, &answer);
     discard(answer);
