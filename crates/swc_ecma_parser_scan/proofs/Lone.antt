@@ -12,8 +12,9 @@ use Rattle.swc_ecma_parser_scan.specs.declared.state.Mark.{Mark}
 use Rattle.swc_ecma_parser_scan.specs.declared.state.Mark.TheVariants as mark
 use Rattle.swc_ecma_parser_scan.specs.declared.state.Number.TheVariants as number
 use Rattle.swc_ecma_parser_token.specs.declared.operator.AssignOp.TheVariants as assign
+use Rattle.swc_ecma_parser_token.specs.declared.operator.BinOpToken.TheVariants as bin
 use Rattle.swc_ecma_parser_scan.specs.Chars.{is_name_start, is_space, is_line_break, is_digit}
-use Rattle.swc_ecma_parser_scan.specs.Step.{begin, begin_mark, begin_operator, only, step, step_assign_op, step_dot, step_mark, step_name, step_str}
+use Rattle.swc_ecma_parser_scan.specs.Step.{begin, begin_mark, begin_operator, doubled, only, step, step_bin_op, step_assign_op, step_dot, step_mark, step_name, step_str}
 use Rattle.swc_ecma_parser_scan.specs.Scan.{Munched, munch, scan, settled}
 use Rattle.swc_ecma_parser_scan.specs.Splits.{munch-end, munch-stop}
 use Rattle.swc_ecma_parser_scan.specs.Runs.{is_of}
@@ -74,7 +75,7 @@ pub lone-58 : IsLone 58 mark.Colon
 unfolding begin begin_mark is_name_start is_space is_line_break is_digit step step_mark settled
 lone-58 = lone 58 mark.Colon (λ f. ap (λ x. cond x state.Name (state.Mark mark.Colon)) (is_xid_start-ascii 58 (omega arith))) (λ d. refl) (λ cs. refl)
 
--- `.` and `=`, with a character behind them that they do not go on with
+-- a mark with a character behind it that it does not go on with
 before : (c : ℕ) (d : ℕ) (s : State) → ((f : Bool) → begin f c ≡ s) → step s d ≡ None → ((cs : List ℕ) → settled cs (alone s cs) ≡ alone s cs) → (cs : List ℕ) → IsAt c (d ∷ cs) s
 before c d s b h k cs = λ f. scan-begun f c (d ∷ cs) s (b f) ∙ ap (settled (d ∷ cs)) (munch-stop s d cs h) ∙ k (d ∷ cs)
 
@@ -90,10 +91,60 @@ dot-before d h cs =
     ∙ ap (λ x. cond x (Some (state.Mark mark.DotDot)) None) (ne_eqb d 46 (λ e. omega (arith, e, h))))
     (λ cs. refl) cs
 
-pub assign-before : (cs : List ℕ) → IsAt 61 (32 ∷ cs) (state.AssignOp assign.Assign)
-unfolding begin begin_mark begin_operator is_name_start is_space is_line_break is_digit step step_assign_op only settled
-assign-before cs =
+pub space-behind-61 : (cs : List ℕ) → IsAt 61 (32 ∷ cs) (state.AssignOp assign.Assign)
+unfolding begin begin_mark begin_operator is_name_start is_space is_line_break is_digit step step_mark step_assign_op step_bin_op doubled only settled
+space-behind-61 cs =
     before 61 32 (state.AssignOp assign.Assign) (λ f. ap (λ x. cond x state.Name (state.AssignOp assign.Assign)) (is_xid_start-ascii 61 (omega arith))) refl (λ cs. refl) cs
+
+pub space-behind-60 : (cs : List ℕ) → IsAt 60 (32 ∷ cs) (state.BinOp bin.Lt)
+unfolding begin begin_mark begin_operator is_name_start is_space is_line_break is_digit step step_mark step_assign_op step_bin_op doubled only settled
+space-behind-60 cs =
+    before 60 32 (state.BinOp bin.Lt) (λ f. ap (λ x. cond x state.Name (state.BinOp bin.Lt)) (is_xid_start-ascii 60 (omega arith))) refl (λ cs. refl) cs
+
+pub space-behind-62 : (cs : List ℕ) → IsAt 62 (32 ∷ cs) (state.BinOp bin.Gt)
+unfolding begin begin_mark begin_operator is_name_start is_space is_line_break is_digit step step_mark step_assign_op step_bin_op doubled only settled
+space-behind-62 cs =
+    before 62 32 (state.BinOp bin.Gt) (λ f. ap (λ x. cond x state.Name (state.BinOp bin.Gt)) (is_xid_start-ascii 62 (omega arith))) refl (λ cs. refl) cs
+
+pub space-behind-43 : (cs : List ℕ) → IsAt 43 (32 ∷ cs) (state.BinOp bin.Add)
+unfolding begin begin_mark begin_operator is_name_start is_space is_line_break is_digit step step_mark step_assign_op step_bin_op doubled only settled
+space-behind-43 cs =
+    before 43 32 (state.BinOp bin.Add) (λ f. ap (λ x. cond x state.Name (state.BinOp bin.Add)) (is_xid_start-ascii 43 (omega arith))) refl (λ cs. refl) cs
+
+pub space-behind-45 : (cs : List ℕ) → IsAt 45 (32 ∷ cs) (state.BinOp bin.Sub)
+unfolding begin begin_mark begin_operator is_name_start is_space is_line_break is_digit step step_mark step_assign_op step_bin_op doubled only settled
+space-behind-45 cs =
+    before 45 32 (state.BinOp bin.Sub) (λ f. ap (λ x. cond x state.Name (state.BinOp bin.Sub)) (is_xid_start-ascii 45 (omega arith))) refl (λ cs. refl) cs
+
+pub space-behind-42 : (cs : List ℕ) → IsAt 42 (32 ∷ cs) (state.BinOp bin.Mul)
+unfolding begin begin_mark begin_operator is_name_start is_space is_line_break is_digit step step_mark step_assign_op step_bin_op doubled only settled
+space-behind-42 cs =
+    before 42 32 (state.BinOp bin.Mul) (λ f. ap (λ x. cond x state.Name (state.BinOp bin.Mul)) (is_xid_start-ascii 42 (omega arith))) refl (λ cs. refl) cs
+
+pub space-behind-47 : (cs : List ℕ) → IsAt 47 (32 ∷ cs) (state.BinOp bin.Div)
+unfolding begin begin_mark begin_operator is_name_start is_space is_line_break is_digit step step_mark step_assign_op step_bin_op doubled only settled
+space-behind-47 cs =
+    before 47 32 (state.BinOp bin.Div) (λ f. ap (λ x. cond x state.Name (state.BinOp bin.Div)) (is_xid_start-ascii 47 (omega arith))) refl (λ cs. refl) cs
+
+pub space-behind-37 : (cs : List ℕ) → IsAt 37 (32 ∷ cs) (state.BinOp bin.Mod)
+unfolding begin begin_mark begin_operator is_name_start is_space is_line_break is_digit step step_mark step_assign_op step_bin_op doubled only settled
+space-behind-37 cs =
+    before 37 32 (state.BinOp bin.Mod) (λ f. ap (λ x. cond x state.Name (state.BinOp bin.Mod)) (is_xid_start-ascii 37 (omega arith))) refl (λ cs. refl) cs
+
+pub space-behind-124 : (cs : List ℕ) → IsAt 124 (32 ∷ cs) (state.BinOp bin.BitOr)
+unfolding begin begin_mark begin_operator is_name_start is_space is_line_break is_digit step step_mark step_assign_op step_bin_op doubled only settled
+space-behind-124 cs =
+    before 124 32 (state.BinOp bin.BitOr) (λ f. ap (λ x. cond x state.Name (state.BinOp bin.BitOr)) (is_xid_start-ascii 124 (omega arith))) refl (λ cs. refl) cs
+
+pub space-behind-38 : (cs : List ℕ) → IsAt 38 (32 ∷ cs) (state.BinOp bin.BitAnd)
+unfolding begin begin_mark begin_operator is_name_start is_space is_line_break is_digit step step_mark step_assign_op step_bin_op doubled only settled
+space-behind-38 cs =
+    before 38 32 (state.BinOp bin.BitAnd) (λ f. ap (λ x. cond x state.Name (state.BinOp bin.BitAnd)) (is_xid_start-ascii 38 (omega arith))) refl (λ cs. refl) cs
+
+pub space-behind-63 : (cs : List ℕ) → IsAt 63 (32 ∷ cs) (state.Mark mark.QuestionMark)
+unfolding begin begin_mark begin_operator is_name_start is_space is_line_break is_digit step step_mark step_assign_op step_bin_op doubled only settled
+space-behind-63 cs =
+    before 63 32 (state.Mark mark.QuestionMark) (λ f. ap (λ x. cond x state.Name (state.Mark mark.QuestionMark)) (is_xid_start-ascii 63 (omega arith))) refl (λ cs. refl) cs
 
 names-ascii : (b : ℕ) → b < 128 → is_of 1 b ≡ is_plain_part b
 unfolding agree_below is_of

@@ -11,7 +11,7 @@ use crate::chars::{first_char, is_name_start};
 use crate::run::past_run;
 use crate::state::{Mark, State};
 use crate::step::{begin, step};
-use swc_ecma_parser_token::AssignOp;
+use swc_ecma_parser_token::{AssignOp, BinOpToken};
 
 /// How far a piece goes.
 #[derive(Clone, Copy)]
@@ -137,22 +137,40 @@ fn name(behind: &str) -> Munched<'_>
     }
 }
 
-/// A `.` before a letter, or a `=` before a space: the mark ends there.
+/// An operator of one character, or `?`: each ends before a space.
+fn operator(c: char) -> Option<State>
+    ensures { IfSome result (λ found. lone.IsBefore c 32 found) }
+{
+    match c {
+        '=' => Some(State::AssignOp(AssignOp::Assign)),
+        '<' => Some(State::BinOp(BinOpToken::Lt)),
+        '>' => Some(State::BinOp(BinOpToken::Gt)),
+        '+' => Some(State::BinOp(BinOpToken::Add)),
+        '-' => Some(State::BinOp(BinOpToken::Sub)),
+        '*' => Some(State::BinOp(BinOpToken::Mul)),
+        '/' => Some(State::BinOp(BinOpToken::Div)),
+        '%' => Some(State::BinOp(BinOpToken::Mod)),
+        '|' => Some(State::BinOp(BinOpToken::BitOr)),
+        '&' => Some(State::BinOp(BinOpToken::BitAnd)),
+        '?' => Some(State::Mark(Mark::QuestionMark)),
+        _ => None,
+    }
+}
+
+/// A `.` before a letter, or an operator before a space: it ends there.
 fn mark_before(c: char, next: u8) -> Option<State>
     ensures { IfSome result (λ found. lone.IsBefore c next found) }
 {
-    match c {
-        '.' => if b'A' <= next && next < 128 {
+    if c == '.' {
+        if b'A' <= next && next < 128 {
             Some(State::Mark(Mark::Dot))
         } else {
             None
-        },
-        '=' => if next == b' ' {
-            Some(State::AssignOp(AssignOp::Assign))
-        } else {
-            None
-        },
-        _ => None,
+        }
+    } else if next == b' ' {
+        operator(c)
+    } else {
+        None
     }
 }
 
