@@ -373,8 +373,17 @@ fn comments_right<R: Print>(library: Option<&R>, comments: &[Comment]) -> bool {
     holds
 }
 
-/// The comments that a lexer kept while a parser read its text, with lines for the library around that, if there is to be one;
-/// and whether none is left behind them.
+/// The comments that a lexer kept while a parser read its text.
+fn comments_wanted(alloc: Global, text: &str, asked: Asked) -> PResult<Vec<Comment>> {
+    let source = lexer(alloc, text, asked);
+    let mut parser = Parser::new_from_limited(alloc, source, asked.limit);
+    discard(call(&mut parser, asked));
+    let comments = parser.take_comments();
+    let_go(parser);
+    comments
+}
+
+/// The same with lines for the library around the reading, if there is to be one; and whether none is left behind them.
 fn comments_read<R: Print>(
     alloc: Global,
     library: Option<&R>,
@@ -413,7 +422,7 @@ fn kept_comments_right<R: Print>(
     text: &str,
     asked: Asked,
 ) -> bool {
-    let (wanted, _) = comments_read(alloc, None::<&R>, text, asked);
+    let wanted = comments_wanted(alloc, text, asked);
     let (found, is_none_left) = comments_read(alloc, library, text, asked);
     let are_right = match &wanted {
         Ok(wanted) => {

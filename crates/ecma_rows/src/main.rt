@@ -48,6 +48,14 @@ fn label(task: Task) -> &'static str {
     }
 }
 
+/// What writes lines for the library, if a task wants them.
+fn library<R>(rt: &R, task: Task) -> Option<&R> {
+    match task {
+        Task::Refuse => Some(rt),
+        _ => None,
+    }
+}
+
 /// Does a task with the rows of a file.
 fn work<R: Files + Print + AllocGlobal>(rt: &R, task: Task, name: &str) -> io::Result<Tally> {
     let text = fs::read_to_string(rt, name)?;
@@ -55,8 +63,9 @@ fn work<R: Files + Print + AllocGlobal>(rt: &R, task: Task, name: &str) -> io::R
     let tally = match task {
         Task::Compare => check::compare(rt.alloc(), &mut out, text.as_str())?,
         Task::Break(every) => broken::break_rows(rt.alloc(), &mut out, text.as_str(), every)?,
-        Task::Copy => memory::refuse_rows(rt.alloc(), None::<&R>, &mut out, text.as_str())?,
-        Task::Refuse => memory::refuse_rows(rt.alloc(), Some(rt), &mut out, text.as_str())?,
+        Task::Copy | Task::Refuse => {
+            memory::refuse_rows(rt.alloc(), library(rt, task), &mut out, text.as_str())?
+        }
     };
     print!(rt; "{out}")?;
     Ok(tally)
