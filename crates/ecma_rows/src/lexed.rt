@@ -114,8 +114,10 @@ fn write_comments<I: CommentSource>(out: &mut String, source: &mut I) -> PResult
 struct Lines {
     tokens: String,
     comments: String,
-    /// The tokens of a source that keeps them, and of a list of those.
-    others: [String; 2],
+    /// The tokens of a source that keeps them.
+    kept: String,
+    /// The tokens of a list of those.
+    listed: String,
 }
 
 /// Writes the tokens and the comments of a lexer.
@@ -135,18 +137,17 @@ fn lexer(alloc: Global, text: &str) -> Lexer<'_> {
 /// Writes the tokens of a source that keeps them, and of a list of those.
 fn write_kept<I: Tokens>(
     alloc: Global,
-    others: &mut [String; 2],
+    lines: &mut Lines,
     source: &mut Capturing<I>,
 ) -> Result<(), AllocError> {
-    let [first, second] = others;
-    write_drawn(first, source)?;
+    write_drawn(&mut lines.kept, source)?;
     let kept = source.take();
     if !spans_ordered(kept.as_slice()) {
         let_go(kept);
         return Ok(());
     }
     let mut list = TokensInput::new(alloc, kept, Context::default(), Syntax::default());
-    let written = write_drawn(second, &mut list);
+    let written = write_drawn(&mut lines.listed, &mut list);
     let_go(list);
     written
 }
@@ -158,7 +159,7 @@ fn write_lines(alloc: Global, lines: &mut Lines, text: &str) -> Result<(), Alloc
     let_go(lexer);
     written?;
     let mut source = Capturing::new(alloc, self::lexer(alloc, text));
-    let kept = write_kept(alloc, &mut lines.others, &mut source);
+    let kept = write_kept(alloc, lines, &mut source);
     let_go(source);
     kept
 }
@@ -173,7 +174,8 @@ pub fn check_tokens(
     let mut lines = Lines {
         tokens: String::new(alloc),
         comments: String::new(alloc),
-        others: [String::new(alloc), String::new(alloc)],
+        kept: String::new(alloc),
+        listed: String::new(alloc),
     };
     write_lines(alloc, &mut lines, text)?;
     let tokens = lines.tokens.as_str();
@@ -184,8 +186,7 @@ pub fn check_tokens(
     if row.get("comments").is_some() && !lines_agree(comments, row, "comments") {
         write!(out, "{comments}")?;
     }
-    let [first, second] = &lines.others;
-    if first.as_str() != tokens || second.as_str() != tokens {
+    if lines.kept.as_str() != tokens || lines.listed.as_str() != tokens {
         writeln!(out, "  not the same over each source")?;
     }
     Ok(())
