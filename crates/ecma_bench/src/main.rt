@@ -1,4 +1,4 @@
-//! The program `ecma-bench`: it makes a text of a shape or reads a file, parses it once, and prints what that took.
+//! The program `ecma-bench`: it makes a text of a shape or reads a file, parses it five times, and prints what the best took.
 #![tactic(auto)]
 
 mod command;

@@ -30,6 +30,18 @@ struct Parse {
     growth: Option<u64>,
 }
 
+/// How often a text is lexed and parsed. What stands in no cache yet, and memory that the system has yet to hand out, make
+/// the first time the longest.
+const ROUNDS: u32 = 5;
+
+/// The times of a round.
+#[derive(Clone, Copy)]
+struct Times {
+    lexing: Duration,
+    parse: Duration,
+    letting_go: Duration,
+}
+
 /// The processor time that the thread has used.
 fn now<R: CpuClock>(rt: &R) -> Result<Duration, Fault>
     ensures { IfErr result (λ fault. fault ≡ Fault.CannotReadClock) }
@@ -87,7 +99,33 @@ fn parse_of<R: Files + CpuClock + AllocGlobal>(
     })
 }
 
-/// The figures of a text. The clock is read six times: before and after lexing, the parse, and letting its tree go.
+/// The shorter of two times.
+fn shorter(a: Duration, b: Duration) -> Duration {
+    if b < a { b } else { a }
+}
+
+/// The shortest times of all rounds, the first of which took these.
+fn shortest<R: Files + CpuClock + AllocGlobal>(
+    rt: &R,
+    text: &str,
+    goal: Goal,
+    first: Times,
+) -> Result<Times, Fault> {
+    let mut times = first;
+    for _ in 1..ROUNDS {
+        let lexing = lexing_of(rt, text)?;
+        let parse = parse_of(rt, text, goal)?;
+        times = Times {
+            lexing: shorter(times.lexing, lexing.elapsed),
+            parse: shorter(times.parse, parse.elapsed),
+            letting_go: shorter(times.letting_go, parse.letting_go),
+        };
+    }
+    Ok(times)
+}
+
+/// The figures of a text. In each round the clock is read six times: before and after lexing, the parse, and letting its tree
+/// go. Memory is that of the first.
 fn report_on<'a, R: Files + CpuClock + AllocGlobal>(
     rt: &R,
     command: Command<'a>,
@@ -98,13 +136,19 @@ fn report_on<'a, R: Files + CpuClock + AllocGlobal>(
 {
     let lexing = lexing_of(rt, text)?;
     let parse = parse_of(rt, text, command.goal)?;
+    let first = Times {
+        lexing: lexing.elapsed,
+        parse: parse.elapsed,
+        letting_go: parse.letting_go,
+    };
+    let times = shortest(rt, text, command.goal, first)?;
     Ok(Report {
         command,
         bytes: text.len(),
         tokens: lexing.tokens,
-        lexing: lexing.elapsed,
-        parse: parse.elapsed,
-        letting_go: parse.letting_go,
+        lexing: times.lexing,
+        parse: times.parse,
+        letting_go: times.letting_go,
         growth: parse.growth,
     })
 }
