@@ -2,3 +2,4 @@ mod ItemAlone
 mod SetBack
 mod Begun
 mod Read
+mod Ended

@@ -1,6 +1,7 @@
 //! What every entry does around its rules: the context is set and set back, and what a call met is answered.
 
 ghost use Rattle.std.specs.Prelude.{◌≡◌, ◌≢◌, true, List, map, Some, None, [], IfErr, IsErrAnd, IsOk, OnErr};
+ghost use Rattle.swc_ecma_parser_entries.specs.Ends.{Ends};
 ghost use Rattle.swc_ecma_parser_error.specs.Kind.{Eof, Fault, OutOfMemory, fault_of, kind_of};
 ghost use Rattle.swc_ecma_parser_module_reader.specs.Entry.{IsEntered, AnswersModule};
 ghost use Rattle.swc_ecma_parser_grammar.specs.Notes.{as_note};
@@ -58,6 +59,27 @@ fn refused<O: Origin, I: Tokens>(
     (call.end(), told)
 }
 
+/// Ends a call: what was read is answered as it is, and a refusal is told as `refused` tells it.
+fn ended<O: Origin, I: Tokens, X>(
+    call: Call<O, I>,
+    read: PResult<X>,
+    outer: Context,
+    found_module_item: bool,
+) -> (State<I>, PResult<X>)
+    ensures ends { Ends read call outer found_module_item (seen result.0) result.1 }
+    ensures leaves { Leaves (seen O.start) (seen result.0) }
+    ensures keeps { Keeps (source_of O.start) (source_of result.0) }
+    ensures says { IfErr result.1 (λ e. Says result.0.mark (kind_of e.kind)) }
+{
+    match read {
+        Ok(read) => (call.end(), Ok(read)),
+        Err(error) => {
+            let (state, told) = refused(call, error, outer, found_module_item);
+            (state, Err(told))
+        }
+    }
+}
+
 /// Reads a script.
 fn script_in<O: Origin, I: Tokens, T: BuildsStatements + BuildsScript>(
     alloc: Global,
@@ -103,13 +125,8 @@ fn script_from<O: Origin, I: Tokens, T: BuildsStatements + BuildsScript>(
     let outer = state.flags();
     let found_module_item = state.found_module_item();
     let mut call = state.begin::<O>();
-    match script_in::<O, I, T>(alloc, &mut call, limit) {
-        Ok(script) => (call.end(), Ok(script)),
-        Err(error) => {
-            let (state, told) = refused(call, error, outer, found_module_item);
-            (state, Err(told))
-        }
-    }
+    let read = script_in::<O, I, T>(alloc, &mut call, limit);
+    ended(call, read, outer, found_module_item)
 }
 
 /// A script, whose items may stand so many levels deep.
@@ -174,13 +191,8 @@ fn module_from<O: Origin, I: Tokens, T: BuildsStatements + BuildsExport + Builds
     let outer = state.flags();
     let found_module_item = state.found_module_item();
     let mut call = state.begin::<O>();
-    match module_in::<O, I, T>(alloc, &mut call, limit) {
-        Ok(module) => (call.end(), Ok(module)),
-        Err(error) => {
-            let (state, told) = refused(call, error, outer, found_module_item);
-            (state, Err(told))
-        }
-    }
+    let read = module_in::<O, I, T>(alloc, &mut call, limit);
+    ended(call, read, outer, found_module_item)
 }
 
 /// A module, whose items may stand so many levels deep.
@@ -245,13 +257,8 @@ fn program_from<O: Origin, I: Tokens, T: BuildsStatements + BuildsExport + Build
     let outer = state.flags();
     let found_module_item = state.found_module_item();
     let mut call = state.begin::<O>();
-    match program_in::<O, I, T>(alloc, &mut call, limit, outer) {
-        Ok(program) => (call.end(), Ok(program)),
-        Err(error) => {
-            let (state, told) = refused(call, error, outer, found_module_item);
-            (state, Err(told))
-        }
-    }
+    let read = program_in::<O, I, T>(alloc, &mut call, limit, outer);
+    ended(call, read, outer, found_module_item)
 }
 
 /// A program, whose items may stand so many levels deep.
@@ -352,13 +359,8 @@ fn item_from<O: Origin, I: Tokens, T: BuildsStatements + BuildsExport + BuildsVa
     let outer = state.flags();
     let found_module_item = state.found_module_item();
     let mut call = state.begin::<O>();
-    match item_in::<O, I, T>(alloc, &mut call, limit) {
-        Ok(item) => (call.end(), Ok(item)),
-        Err(error) => {
-            let (state, told) = refused(call, error, outer, found_module_item);
-            (state, Err(told))
-        }
-    }
+    let read = item_in::<O, I, T>(alloc, &mut call, limit);
+    ended(call, read, outer, found_module_item)
 }
 
 /// One item of a module, which may nest so many levels deep.
@@ -431,13 +433,8 @@ fn statement_from<O: Origin, I: Tokens, T: BuildsStatements>(
     let outer = state.flags();
     let found_module_item = state.found_module_item();
     let mut call = state.begin::<O>();
-    match statement_in::<O, I, T>(alloc, &mut call, limit, at) {
-        Ok(statement) => (call.end(), Ok(statement)),
-        Err(error) => {
-            let (state, told) = refused(call, error, outer, found_module_item);
-            (state, Err(told))
-        }
-    }
+    let read = statement_in::<O, I, T>(alloc, &mut call, limit, at);
+    ended(call, read, outer, found_module_item)
 }
 
 /// A statement in its place, which may nest so many levels deep.

@@ -1,22 +1,17 @@
-use Rattle.std.proofs.Common.{Ok, sym, subst}
-use Rattle.swc_ecma_parser_module_reader.specs.ProgramEntry.{AnswersProgram}
 use Rattle.swc_ecma_parser_reader.specs.Entry.{unmarked}
 use Rattle.swc_ecma_parser_state.specs.Contents.{seen}
-use Rattle.swc_ecma_parser_entries.proofs.SetBack.{program_told}
+use Rattle.swc_ecma_parser_entries.proofs.Ended.{ended_ok, ended_memory, ended_restored, program_ended}
 use Rattle.swc_ecma_parser_entries.proofs.entry.program_from.Goals as goal
 
-pub returns-in-Ok-clause-answers : goal.returns-in-Ok-clause-answers
-returns-in-Ok-clause-answers g c = subst (λ z. AnswersProgram g.T.BuildsItem.program_of c.args.limit (unmarked (seen c.args.state)) (Ok c.in-Ok.program) z) (sym c.end.ensures.state) (c.in-Ok.ensures.answers (seen c.args.state) c.begin-call.ensures c.flags-outer.ensures)
+pub returns-clause-answers : goal.returns-clause-answers
+returns-clause-answers g c =
+    program_ended c.flags-outer.result c.found_module_item-found_module_item.result c.program_in-read.new.call (seen c.ended.result.0) g.T.BuildsItem.program_of c.args.limit (unmarked (seen c.args.state)) _ _ c.ended.ensures.ends (c.program_in-read.ensures.answers (seen c.args.state) c.begin-call.ensures c.flags-outer.ensures)
 
-pub returns-in-Ok-clause-ahead : goal.returns-in-Ok-clause-ahead
-returns-in-Ok-clause-ahead g c = λ h. absurd (c.in-Ok.ensures.ahead (seen c.args.state) c.begin-call.ensures h)
+pub returns-clause-outright : goal.returns-clause-outright
+returns-clause-outright g c = λ h. ended_ok c.flags-outer.result c.found_module_item-found_module_item.result c.program_in-read.new.call (seen c.ended.result.0) _ _ c.ended.ensures.ends (c.program_in-read.ensures.outright (seen c.args.state) c.begin-call.ensures h)
 
-pub returns-in-Err-clause-answers : goal.returns-in-Err-clause-answers
-returns-in-Err-clause-answers g c =
-    program_told _ g.T.BuildsItem.program_of c.args.limit (unmarked (seen c.args.state)) _ _ _ _ c.refused-state.ensures.same c.refused-state.ensures.back (c.in-Err.ensures.answers (seen c.args.state) c.begin-call.ensures c.flags-outer.ensures)
+pub returns-clause-refused : goal.returns-clause-refused
+returns-clause-refused g c = ended_restored c.flags-outer.result c.found_module_item-found_module_item.result c.program_in-read.new.call (seen c.ended.result.0) (seen c.args.state) c.flags-outer.ensures c.found_module_item-found_module_item.ensures _ _ c.ended.ensures.ends
 
-pub returns-in-Err-clause-outright : goal.returns-in-Err-clause-outright
-returns-in-Err-clause-outright g c = λ h. c.in-Err.ensures.outright (seen c.args.state) c.begin-call.ensures h
-
-pub returns-in-Err-clause-ahead : goal.returns-in-Err-clause-ahead
-returns-in-Err-clause-ahead g c = λ h. c.refused-state.ensures.memory (c.in-Err.ensures.ahead (seen c.args.state) c.begin-call.ensures h)
+pub returns-clause-ahead : goal.returns-clause-ahead
+returns-clause-ahead g c = λ h. ended_memory c.flags-outer.result c.found_module_item-found_module_item.result c.program_in-read.new.call (seen c.ended.result.0) _ _ c.ended.ensures.ends (c.program_in-read.ensures.ahead (seen c.args.state) c.begin-call.ensures h)

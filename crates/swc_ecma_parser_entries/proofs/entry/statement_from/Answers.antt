@@ -1,25 +1,18 @@
-use Rattle.std.proofs.Common.{Ok, sym, ap, ◌∙◌, subst}
-use Rattle.swc_ecma_parser_error.specs.Kind.{fault_of}
-use Rattle.swc_ecma_parser_reader.specs.Entry.{unmarked, AnswersStatement}
+use Rattle.swc_ecma_parser_reader.specs.Entry.{unmarked}
 use Rattle.swc_ecma_parser_state.specs.Contents.{seen}
-use Rattle.swc_ecma_parser_entries.proofs.SetBack.{statement_told}
+use Rattle.swc_ecma_parser_entries.proofs.Ended.{ended_fault, ended_memory, ended_restored, statement_ended}
 use Rattle.swc_ecma_parser_entries.proofs.entry.statement_from.Goals as goal
 
-pub returns-in-Ok-clause-answers : goal.returns-in-Ok-clause-answers
-returns-in-Ok-clause-answers g c = subst (λ z. AnswersStatement g.T.Trees.stmt_of c.args.limit c.args.at.include_decl c.args.at.top_level (unmarked (seen c.args.state)) (Ok c.in-Ok.statement) z) (sym c.end.ensures.state) (c.in-Ok.ensures.answers (seen c.args.state) c.begin-call.ensures)
+pub returns-clause-answers : goal.returns-clause-answers
+returns-clause-answers g c =
+    statement_ended c.flags-outer.result c.found_module_item-found_module_item.result c.statement_in-read.new.call (seen c.ended.result.0) g.T.Trees.stmt_of c.args.limit (unmarked (seen c.args.state)) c.args.at.include_decl c.args.at.top_level _ _ c.ended.ensures.ends (c.statement_in-read.ensures.answers (seen c.args.state) c.begin-call.ensures)
 
-pub returns-in-Ok-clause-at_end : goal.returns-in-Ok-clause-at_end
-returns-in-Ok-clause-at_end g c = λ h. absurd ((c.in-Ok.ensures.at_end (seen c.args.state) c.begin-call.ensures h).1)
+pub returns-clause-refused : goal.returns-clause-refused
+returns-clause-refused g c = ended_restored c.flags-outer.result c.found_module_item-found_module_item.result c.statement_in-read.new.call (seen c.ended.result.0) (seen c.args.state) c.flags-outer.ensures c.found_module_item-found_module_item.ensures _ _ c.ended.ensures.ends
 
-pub returns-in-Ok-clause-ahead : goal.returns-in-Ok-clause-ahead
-returns-in-Ok-clause-ahead g c = λ h. absurd (c.in-Ok.ensures.ahead (seen c.args.state) c.begin-call.ensures h)
+pub returns-clause-ahead : goal.returns-clause-ahead
+returns-clause-ahead g c = λ h. ended_memory c.flags-outer.result c.found_module_item-found_module_item.result c.statement_in-read.new.call (seen c.ended.result.0) _ _ c.ended.ensures.ends (c.statement_in-read.ensures.ahead (seen c.args.state) c.begin-call.ensures h)
 
-pub returns-in-Err-clause-answers : goal.returns-in-Err-clause-answers
-returns-in-Err-clause-answers g c =
-    statement_told _ g.T.Trees.stmt_of c.args.limit (unmarked (seen c.args.state)) _ _ _ _ c.refused-state.ensures.same c.refused-state.ensures.back c.args.at.include_decl c.args.at.top_level (c.in-Err.ensures.answers (seen c.args.state) c.begin-call.ensures)
-
-pub returns-in-Err-clause-at_end : goal.returns-in-Err-clause-at_end
-returns-in-Err-clause-at_end g c = λ h. let p = c.in-Err.ensures.at_end (seen c.args.state) c.begin-call.ensures h in ap fault_of (c.refused-state.ensures.plain p.0) ∙ p.1
-
-pub returns-in-Err-clause-ahead : goal.returns-in-Err-clause-ahead
-returns-in-Err-clause-ahead g c = λ h. c.refused-state.ensures.memory (c.in-Err.ensures.ahead (seen c.args.state) c.begin-call.ensures h)
+pub returns-clause-at_end : goal.returns-clause-at_end
+returns-clause-at_end g c = λ h. let p = c.statement_in-read.ensures.at_end (seen c.args.state) c.begin-call.ensures h in
+    ended_fault c.flags-outer.result c.found_module_item-found_module_item.result c.statement_in-read.new.call (seen c.ended.result.0) _ _ _ c.ended.ensures.ends p.0 p.1
