@@ -3,8 +3,10 @@
 
 mod part;
 mod prologue;
+mod read;
 #[cfg(test)]
 mod tests;
 
 pub use part::Part;
 pub use prologue::{is_strict, keep};
+pub use read::parts;

@@ -1,13 +1,22 @@
 //! Statements as values of the example's own type, through its bounds.
 
-use crate::{Part, is_strict, keep};
+use crate::{Part, is_strict, keep, parts};
 use std::alloc::{AllocError, Global};
+use std::marker::Brand;
 use std::test::Fail;
 use swc_ecma_parser_ast::{
-    Atom, BytePos, Decl, EmptyStmt, Expr, ExprBox, ExprStmt, Lit, Span, Stmt, Str, VarDecl,
-    VarDeclKind,
+    Atom, BytePos, Decl, EmptyStmt, Expr, ExprBox, ExprStmt, Lit, Span, Stmt, StmtBox, Str,
+    VarDecl, VarDeclKind,
 };
 use swc_ecma_parser_ast_trees::Ast;
+use swc_ecma_parser_error::PResult;
+use swc_ecma_parser_grammar::Position;
+use swc_ecma_parser_input::{Syntax, Tokens};
+use swc_ecma_parser_lexer::{Lexer, StringInput};
+use swc_ecma_parser_output_readers::{ListEnd, StmtLikeParser, block_body};
+use swc_ecma_parser_outputs::FromStmt;
+use swc_ecma_parser_state::{Call, Origin, State};
+use swc_ecma_parser_trees::{Maker, MakerOf};
 
 fn span(low: u32, high: u32) -> Span {
     Span::new(BytePos(low), BytePos(high))
@@ -71,5 +80,89 @@ fn an_empty_statement_ends_the_directives(rt: HostRuntime) -> Result<(), Fail> {
     keep::<Ast, Part>(alloc, &mut parts, empty())?;
     keep::<Ast, Part>(alloc, &mut parts, string(alloc, "\"use strict\"")?)?;
     assert!(rt; !is_strict(parts.as_slice()));
+    Ok(())
+}
+
+/// A parser of a text.
+fn opened(alloc: Global, text: &str) -> Result<State<Lexer<'_>>, Fail> {
+    if text.len() > 1_000 {
+        return Err("too long")?;
+    }
+    let end = BytePos(text.len() as u32);
+    let input = StringInput::new(text, BytePos(0), end);
+    let lexer = Lexer::new(alloc, Syntax::default(), input, false);
+    Ok(State::new(alloc, lexer))
+}
+
+#[test]
+fn a_text_is_read_as_parts(rt: HostRuntime) -> Result<(), Fail> {
+    let alloc = rt.alloc();
+    let state = opened(alloc, "'use strict'; var a; b()")?;
+    let (_state, read) = parts(alloc, state, 100);
+    let parts = read?;
+    assert_eq!(rt; parts.len(), 3);
+    assert!(rt; is_strict(parts.as_slice()));
+    match &parts[1] {
+        Part::Declaration(_) => {}
+        Part::Other(_) => assert!(rt; false),
+    }
+    match &parts[2] {
+        Part::Declaration(_) => assert!(rt; false),
+        Part::Other(_) => {}
+    }
+    Ok(())
+}
+
+#[test]
+fn an_export_is_no_part(rt: HostRuntime) -> Result<(), Fail> {
+    let alloc = rt.alloc();
+    let state = opened(alloc, "a; export {}")?;
+    let (_state, read) = parts(alloc, state, 100);
+    assert!(rt; read.is_err());
+    Ok(())
+}
+
+/// What stands in a block, up to its `}`, in a call that begins here.
+fn block_from<O: Origin, I: Tokens, Y: FromStmt<Ast> + Drop>(
+    alloc: Global,
+    state: State<I>,
+) -> (State<I>, PResult<Vec<Y>>)
+where
+    Call<O, I>: StmtLikeParser<Ast, Y>,
+    requires { O.start ≡ state }
+{
+    let mut call = state.begin::<O>();
+    let maker: MakerOf<Ast> = Maker::new(alloc);
+    let at = Position {
+        include_decl: true,
+        top_level: false,
+    };
+    let end = ListEnd::Brace;
+    let read = block_body::<Call<O, I>, Ast, Y>(&maker, &mut call, 100, at, end, false);
+    maker.finish();
+    (call.end(), read)
+}
+
+#[test]
+fn the_body_of_a_block_is_read_as_handles(rt: HostRuntime) -> Result<(), Fail> {
+    let alloc = rt.alloc();
+    let state = opened(alloc, "a; let b; } c")?;
+    let (_state, read) = block_from::<Brand, _, StmtBox>(alloc, state);
+    let handles = read?;
+    assert_eq!(rt; handles.len(), 2);
+    Ok(())
+}
+
+#[test]
+fn the_body_of_a_block_is_read_as_parts_in_boxes(rt: HostRuntime) -> Result<(), Fail> {
+    let alloc = rt.alloc();
+    let state = opened(alloc, "'use strict'; let b; } c")?;
+    let (_state, read) = block_from::<Brand, _, Box<Part>>(alloc, state);
+    let parts = read?;
+    assert_eq!(rt; parts.len(), 2);
+    match &*parts[1] {
+        Part::Declaration(_) => {}
+        Part::Other(_) => assert!(rt; false),
+    }
     Ok(())
 }

@@ -1,7 +1,6 @@
 //! Items of modules, and whole modules: ECMA-262, section 16.2.
 
 ghost use Rattle.std.specs.Prelude.{◌≡◌, true, [], map, IsOk};
-ghost use Rattle.swc_ecma_parser_grammar.specs.language.Items.{directed, directs_on};
 ghost use Rattle.swc_ecma_parser_members.specs.Leading.{leading_of};
 ghost use Rattle.swc_ecma_parser_module_reader.specs.Modules as modules;
 ghost use Rattle.swc_ecma_parser_reader.specs.Reader as rules;
@@ -12,14 +11,15 @@ use crate::decorated::{begins_decorators, export_item, export_with};
 use swc_ecma_parser_cursor::Cursor;
 use swc_ecma_parser_error::PResult;
 use swc_ecma_parser_grammar::Position;
-use swc_ecma_parser_input::Context;
 use swc_ecma_parser_knot::knot::{leading, stmt_behind};
+use swc_ecma_parser_lists as lists;
+use swc_ecma_parser_lists::{ListEnd, Listed};
 use swc_ecma_parser_members::decorators::{Leading, misplaced};
 use swc_ecma_parser_modules::imports::import_decl;
 use swc_ecma_parser_scripts::script::whole_stmt;
-use swc_ecma_parser_shared::steps::{grown, pushed, since, whole_start};
+use swc_ecma_parser_shared::steps::{grown, since, whole_start};
 use swc_ecma_parser_token::TokenKind;
-use swc_ecma_parser_trees::{BuildsExport, BuildsItem, BuildsStatements, BuildsVarDecl, MakerOf};
+use swc_ecma_parser_trees::{BuildsExport, BuildsStatements, BuildsVarDecl, MakerOf};
 
 /// A statement of the module itself.
 pub(crate) const TOP_ITEM: Position = Position {
@@ -141,22 +141,6 @@ pub fn module_item<P: Cursor, T: BuildsStatements + BuildsExport + BuildsVarDecl
     grown(p, T::stmt_item(t.alloc, stmt))
 }
 
-/// Turns strict what follows a directive that says so, and says whether the next item can be a directive too.
-fn direct<P: Cursor, T: BuildsItem>(p: &mut P, directives: bool, x: &T::Item) -> bool
-    ensures state { P.seen p.new
-        ≡ reader.coded (directed (P.seen p.old).code directives (T.item_of x.now)) (P.seen p.old) }
-    ensures next { result ≡ directs_on directives (T.item_of x.now) }
-{
-    if directives && T::is_use_strict_item(x) {
-        let flags = p.flags();
-        p.set_flags(Context {
-            strict: true,
-            ..flags
-        });
-    }
-    directives && T::is_string_item(x)
-}
-
 /// Whether the list has ended.
 #[tactic(auto, unfolding(swc_ecma_parser_reader::specs::Reader::at_end))]
 pub(crate) fn at_end<P: Cursor>(p: &P) -> bool
@@ -165,8 +149,34 @@ pub(crate) fn at_end<P: Cursor>(p: &P) -> bool
     p.sees(TokenKind::End)
 }
 
+/// Items of a module, as what stands in a list.
+pub struct ModuleItems;
+
+impl<P: Cursor, T: BuildsStatements + BuildsExport + BuildsVarDecl> Listed<P, T> for ModuleItems {
+    ghost use Rattle.swc_ecma_parser_module_reader.proofs.Falls.{item_shorter};
+
+    type Item = T::Item;
+
+    ghost held = { T.item_of };
+
+    ghost item = { λ n at. modules.module_item n };
+
+    ghost takes = { λ n at. item_shorter n };
+
+    fn is_use_strict(one: &T::Item) -> bool {
+        T::is_use_strict_item(one)
+    }
+
+    fn can_precede_directive(one: &T::Item) -> bool {
+        T::is_string_item(one)
+    }
+
+    fn read(t: &MakerOf<T>, p: &mut P, limit: usize, at: Position) -> PResult<T::Item> {
+        module_item::<P, T>(t, p, limit)
+    }
+}
+
 /// The items of a module behind these, the first of all of which can be directives; `directives` says whether the next can be one.
-#[tactic(auto, using(swc_ecma_parser_reader::proofs::Loops::items_stop, swc_ecma_parser_reader::proofs::Loops::items_err, swc_ecma_parser_bodies::proofs::Items::body_more, swc_ecma_parser_bodies::proofs::Items::body_next, swc_ecma_parser_module_reader::proofs::Falls::item_shorter, std::proofs::lemmas::List::map_push))]
 pub(crate) fn items_behind<P: Cursor, T: BuildsStatements + BuildsExport + BuildsVarDecl>(
     t: &MakerOf<T>,
     p: &mut P,
@@ -180,14 +190,15 @@ pub(crate) fn items_behind<P: Cursor, T: BuildsStatements + BuildsExport + Build
         (map T.item_of before.items) (P.seen p.old)) result (P.seen p.new) }
     ensures outright { (P.seen p.old).at.left ≡ [] → IsOk result }
 {
-    let mut found = before;
-    let mut directives = directives;
-    'items: while !at_end(p) {
-        let item = module_item::<P, T>(t, p, limit)?;
-        directives = direct::<P, T>(p, directives, &item);
-        pushed(p, &mut found, item)?;
-    }
-    Ok(found)
+    lists::items_behind::<ModuleItems, P, T>(
+        t,
+        p,
+        limit,
+        TOP_ITEM,
+        ListEnd::Tokens,
+        before,
+        directives,
+    )
 }
 
 /// The items of a module, the first of which can be directives.

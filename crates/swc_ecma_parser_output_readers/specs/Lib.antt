@@ -1,2 +1,2 @@
 pub mod Items
-pub mod Bodies
+pub mod ItemLaws

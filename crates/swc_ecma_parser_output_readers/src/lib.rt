@@ -3,6 +3,8 @@
 
 mod body;
 mod like;
+mod places;
 
-pub use body::{BodyEnd, block_body};
-pub use like::{StmtLikeParser, stmt_like};
+pub use body::block_body;
+pub use like::{StmtLikeParser, module_item_as, stmt_like, whole_stmt_as};
+pub use swc_ecma_parser_lists::ListEnd;

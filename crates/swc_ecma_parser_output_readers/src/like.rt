@@ -4,22 +4,24 @@ ghost use Rattle.std.specs.Prelude.{◌≡◌, true, false, Ok, IfOk, IfErr};
 ghost use Rattle.swc_ecma_parser_error.specs.Kind.{IsOutOfMemory};
 ghost use Rattle.swc_ecma_parser_module_reader.specs.Modules as modules;
 ghost use Rattle.swc_ecma_parser_output_readers.specs.Items as items;
+ghost use Rattle.swc_ecma_parser_reader.specs.Reader as rules;
 ghost use Rattle.swc_ecma_parser_reader.specs.State.{GivesAs};
 
 use swc_ecma_parser_cursor::Cursor;
 use swc_ecma_parser_error::PResult;
 use swc_ecma_parser_grammar::Position;
-use swc_ecma_parser_outputs::FromStmt;
+use swc_ecma_parser_module_items::decorated::begins_decorators;
+use swc_ecma_parser_module_items::items::module_item;
+use swc_ecma_parser_module_items::programs::begins_module;
+use swc_ecma_parser_outputs::{FromItem, FromStmt};
 use swc_ecma_parser_scripts::script::whole_stmt;
-use swc_ecma_parser_token::TokenKind;
-use swc_ecma_parser_trees::{BuildsStatements, MakerOf, Trees};
+use swc_ecma_parser_trees::{BuildsExport, BuildsStatements, BuildsVarDecl, MakerOf, Trees};
 
 /// A source from which a `Y` can be read in the place of a statement of the tree `T`.
 pub trait StmtLikeParser<T: Trees, Y: FromStmt<T>>: Cursor {
     ghost use Rattle.std.specs.Prelude.{ℕ, ◌<◌, Ok, length};
     ghost use Rattle.swc_ecma_parser_grammar.specs.declared.position.Position.{Position};
     ghost use Rattle.swc_ecma_parser_model.specs.Tree.{Tree};
-    ghost use Rattle.swc_ecma_parser_reader.specs.Reader as rules;
     ghost use Rattle.swc_ecma_parser_reader.specs.State.{Reader, State};
 
     /// How what stands there is read, in so many levels.
@@ -37,20 +39,11 @@ pub trait StmtLikeParser<T: Trees, Y: FromStmt<T>>: Cursor {
     ghost takes: { (n : ℕ) (at : Position) (s : State) (x : Tree) (t : State) → item n at s ≡ Ok (x, t) → length t.at.left < length s.at.left };
 }
 
-/// Whether `import` stands here and begins no expression.
-#[tactic(auto, unfolding(swc_ecma_parser_module_reader::specs::Modules::begins_import, swc_ecma_parser_grammar::specs::Follows::begins_import_expression))]
-fn begins_import<P: Cursor>(p: &P) -> bool
-    ensures { result ≡ modules.begins_import (P.seen p.now).at }
-{
-    p.sees(TokenKind::Import) && !(p.next_sees(TokenKind::LParen) || p.next_sees(TokenKind::Dot))
-}
-
 /// Whether what stands here is an import or export, or has decorators before it.
-#[tactic(auto, unfolding(swc_ecma_parser_module_reader::specs::Programs::begins_module, swc_ecma_parser_module_reader::specs::Modules::begins_import, swc_ecma_parser_module_reader::specs::Decorated::begins_decorators, swc_ecma_parser_grammar::specs::Follows::begins_import_expression))]
 fn begins_item<P: Cursor>(p: &P) -> bool
     ensures { result ≡ items.begins_item (P.seen p.now).code (P.seen p.now).at }
 {
-    begins_import(p) || p.sees(TokenKind::Export) || (p.decorators() && p.sees(TokenKind::At))
+    begins_module(p) || begins_decorators(p)
 }
 
 /// What was made, where want of memory is the only fault; it is noted that memory ran out.
@@ -65,6 +58,31 @@ fn made<P: Cursor, A>(p: &mut P, made: PResult<A>) -> PResult<A>
     }
 }
 
+/// A statement that stands in no other, as a `Y`. An import or export is refused, as in a script.
+pub fn whole_stmt_as<P: Cursor, T: BuildsStatements, Y: FromStmt<T>>(
+    t: &MakerOf<T>,
+    p: &mut P,
+    limit: usize,
+    at: Position,
+) -> PResult<Y>
+    ensures { GivesAs Y.held (rules.whole_stmt limit at (P.seen p.old)) result (P.seen p.new) }
+{
+    let stmt = whole_stmt::<P, T>(t, p, limit, at)?;
+    made(p, Y::from_stmt(t.alloc, stmt))
+}
+
+/// An item of a module, as a `Y`, in so many levels.
+pub fn module_item_as<
+    P: Cursor,
+    T: BuildsStatements + BuildsExport + BuildsVarDecl,
+    Y: FromItem<T>,
+>(t: &MakerOf<T>, p: &mut P, limit: usize) -> PResult<Y>
+    ensures { GivesAs Y.held (modules.module_item limit (P.seen p.old)) result (P.seen p.new) }
+{
+    let item = module_item::<P, T>(t, p, limit)?;
+    made(p, Y::from_item(t.alloc, item))
+}
+
 /// A statement, or what stands in its place, in so many levels.
 pub fn stmt_like<P: StmtLikeParser<T, Y>, T: BuildsStatements, Y: FromStmt<T>>(
     t: &MakerOf<T>,
@@ -77,6 +95,5 @@ pub fn stmt_like<P: StmtLikeParser<T, Y>, T: BuildsStatements, Y: FromStmt<T>>(
     if begins_item(p) {
         return p.handle_import_export(t, limit, at);
     }
-    let stmt = whole_stmt::<P, T>(t, p, limit, at)?;
-    made(p, Y::from_stmt(t.alloc, stmt))
+    whole_stmt_as::<P, T, Y>(t, p, limit, at)
 }

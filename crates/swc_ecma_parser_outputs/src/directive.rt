@@ -5,7 +5,7 @@ ghost use Rattle.swc_ecma_parser_error.specs.Kind.{IsOutOfMemory};
 
 use std::alloc::Global;
 use swc_ecma_parser_error::PResult;
-use swc_ecma_parser_trees::Trees;
+use swc_ecma_parser_trees::{BuildsItem, Trees};
 
 /// What can be a directive: section 11.2.1 of ECMA-262. Contracts see it as the tree that it holds.
 pub trait IsDirective {
@@ -30,5 +30,13 @@ pub trait FromStmt<T: Trees>: IsDirective {
     /// The value that holds a statement; it fails only where memory runs out.
     fn from_stmt(alloc: Global, stmt: T::Stmt) -> PResult<Self>
         ensures holds { IfOk result (λ x. Self.held x ≡ T.stmt_of stmt) }
+        ensures err { IfErr result IsOutOfMemory };
+}
+
+/// What can be made from an item of a module of the tree `T` too. The value holds that item.
+pub trait FromItem<T: BuildsItem>: FromStmt<T> {
+    /// The value that holds an item; it fails only where memory runs out.
+    fn from_item(alloc: Global, item: T::Item) -> PResult<Self>
+        ensures holds { IfOk result (λ x. Self.held x ≡ T.item_of item) }
         ensures err { IfErr result IsOutOfMemory };
 }

@@ -10,6 +10,6 @@ mod patterns;
 mod places;
 mod statements;
 
-pub use directive::{FromStmt, IsDirective};
+pub use directive::{FromItem, FromStmt, IsDirective};
 pub use output::OutputType;
 pub use parameters::{IsSimpleParameterList, Parameter};

@@ -1,6 +1,6 @@
 //! Statements, their handles and items of modules, as what can stand in the place of a statement.
 
-use crate::directive::{FromStmt, IsDirective};
+use crate::directive::{FromItem, FromStmt, IsDirective};
 use std::alloc::Global;
 use swc_ecma_parser_ast::{ModuleItem, Stmt, StmtBox};
 use swc_ecma_parser_ast_trees::Ast;
@@ -80,5 +80,11 @@ impl IsDirective for ModuleItem {
 impl FromStmt<Ast> for ModuleItem {
     fn from_stmt(alloc: Global, stmt: Stmt) -> PResult<ModuleItem> {
         Ok(ModuleItem::Stmt(stmt))
+    }
+}
+
+impl FromItem<Ast> for ModuleItem {
+    fn from_item(alloc: Global, item: ModuleItem) -> PResult<ModuleItem> {
+        Ok(item)
     }
 }

@@ -5,12 +5,12 @@ ghost use Rattle.swc_ecma_parser_grammar.specs.language.Items.{top_item};
 ghost use Rattle.swc_ecma_parser_reader.specs.Reader as rules;
 ghost use Rattle.swc_ecma_parser_reader.specs.State.{Gives, GivesAs};
 
-use swc_ecma_parser_bodies::body::direct;
 use swc_ecma_parser_cursor::Cursor;
 use swc_ecma_parser_error::{PResult, SyntaxError};
 use swc_ecma_parser_grammar::Position;
 use swc_ecma_parser_knot::knot::stmt;
-use swc_ecma_parser_shared::steps::{pushed, since, whole_start};
+use swc_ecma_parser_lists::{ListEnd, Listed, items};
+use swc_ecma_parser_shared::steps::{since, whole_start};
 use swc_ecma_parser_token::TokenKind;
 use swc_ecma_parser_trees::{BuildsScript, BuildsStatements, MakerOf};
 
@@ -19,14 +19,6 @@ const TOP_ITEM: Position = Position {
     include_decl: true,
     top_level: true,
 };
-
-/// Whether the list has ended.
-#[tactic(auto, unfolding(swc_ecma_parser_reader::specs::Reader::at_end))]
-fn at_end<P: Cursor>(p: &P) -> bool
-    ensures { result ≡ rules.at_end (P.seen p.now).at }
-{
-    p.sees(TokenKind::End)
-}
 
 /// What a statement of the top level begins with: `await` makes a program a module, and is a fault in code that cannot be one's.
 #[tactic(auto, unfolding(swc_ecma_parser_reader::specs::Reader::top_await, swc_ecma_parser_reader::specs::Reader::top_await_fault))]
@@ -58,9 +50,35 @@ pub fn whole_stmt<P: Cursor, T: BuildsStatements>(
     stmt::<P, T>(t, p, limit, at)
 }
 
+/// Statements, as what stands in a list.
+pub struct Statements;
+
+impl<P: Cursor, T: BuildsStatements> Listed<P, T> for Statements {
+    ghost use Rattle.swc_ecma_parser_reader.proofs.Loops.{whole_shorter};
+
+    type Item = T::Stmt;
+
+    ghost held = { T.stmt_of };
+
+    ghost item = { rules.whole_stmt };
+
+    ghost takes = { whole_shorter };
+
+    fn is_use_strict(one: &T::Stmt) -> bool {
+        T::is_use_strict(one)
+    }
+
+    fn can_precede_directive(one: &T::Stmt) -> bool {
+        T::is_string_statement(one)
+    }
+
+    fn read(t: &MakerOf<T>, p: &mut P, limit: usize, at: Position) -> PResult<T::Stmt> {
+        whole_stmt::<P, T>(t, p, limit, at)
+    }
+}
+
 /// The statements of a script, the first of which can be directives.
-#[tactic(auto, unfolding(swc_ecma_parser_reader::specs::Reader::items), using(swc_ecma_parser_reader::proofs::Loops::items_stop, swc_ecma_parser_reader::proofs::Loops::items_err, swc_ecma_parser_bodies::proofs::Items::body_more, swc_ecma_parser_bodies::proofs::Items::body_next, swc_ecma_parser_reader::proofs::Loops::whole_shorter, std::proofs::lemmas::List::map_push))]
-fn items<P: Cursor, T: BuildsStatements>(
+fn top_statements<P: Cursor, T: BuildsStatements>(
     t: &MakerOf<T>,
     p: &mut P,
     limit: usize,
@@ -70,14 +88,7 @@ fn items<P: Cursor, T: BuildsStatements>(
         (P.seen p.new) }
     ensures outright { (P.seen p.old).at.left ≡ [] → IsOk result }
 {
-    let mut found = Vec::new(t.alloc);
-    let mut directives = true;
-    'items: while !at_end(p) {
-        let stmt = whole_stmt::<P, T>(t, p, limit, TOP_ITEM)?;
-        directives = direct::<P, T>(p, directives, &stmt);
-        pushed(p, &mut found, stmt)?;
-    }
-    Ok(found)
+    items::<Statements, P, T>(t, p, limit, TOP_ITEM, ListEnd::Tokens, true)
 }
 
 /// A script, whose items may stand so many levels deep.
@@ -93,7 +104,7 @@ pub fn script_body<P: Cursor, T: BuildsStatements + BuildsScript>(
 {
     let start = whole_start(p);
     let shebang = p.shebang()?;
-    let body = items::<P, T>(t, p, limit)?;
+    let body = top_statements::<P, T>(t, p, limit)?;
     let span = since(p, start);
     Ok(T::script(span, body, shebang))
 }

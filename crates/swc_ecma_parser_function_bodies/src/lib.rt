@@ -1,0 +1,7 @@
+//! Bodies of functions, read as a type that the caller picks: ECMA-262, sections 15.2 and 15.3.
+#![tactic(auto)]
+
+mod block;
+mod parser;
+
+pub use parser::FnBodyParser;

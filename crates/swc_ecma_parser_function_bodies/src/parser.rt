@@ -1,0 +1,47 @@
+//! What reads the body of a function.
+
+ghost use Rattle.std.specs.Prelude.{◌≡◌};
+ghost use Rattle.swc_ecma_parser_function_bodies.specs.Bodies.{directed_body};
+ghost use Rattle.swc_ecma_parser_reader.specs.State.{GivesAs};
+ghost use Rattle.swc_ecma_parser_shared.specs.Nests.{Nests};
+
+use swc_ecma_parser_cursor::Cursor;
+use swc_ecma_parser_error::PResult;
+use swc_ecma_parser_functions::function::Manner;
+use swc_ecma_parser_grammar::Position;
+use swc_ecma_parser_shared::cover::{Cover, Reading};
+use swc_ecma_parser_shared::grammar::{Grammar, Part};
+use swc_ecma_parser_trees::{MakerOf, Trees};
+
+/// A source from which the body of a function of the tree `T` can be read as a `B`.
+pub trait FnBodyParser<T: Trees, B>: Cursor {
+    ghost use Rattle.std.specs.Prelude.{ℕ, Bool};
+    ghost use Rattle.swc_ecma_parser_model.specs.Tree.{Tree};
+    ghost use Rattle.swc_ecma_parser_reader.specs.State.{Reader};
+
+    /// The tree that a body stands for.
+    ghost body_of: { B → Tree };
+
+    /// How a body of its kind is read, with what stands in it in so many levels.
+    ghost body: { (depth : ℕ) → (is_async is_generator : Bool) → Reader Tree };
+
+    /// A body. A directive that says it is strict is a fault where the parameters are not all plain names: section 15.2.1 of ECMA-262.
+    fn parse_fn_body_inner<
+        S: Fn(&MakerOf<T>, &mut Self, usize, Position) -> PResult<T::Stmt>,
+        E: Fn(&MakerOf<T>, &mut Self, usize, Reading) -> PResult<Cover<T::Expr>>,
+        N: Fn(&MakerOf<T>, &mut Self, usize, Part) -> PResult<T::Pat>,
+    >(
+        &mut self,
+        g: &Grammar<S, E, N>,
+        t: &MakerOf<T>,
+        manner: Manner,
+        is_simple_parameter_list: bool,
+    ) -> PResult<B>
+        requires { Nests Self.seen T.expr_of T.pat_of T.stmt_of g.now.depth
+            (S.pre g.now.stmt) (S.post g.now.stmt) (E.pre g.now.expr) (E.post g.now.expr)
+            (N.pre g.now.pat) (N.post g.now.pat) }
+        ensures { GivesAs body_of
+            (directed_body is_simple_parameter_list
+            (body g.now.depth manner.is_async manner.is_generator) (Self.seen self.old)) result
+            (Self.seen self.new) };
+}
