@@ -147,6 +147,7 @@ fn report_on<'a, R: Files + CpuClock + AllocGlobal>(
         bytes: text.len(),
         tokens: lexing.tokens,
         lexing: times.lexing,
+        first_parse: first.parse,
         parse: times.parse,
         letting_go: times.letting_go,
         growth: parse.growth,

@@ -14,7 +14,9 @@ pub struct Report<'a> {
     pub tokens: u64,
     /// How long lexing took by itself.
     pub lexing: Duration,
-    /// How long the parse took, with its lexer.
+    /// How long the first parse took, with its lexer.
+    pub first_parse: Duration,
+    /// How long the shortest parse took, with its lexer.
     pub parse: Duration,
     /// How long it took to drop the tree.
     pub letting_go: Duration,
@@ -94,13 +96,14 @@ impl fmt::Display for Report<'_> {
         let Report { bytes, tokens, .. } = self;
         let source = self.command.source;
         let lexing = Milliseconds(self.lexing);
+        let first_parse = Milliseconds(self.first_parse);
         let parse = Milliseconds(self.parse);
         let letting_go = Milliseconds(self.letting_go);
         let speed = Tenths(self.speed());
         let memory = Figure(self.bytes_a_token());
         write!(
             f,
-            "{source}: {bytes} bytes, {tokens} tokens, lexing {lexing} ms, parse {parse} ms, letting go {letting_go} ms, {speed} MB/s, {memory} bytes/token"
+            "{source}: {bytes} bytes, {tokens} tokens, lexing {lexing} ms, parse {parse} ms, letting go {letting_go} ms, {speed} MB/s, {memory} bytes/token, first parse {first_parse} ms"
         )
     }
 }

@@ -1,5 +1,7 @@
 //! Statements as values of the example's own type, through its bounds.
 
+ghost use Rattle.std.specs.Prelude.{◌≡◌};
+
 use crate::{Part, is_strict, keep, parts};
 use std::alloc::{AllocError, Global};
 use std::marker::Brand;
