@@ -15,8 +15,7 @@ use swc_ecma_parser_error::PResult;
 use swc_ecma_parser_grammar::Position;
 use swc_ecma_parser_input::{Syntax, Tokens};
 use swc_ecma_parser_lexer::{Lexer, StringInput};
-use swc_ecma_parser_output_readers::{ListEnd, StmtLikeParser, block_body};
-use swc_ecma_parser_outputs::FromStmt;
+use swc_ecma_parser_output_readers::{ListEnd, block_body};
 use swc_ecma_parser_state::{Call, Origin, State};
 use swc_ecma_parser_trees::{Maker, MakerOf};
 
@@ -124,13 +123,11 @@ fn an_export_is_no_part(rt: HostRuntime) -> Result<(), Fail> {
     Ok(())
 }
 
-/// What stands in a block, up to its `}`, in a call that begins here.
-fn block_from<O: Origin, I: Tokens, Y: FromStmt<Ast> + Drop>(
+/// What stands in a block, up to its `}`, as handles of statements, in a call that begins here.
+fn handles_from<O: Origin, I: Tokens>(
     alloc: Global,
     state: State<I>,
-) -> (State<I>, PResult<Vec<Y>>)
-where
-    Call<O, I>: StmtLikeParser<Ast, Y>,
+) -> (State<I>, PResult<Vec<StmtBox>>)
     requires { O.start ≡ state }
 {
     let mut call = state.begin::<O>();
@@ -140,31 +137,21 @@ where
         top_level: false,
     };
     let end = ListEnd::Brace;
-    let read = block_body::<Call<O, I>, Ast, Y>(&maker, &mut call, 100, at, end, false);
+    let read = block_body::<Call<O, I>, Ast, StmtBox>(&maker, &mut call, 100, at, end, false);
     maker.finish();
     (call.end(), read)
+}
+
+fn handles<I: Tokens>(alloc: Global, state: State<I>) -> (State<I>, PResult<Vec<StmtBox>>) {
+    handles_from::<Brand, I>(alloc, state)
 }
 
 #[test]
 fn the_body_of_a_block_is_read_as_handles(rt: HostRuntime) -> Result<(), Fail> {
     let alloc = rt.alloc();
     let state = opened(alloc, "a; let b; } c")?;
-    let (_state, read) = block_from::<Brand, _, StmtBox>(alloc, state);
-    let handles = read?;
-    assert_eq!(rt; handles.len(), 2);
-    Ok(())
-}
-
-#[test]
-fn the_body_of_a_block_is_read_as_parts_in_boxes(rt: HostRuntime) -> Result<(), Fail> {
-    let alloc = rt.alloc();
-    let state = opened(alloc, "'use strict'; let b; } c")?;
-    let (_state, read) = block_from::<Brand, _, Box<Part>>(alloc, state);
-    let parts = read?;
-    assert_eq!(rt; parts.len(), 2);
-    match &*parts[1] {
-        Part::Declaration(_) => {}
-        Part::Other(_) => assert!(rt; false),
-    }
+    let (_state, read) = handles(alloc, state);
+    let found = read?;
+    assert_eq!(rt; found.len(), 2);
     Ok(())
 }
