@@ -4,7 +4,7 @@ use Rattle.swc_ecma_parser_error.specs.Kind.{Fault}
 use Rattle.swc_ecma_parser_model.specs.Tree.{Tree}
 use Rattle.swc_ecma_parser_grammar.specs.Own.{misplaced_directive}
 use Rattle.swc_ecma_parser_reader.specs.Jumps.{told}
-use Rattle.swc_ecma_parser_reader.specs.State.{State, Reader, and_then, ◌>>=◌, ◌>>◌, pure}
+use Rattle.swc_ecma_parser_reader.specs.State.{State, Reader, and_then, ◌>>◌, pure}
 use Rattle.swc_ecma_parser_function_bodies.specs.Bodies.{directed_body}
 
 module _ (is_simple : Bool) (body : Reader Tree) (s u : State) (x : Tree) (read : body s ≡ Ok (x, u)) where
