@@ -9,12 +9,16 @@ returns-in-Ok-clause-ends g c = subst (λ r. Ends r c.args.call c.args.outer c.a
 pub returns-in-Err-clause-ends : goal.returns-in-Err-clause-ends
 returns-in-Err-clause-ends g c =
     let told = c.refused-state.ensures in
-    subst (λ r. Ends r c.args.call c.args.outer c.args.found_module_item (seen c.refused-state.result.0) (Err c.refused-state.result.1)) (sym c.in-Err.is) (c.refused-state.result.1, refl, record {
-      same = told.same;
-      plain = told.plain;
-      back = told.back;
-      flags = told.flags;
-      labels = told.labels;
-      noted = told.noted;
-      memory = told.memory;
-    })
+    subst (λ r. Ends r c.args.call c.args.outer c.args.found_module_item (seen c.refused-state.result.0) (Err c.refused-state.result.1)) (sym c.in-Err.is) (
+      c.refused-state.result.1,
+      refl,
+      record {
+        same = told.same;
+        plain = told.plain;
+        back = told.back;
+        flags = told.flags;
+        labels = told.labels;
+        noted = told.noted;
+        memory = told.memory;
+      },
+    )
