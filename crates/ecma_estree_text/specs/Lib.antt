@@ -1,0 +1,4 @@
+pub mod Quoted
+pub mod Offsets
+pub mod Bracket
+pub mod Number

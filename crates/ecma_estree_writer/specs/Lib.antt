@@ -1,0 +1,5 @@
+pub mod Words
+pub mod Parts
+pub mod Estree
+pub mod Writing
+pub mod Work
