@@ -1,15 +1,13 @@
 //! One file: what it comes to.
 
-use crate::command::{Format, Goal, Options};
+use crate::command::{Format, Options};
 use crate::fault::Fault;
-use ecma_estree::{write_module, write_program, write_script};
+use crate::tree::{Tree, lexer_of, parse, write};
+use ecma_estree_text::{Extras, Places};
 use ecma_faults::{push_json, push_text};
 use std::alloc::{AllocError, Global};
 use swc_ecma_parser::Parser;
-use swc_ecma_parser::common::BytePos;
-use swc_ecma_parser::error::{Error, PResult};
-use swc_ecma_parser::input::Syntax;
-use swc_ecma_parser::lexer::{Lexer, StringInput};
+use swc_ecma_parser::error::Error;
 
 /// How a file comes out.
 #[derive(Clone, Copy, Debug, PartialEq, Eq)]
@@ -22,12 +20,16 @@ pub enum Outcome {
     Refused,
 }
 
-/// What is printed of a file, and how it comes out.
+/// How a file comes out, and what is printed of it.
 #[derive(Debug, Drop)]
 pub struct Checked {
     pub outcome: Outcome,
-    pub out: Vec<u8>,
+    /// How many faults are told.
     pub faults: usize,
+    /// What is for standard output.
+    pub out: Vec<u8>,
+    /// What is for standard error: the faults of a file whose tree is asked for.
+    pub notes: Vec<u8>,
 }
 
 /// Writes one fault in the format that is asked for.
@@ -35,109 +37,100 @@ fn push_fault(
     out: &mut Vec<u8>,
     format: Format,
     file: &str,
-    text: &str,
+    places: &Places<'_>,
     word: &str,
     error: &Error,
 ) -> Result<(), AllocError> {
     match format {
-        Format::Json => push_json(out, file, text, word, error),
-        Format::Text | Format::Estree => push_text(out, file, text, word, error),
+        Format::Json => push_json(out, file, places, word, error),
+        Format::Text | Format::Estree => push_text(out, file, places, word, error),
     }
 }
 
-/// What is printed of an answer: its tree, or the faults and why there is no tree.
-fn checked(
+/// What is told of faults, and of why there is no tree.
+fn told(
+    alloc: Global,
+    format: Format,
+    file: &str,
+    text: &str,
+    faults: &[Error],
+    refusal: Option<&Error>,
+) -> Result<Vec<u8>, AllocError> {
+    let mut out = Vec::new(alloc);
+    if faults.is_empty() && refusal.is_none() {
+        return Ok(out);
+    }
+    let extras = Extras {
+        locations: true,
+        ranges: false,
+    };
+    let places = Places::new(alloc, text, extras)?;
+    for fault in faults {
+        push_fault(&mut out, format, file, &places, "fault", fault)?;
+    }
+    if let Some(error) = refusal {
+        push_fault(&mut out, format, file, &places, "refused", error)?;
+    }
+    Ok(out)
+}
+
+/// What a file with a tree comes to.
+fn with_tree(
     alloc: Global,
     options: Options,
     file: &str,
     text: &str,
-    tree: Result<Option<Vec<u8>>, Error>,
+    tree: Tree,
     faults: &[Error],
 ) -> Result<Checked, AllocError> {
-    let mut out = Vec::new(alloc);
-    let mut count = faults.len();
-    let outcome = match tree {
-        Ok(Some(tree)) => {
-            out = tree;
-            out.push(b'\n')?;
-            if faults.is_empty() {
-                Outcome::Clean
-            } else {
-                Outcome::Faulty
-            }
-        }
-        Ok(None) => {
-            for fault in faults {
-                push_fault(&mut out, options.format, file, text, "fault", fault)?;
-            }
-            if faults.is_empty() {
-                Outcome::Clean
-            } else {
-                Outcome::Faulty
-            }
-        }
-        Err(error) => {
-            for fault in faults {
-                push_fault(&mut out, options.format, file, text, "fault", fault)?;
-            }
-            push_fault(&mut out, options.format, file, text, "refused", &error)?;
-            count = count.saturating_add(1);
-            Outcome::Refused
-        }
+    let outcome = if faults.is_empty() {
+        Outcome::Clean
+    } else {
+        Outcome::Faulty
     };
+    let notes = told(alloc, options.format, file, text, faults, None)?;
+    if options.format != Format::Estree {
+        tree.discard();
+        return Ok(Checked {
+            outcome,
+            faults: faults.len(),
+            out: notes,
+            notes: Vec::new(alloc),
+        });
+    }
+    let written = write(alloc, options, text, &tree);
+    tree.discard();
+    let mut out = written?;
+    out.push(b'\n')?;
     Ok(Checked {
         outcome,
+        faults: faults.len(),
         out,
-        faults: count,
+        notes,
     })
 }
 
-/// The tree of a file as ESTree, if that is asked for.
-fn tree_of(
+/// What a file without a tree comes to.
+fn without_tree(
     alloc: Global,
     options: Options,
-    parser: &mut Parser<Lexer<'_>>,
+    file: &str,
     text: &str,
-) -> Result<PResult<Option<Vec<u8>>>, AllocError> {
-    let wants_tree = options.format == Format::Estree;
-    match options.goal {
-        Goal::Script => match parser.parse_script() {
-            Ok(tree) => {
-                let out = if wants_tree {
-                    Some(write_script(alloc, text, &tree)?)
-                } else {
-                    None
-                };
-                tree.discard();
-                Ok(Ok(out))
-            }
-            Err(error) => Ok(Err(error)),
-        },
-        Goal::Module => match parser.parse_module() {
-            Ok(tree) => {
-                let out = if wants_tree {
-                    Some(write_module(alloc, text, &tree)?)
-                } else {
-                    None
-                };
-                tree.discard();
-                Ok(Ok(out))
-            }
-            Err(error) => Ok(Err(error)),
-        },
-        Goal::Program => match parser.parse_program() {
-            Ok(tree) => {
-                let out = if wants_tree {
-                    Some(write_program(alloc, text, &tree)?)
-                } else {
-                    None
-                };
-                tree.discard();
-                Ok(Ok(out))
-            }
-            Err(error) => Ok(Err(error)),
-        },
-    }
+    error: &Error,
+    faults: &[Error],
+) -> Result<Checked, AllocError> {
+    let told = told(alloc, options.format, file, text, faults, Some(error))?;
+    let (out, notes) = if options.format == Format::Estree {
+        (Vec::new(alloc), told)
+    } else {
+        (told, Vec::new(alloc))
+    };
+    Ok(Checked {
+        outcome: Outcome::Refused,
+        faults: faults.len().saturating_add(1),
+        out,
+        notes,
+    })
 }
 
 /// Reads a text, and writes what is asked for.
@@ -145,10 +138,13 @@ pub fn check(alloc: Global, options: Options, file: &str, text: &str) -> Result<
     if text.len() > u32::MAX as usize {
         return Err(Fault::TooLong);
     }
-    let input = StringInput::new(text, BytePos(0), BytePos(text.len() as u32));
-    let lexer = Lexer::new(alloc, Syntax::default(), input, false);
+    let lexer = lexer_of(alloc, options, text);
     let mut parser = Parser::new_from_limited(alloc, lexer, options.limit);
-    let tree = tree_of(alloc, options, &mut parser, text)?;
+    let tree = parse(&mut parser, options.goal);
     let faults = parser.take_errors();
-    Ok(checked(alloc, options, file, text, tree, faults.as_slice())?)
+    let checked = match tree {
+        Ok(tree) => with_tree(alloc, options, file, text, tree, faults.as_slice())?,
+        Err(error) => without_tree(alloc, options, file, text, &error, faults.as_slice())?,
+    };
+    Ok(checked)
 }

@@ -6,9 +6,12 @@ use thiserror::Error;
 /// Why a file or a run comes to no answer. Each is one line on standard error.
 #[derive(Clone, Copy, Debug, PartialEq, Eq, Error)]
 pub enum Fault {
-    /// A file cannot be read, or is not UTF-8.
-    #[error("cannot read it, or it is not UTF-8")]
+    /// A file cannot be read.
+    #[error("cannot read it")]
     CannotRead,
+    /// A file is not UTF-8.
+    #[error("it is not UTF-8")]
+    NotUtf8,
     /// A file is too long.
     #[error("it is too long")]
     TooLong,

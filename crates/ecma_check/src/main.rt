@@ -5,6 +5,7 @@ mod check;
 mod command;
 mod fault;
 mod run;
+mod tree;
 
 use std::process::ExitCode;
 use std::rt::Env;

@@ -1,12 +1,21 @@
 //! A run, from its words to its status.
 
 use crate::check::{Checked, Outcome, check};
-use crate::command::{Options, matches_of, options_of};
+use crate::command::{Format, Options, matches_of, options_of};
 use crate::fault::Fault;
-use std::alloc::Global;
 use std::fs;
 use std::io::{self, ErrorKind, Read, Write};
 use std::rt::Files;
+
+/// What the files of a run come to.
+#[derive(Clone, Copy)]
+struct Sum {
+    files: usize,
+    faults: usize,
+    refused: usize,
+    unread: usize,
+    status: u8,
+}
 
 /// The text of standard input or of a file.
 fn text_of<R: Files + AllocGlobal, I: Read>(
@@ -25,40 +34,82 @@ fn text_of<R: Files + AllocGlobal, I: Read>(
     };
     match text {
         Ok(text) => Ok(text),
-        Err(error) => {
-            if error.kind() == ErrorKind::OutOfMemory {
-                Err(Fault::OutOfMemory)
-            } else {
-                Err(Fault::CannotRead)
-            }
-        }
+        Err(error) => match error.kind() {
+            ErrorKind::OutOfMemory => Err(Fault::OutOfMemory),
+            ErrorKind::InvalidData => Err(Fault::NotUtf8),
+            _ => Err(Fault::CannotRead),
+        },
     }
 }
 
 /// Reads a file, and prints what it comes to.
-fn answer<R: Files + AllocGlobal, I: Read, W: Write>(
+fn answer<R: Files + AllocGlobal, I: Read, W: Write, E: Write>(
     rt: &R,
     options: Options,
     input: &mut I,
     output: &mut W,
+    errors: &mut E,
     file: &str,
-) -> Result<Outcome, Fault> {
+) -> Result<(Outcome, usize), Fault> {
     let text = text_of(rt, input, file)?;
-    let Checked { outcome, out, .. } = check(rt.alloc(), options, file, text.as_str())?;
+    let Checked {
+        outcome,
+        faults,
+        out,
+        notes,
+    } = check(rt.alloc(), options, file, text.as_str())?;
     if output.write_all(out.as_slice()).is_err() {
         return Err(Fault::CannotWrite);
     }
-    Ok(outcome)
+    // There is no place left to say that this fails.
+    let _ = errors.write_all(notes.as_slice());
+    Ok((outcome, faults))
 }
 
 /// The status of an outcome.
-fn status_of(outcome: Result<Outcome, Fault>) -> u8 {
+fn status_of(outcome: Outcome) -> u8 {
     match outcome {
-        Ok(Outcome::Clean) => 0,
-        Ok(Outcome::Faulty) => 1,
-        Ok(Outcome::Refused) => 2,
-        Err(_) => 3,
+        Outcome::Clean => 0,
+        Outcome::Faulty => 1,
+        Outcome::Refused => 2,
     }
+}
+
+/// A sum and a file more.
+fn added(sum: Sum, outcome: Result<(Outcome, usize), Fault>) -> Sum {
+    let files = sum.files.saturating_add(1);
+    match outcome {
+        Ok((outcome, faults)) => Sum {
+            files,
+            faults: sum.faults.saturating_add(faults),
+            refused: if outcome == Outcome::Refused {
+                sum.refused.saturating_add(1)
+            } else {
+                sum.refused
+            },
+            unread: sum.unread,
+            status: status_of(outcome).max(sum.status),
+        },
+        Err(_) => Sum {
+            files,
+            faults: sum.faults,
+            refused: sum.refused,
+            unread: sum.unread.saturating_add(1),
+            status: 3,
+        },
+    }
+}
+
+/// Writes the line that sums up a run.
+fn write_sum<W: Write>(output: &mut W, sum: Sum) -> io::Result<()> {
+    let Sum {
+        files,
+        faults,
+        refused,
+        unread,
+        ..
+    } = sum;
+    writeln!(output, "files: {files}, faults: {faults}, refused: {refused}, unread: {unread}")
 }
 
 /// Reads each file, prints what it comes to, and answers the highest status.
@@ -70,22 +121,34 @@ fn run_files<R: Files + AllocGlobal, I: Read, W: Write, E: Write>(
     output: &mut W,
     errors: &mut E,
 ) -> u8 {
-    let mut status = 0;
+    let mut sum = Sum {
+        files: 0,
+        faults: 0,
+        refused: 0,
+        unread: 0,
+        status: 0,
+    };
+    if options.format == Format::Estree && files.len() != 1 {
+        let _ = writeln!(errors, "ecma-check: a tree is written of one file");
+        return 3;
+    }
     for file in files {
-        let outcome = answer(rt, options, input, output, file);
+        let outcome = answer(rt, options, input, output, errors, file);
         if let Err(fault) = outcome {
-            // There is no place left to say that this fails.
             let _ = writeln!(errors, "{file}: {fault}");
         }
-        status = status_of(outcome).max(status);
+        sum = added(sum, outcome);
         if let Err(Fault::CannotWrite) = outcome {
-            break;
+            return 3;
         }
     }
-    if output.flush().is_err() {
-        status = 3;
+    if options.format == Format::Text && write_sum(output, sum).is_err() {
+        return 3;
     }
-    status
+    if output.flush().is_err() {
+        return 3;
+    }
+    sum.status
 }
 
 /// A run over its words, a reader and two writers. It answers the status: 0 where each file is clean, 1 where one has faults, 2 where one has

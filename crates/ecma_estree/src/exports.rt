@@ -20,7 +20,7 @@ use swc_ecma_parser_ast::{
 /// Writes an item.
 #[tactic(auto, using(ecma_estree_writer::proofs::Written::appended_on_ok, ecma_estree_writer::proofs::Written::pushed_on_ok))]
 pub(crate) fn write_item<'a>(w: &mut Writer<'a>, item: &'a ModuleItem) -> Result<(), AllocError>
-    ensures { OnOk result (Writes w.old w.new (json w.old.text plain (view_module_item item.now))) }
+    ensures { OnOk result (Writes w.old w.new (json w.old.source plain (view_module_item item.now))) }
 {
     match item {
         ModuleItem::ModuleDecl(x) => write_module_decl(w, x),
@@ -34,7 +34,7 @@ pub(crate) fn write_directive_item<'a>(
     w: &mut Writer<'a>,
     item: &'a ModuleItem,
 ) -> Result<(), AllocError>
-    ensures { OnOk result (Writes w.old w.new (json w.old.text (next directives (view_module_item item.now)) (view_module_item item.now))) }
+    ensures { OnOk result (Writes w.old w.new (json w.old.source (next directives (view_module_item item.now)) (view_module_item item.now))) }
 {
     match item {
         ModuleItem::ModuleDecl(x) => write_module_decl(w, x),
@@ -45,7 +45,7 @@ pub(crate) fn write_directive_item<'a>(
 /// Writes an import or an export.
 #[tactic(auto, using(ecma_estree_writer::proofs::Written::appended_on_ok, ecma_estree_writer::proofs::Written::pushed_on_ok))]
 fn write_module_decl<'a>(w: &mut Writer<'a>, decl: &'a ModuleDecl) -> Result<(), AllocError>
-    ensures { OnOk result (Writes w.old w.new (json w.old.text plain (view_module_decl decl.now))) }
+    ensures { OnOk result (Writes w.old w.new (json w.old.source plain (view_module_decl decl.now))) }
 {
     match decl {
         ModuleDecl::Import(x) => write_import(w, x),
@@ -59,7 +59,7 @@ fn write_module_decl<'a>(w: &mut Writer<'a>, decl: &'a ModuleDecl) -> Result<(),
 
 /// Writes an exported declaration.
 fn write_export_decl<'a>(w: &mut Writer<'a>, x: &'a ExportDecl) -> Result<(), AllocError>
-    ensures { OnOk result (Writes w.old w.new (json w.old.text plain (view_export_decl x.now))) }
+    ensures { OnOk result (Writes w.old w.new (json w.old.source plain (view_export_decl x.now))) }
 {
     w.open("ExportNamedDeclaration", x.span)?;
     w.key("declaration")?;
@@ -77,7 +77,7 @@ fn write_export_decl<'a>(w: &mut Writer<'a>, x: &'a ExportDecl) -> Result<(), Al
 
 /// Has written what an export takes names from, or `null`.
 fn push_source<'a>(w: &mut Writer<'a>, src: &'a Option<Str>) -> Result<(), AllocError>
-    ensures { OnOk result (Pushes w.old w.new (json w.old.text plain (view_option view_str src.now))) }
+    ensures { OnOk result (Pushes w.old w.new (json w.old.source plain (view_option view_str src.now))) }
 {
     match src {
         Some(x) => w.push(Work::Str(x)),
@@ -87,7 +87,7 @@ fn push_source<'a>(w: &mut Writer<'a>, src: &'a Option<Str>) -> Result<(), Alloc
 
 /// Writes exported names, of this module or of another.
 fn write_named_export<'a>(w: &mut Writer<'a>, x: &'a NamedExport) -> Result<(), AllocError>
-    ensures { OnOk result (Writes w.old w.new (json w.old.text plain (view_named_export x.now))) }
+    ensures { OnOk result (Writes w.old w.new (json w.old.source plain (view_named_export x.now))) }
 {
     if let [ExportSpecifier::Namespace(namespace)] = x.specifiers.as_slice() {
         return write_namespace_export(w, x, &namespace.name);
@@ -110,7 +110,7 @@ fn write_namespace_export<'a>(
     x: &'a NamedExport,
     name: &ModuleExportName,
 ) -> Result<(), AllocError>
-    ensures { OnOk result (Writes w.old w.new (node w.old.text (codes "ExportAllDeclaration") x.now.span ++ (key (codes "exported") ++ (json w.old.text plain (view_module_export_name name.now) ++ (key (codes "source") ++ (json w.old.text plain (view_option view_str x.now.src) ++ (key (codes "attributes") ++ (open_list ++ (json w.old.text attributes (view_option view_object_lit x.now.with) ++ (end_list ++ end)))))))))) }
+    ensures { OnOk result (Writes w.old w.new (node w.old.source (codes "ExportAllDeclaration") x.now.span ++ (key (codes "exported") ++ (json w.old.source plain (view_module_export_name name.now) ++ (key (codes "source") ++ (json w.old.source plain (view_option view_str x.now.src) ++ (key (codes "attributes") ++ (open_list ++ (json w.old.source attributes (view_option view_object_lit x.now.with) ++ (end_list ++ end)))))))))) }
 {
     w.open("ExportAllDeclaration", x.span)?;
     w.key("exported")?;
@@ -123,7 +123,7 @@ fn write_namespace_export<'a>(
 
 /// Writes a function or class that is exported by default.
 fn write_default_decl<'a>(w: &mut Writer<'a>, x: &'a ExportDefaultDecl) -> Result<(), AllocError>
-    ensures { OnOk result (Writes w.old w.new (json w.old.text plain (view_export_default_decl x.now))) }
+    ensures { OnOk result (Writes w.old w.new (json w.old.source plain (view_export_default_decl x.now))) }
 {
     w.open("ExportDefaultDeclaration", x.span)?;
     w.key("declaration")?;
@@ -136,7 +136,7 @@ fn write_default_decl<'a>(w: &mut Writer<'a>, x: &'a ExportDefaultDecl) -> Resul
 
 /// Writes an expression that is exported by default.
 fn write_default_expr<'a>(w: &mut Writer<'a>, x: &'a ExportDefaultExpr) -> Result<(), AllocError>
-    ensures { OnOk result (Writes w.old w.new (json w.old.text plain (view_export_default_expr x.now))) }
+    ensures { OnOk result (Writes w.old w.new (json w.old.source plain (view_export_default_expr x.now))) }
 {
     w.open("ExportDefaultDeclaration", x.span)?;
     w.key("declaration")?;
@@ -146,7 +146,7 @@ fn write_default_expr<'a>(w: &mut Writer<'a>, x: &'a ExportDefaultExpr) -> Resul
 
 /// Writes an export of all names of another module.
 fn write_export_all<'a>(w: &mut Writer<'a>, x: &'a ExportAll) -> Result<(), AllocError>
-    ensures { OnOk result (Writes w.old w.new (json w.old.text plain (view_export_all x.now))) }
+    ensures { OnOk result (Writes w.old w.new (json w.old.source plain (view_export_all x.now))) }
 {
     w.open("ExportAllDeclaration", x.span)?;
     w.key("exported")?;
@@ -162,7 +162,7 @@ pub(crate) fn write_export_specifier(
     w: &mut Writer<'_>,
     specifier: &ExportSpecifier,
 ) -> Result<(), AllocError>
-    ensures { OnOk result (Appends w.old w.new (json w.old.text plain (view_export_specifier specifier.now))) }
+    ensures { OnOk result (Appends w.old w.new (json w.old.source plain (view_export_specifier specifier.now))) }
 {
     match specifier {
         ExportSpecifier::Named(x) => write_named(w, x),
@@ -188,7 +188,7 @@ fn write_exported(
     span: Span,
     name: &ModuleExportName,
 ) -> Result<(), AllocError>
-    ensures { OnOk result (Appends w.old w.new (node w.old.text kind.now span ++ (key (codes "exported") ++ (json w.old.text plain (view_module_export_name name.now) ++ end)))) }
+    ensures { OnOk result (Appends w.old w.new (node w.old.source kind.now span ++ (key (codes "exported") ++ (json w.old.source plain (view_module_export_name name.now) ++ end)))) }
 {
     w.open(kind, span)?;
     w.key("exported")?;
@@ -198,7 +198,7 @@ fn write_exported(
 
 /// Writes the name that something is exported by: its own, where there is no other.
 fn write_exported_name(w: &mut Writer<'_>, x: &ExportNamedSpecifier) -> Result<(), AllocError>
-    ensures { OnOk result (Appends w.old w.new (first_or w.old.text (view_option view_module_export_name x.now.exported) (view_module_export_name x.now.orig))) }
+    ensures { OnOk result (Appends w.old w.new (first_or w.old.source (view_option view_module_export_name x.now.exported) (view_module_export_name x.now.orig))) }
 {
     match &x.exported {
         Some(exported) => write_export_name(w, exported),
@@ -208,7 +208,7 @@ fn write_exported_name(w: &mut Writer<'_>, x: &ExportNamedSpecifier) -> Result<(
 
 /// Writes a name, with the one that it is exported by.
 fn write_named(w: &mut Writer<'_>, x: &ExportNamedSpecifier) -> Result<(), AllocError>
-    ensures { OnOk result (Appends w.old w.new (json w.old.text plain (view_export_named_specifier x.now))) }
+    ensures { OnOk result (Appends w.old w.new (json w.old.source plain (view_export_named_specifier x.now))) }
 {
     w.open("ExportSpecifier", x.span)?;
     w.key("local")?;

@@ -15,7 +15,7 @@ use swc_ecma_parser_ast::{
 
 /// Writes `while`.
 pub(crate) fn write_while<'a>(w: &mut Writer<'a>, x: &'a WhileStmt) -> Result<(), AllocError>
-    ensures { OnOk result (Writes w.old w.new (json w.old.text plain (view_while_stmt x.now))) }
+    ensures { OnOk result (Writes w.old w.new (json w.old.source plain (view_while_stmt x.now))) }
 {
     w.open("WhileStatement", x.span)?;
     w.key("test")?;
@@ -27,7 +27,7 @@ pub(crate) fn write_while<'a>(w: &mut Writer<'a>, x: &'a WhileStmt) -> Result<()
 
 /// Writes `do`.
 pub(crate) fn write_do_while<'a>(w: &mut Writer<'a>, x: &'a DoWhileStmt) -> Result<(), AllocError>
-    ensures { OnOk result (Writes w.old w.new (json w.old.text plain (view_do_while_stmt x.now))) }
+    ensures { OnOk result (Writes w.old w.new (json w.old.source plain (view_do_while_stmt x.now))) }
 {
     w.open("DoWhileStatement", x.span)?;
     w.key("body")?;
@@ -39,7 +39,7 @@ pub(crate) fn write_do_while<'a>(w: &mut Writer<'a>, x: &'a DoWhileStmt) -> Resu
 
 /// Writes `for` with three parts.
 pub(crate) fn write_for<'a>(w: &mut Writer<'a>, x: &'a ForStmt) -> Result<(), AllocError>
-    ensures { OnOk result (Writes w.old w.new (json w.old.text plain (view_for_stmt x.now))) }
+    ensures { OnOk result (Writes w.old w.new (json w.old.source plain (view_for_stmt x.now))) }
 {
     w.open("ForStatement", x.span)?;
     w.key("init")?;
@@ -60,7 +60,7 @@ pub(crate) fn write_for<'a>(w: &mut Writer<'a>, x: &'a ForStmt) -> Result<(), Al
 /// Writes what a loop over values binds or assigns to.
 #[tactic(auto, using(ecma_estree_writer::proofs::Written::appended_on_ok, ecma_estree_writer::proofs::Written::pushed_on_ok))]
 fn write_head<'a>(w: &mut Writer<'a>, head: &'a ForHead) -> Result<(), AllocError>
-    ensures { OnOk result (Writes w.old w.new (json w.old.text plain (view_for_head head.now))) }
+    ensures { OnOk result (Writes w.old w.new (json w.old.source plain (view_for_head head.now))) }
 {
     match head {
         ForHead::VarDecl(x) => write_var(w, x),
@@ -71,7 +71,7 @@ fn write_head<'a>(w: &mut Writer<'a>, head: &'a ForHead) -> Result<(), AllocErro
 
 /// Writes `for` with `in`.
 pub(crate) fn write_for_in<'a>(w: &mut Writer<'a>, x: &'a ForInStmt) -> Result<(), AllocError>
-    ensures { OnOk result (Writes w.old w.new (json w.old.text plain (view_for_in_stmt x.now))) }
+    ensures { OnOk result (Writes w.old w.new (json w.old.source plain (view_for_in_stmt x.now))) }
 {
     w.open("ForInStatement", x.span)?;
     w.key("left")?;
@@ -85,7 +85,7 @@ pub(crate) fn write_for_in<'a>(w: &mut Writer<'a>, x: &'a ForInStmt) -> Result<(
 
 /// Writes `for` with `of`.
 pub(crate) fn write_for_of<'a>(w: &mut Writer<'a>, x: &'a ForOfStmt) -> Result<(), AllocError>
-    ensures { OnOk result (Writes w.old w.new (json w.old.text plain (view_for_of_stmt x.now))) }
+    ensures { OnOk result (Writes w.old w.new (json w.old.source plain (view_for_of_stmt x.now))) }
 {
     w.open("ForOfStatement", x.span)?;
     w.flag("await", x.is_await)?;

@@ -22,7 +22,7 @@ use swc_ecma_parser_ast::{ExprBox, PatBox, StmtBox, Str};
 
 /// Writes an expression.
 fn write_boxed_expr<'a>(w: &mut Writer<'a>, expr: &'a ExprBox) -> Result<(), AllocError>
-    ensures { OnOk result (Writes w.old w.new (json w.old.text plain (expr.now.node.tree))) }
+    ensures { OnOk result (Writes w.old w.new (json w.old.source plain (expr.now.node.tree))) }
 {
     match expr.get() {
         Some(x) => write_expr(w, x),
@@ -32,7 +32,7 @@ fn write_boxed_expr<'a>(w: &mut Writer<'a>, expr: &'a ExprBox) -> Result<(), All
 
 /// Writes a pattern.
 fn write_boxed_pat<'a>(w: &mut Writer<'a>, pat: &'a PatBox) -> Result<(), AllocError>
-    ensures { OnOk result (Writes w.old w.new (json w.old.text plain (pat.now.node.tree))) }
+    ensures { OnOk result (Writes w.old w.new (json w.old.source plain (pat.now.node.tree))) }
 {
     match pat.get() {
         Some(x) => write_pat(w, x),
@@ -42,7 +42,7 @@ fn write_boxed_pat<'a>(w: &mut Writer<'a>, pat: &'a PatBox) -> Result<(), AllocE
 
 /// Writes a statement.
 fn write_boxed_stmt<'a>(w: &mut Writer<'a>, stmt: &'a StmtBox) -> Result<(), AllocError>
-    ensures { OnOk result (Writes w.old w.new (json w.old.text plain (stmt.now.node.tree))) }
+    ensures { OnOk result (Writes w.old w.new (json w.old.source plain (stmt.now.node.tree))) }
 {
     match stmt.get() {
         Some(x) => write_stmt(w, x),
@@ -61,13 +61,14 @@ fn write_directive_field(w: &mut Writer<'_>, literal: &Str) -> Result<(), AllocE
 /// Does one piece of work.
 #[tactic(auto, using(ecma_estree_writer::proofs::Written::appended_on_ok, ecma_estree_writer::proofs::Written::pushed_on_ok))]
 fn step<'a>(w: &mut Writer<'a>, work: Work<'a>) -> Result<(), AllocError>
-    ensures { OnOk result (Writes w.old w.new (work_text w.old.text work.entry)) }
+    ensures { OnOk result (Writes w.old w.new (work_text w.old.source work.entry)) }
 {
     match work {
         Work::End => w.end(),
         Work::OpenList => w.open_list(),
         Work::EndList => w.end_list(),
         Work::Nothing => w.nothing(),
+        Work::Further => w.further_fields(),
         Work::Key(name) => w.key(name),
         Work::Word(name, word) => w.word(name, word),
         Work::Bool(name, value) => w.flag(name, value),

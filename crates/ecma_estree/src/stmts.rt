@@ -20,7 +20,7 @@ use swc_ecma_parser_ast::{
 /// Writes a statement, or a declaration in its place.
 #[tactic(auto, using(ecma_estree_writer::proofs::Written::appended_on_ok, ecma_estree_writer::proofs::Written::pushed_on_ok))]
 pub(crate) fn write_stmt<'a>(w: &mut Writer<'a>, stmt: &'a Stmt) -> Result<(), AllocError>
-    ensures { OnOk result (Writes w.old w.new (json w.old.text plain (view_stmt stmt.now))) }
+    ensures { OnOk result (Writes w.old w.new (json w.old.source plain (view_stmt stmt.now))) }
 {
     match stmt {
         Stmt::Block(x) => write_block(w, x),
@@ -48,7 +48,7 @@ pub(crate) fn write_stmt<'a>(w: &mut Writer<'a>, stmt: &'a Stmt) -> Result<(), A
 /// Writes a declaration.
 #[tactic(auto, using(ecma_estree_writer::proofs::Written::appended_on_ok, ecma_estree_writer::proofs::Written::pushed_on_ok))]
 pub(crate) fn write_decl<'a>(w: &mut Writer<'a>, decl: &'a Decl) -> Result<(), AllocError>
-    ensures { OnOk result (Writes w.old w.new (json w.old.text plain (view_decl decl.now))) }
+    ensures { OnOk result (Writes w.old w.new (json w.old.source plain (view_decl decl.now))) }
 {
     match decl {
         Decl::Class(x) => write_class_decl(w, &x.ident, &x.class),
@@ -60,7 +60,7 @@ pub(crate) fn write_decl<'a>(w: &mut Writer<'a>, decl: &'a Decl) -> Result<(), A
 
 /// Writes statements in braces.
 pub(crate) fn write_block<'a>(w: &mut Writer<'a>, x: &'a BlockStmt) -> Result<(), AllocError>
-    ensures { OnOk result (Writes w.old w.new (json w.old.text plain (view_block_stmt x.now))) }
+    ensures { OnOk result (Writes w.old w.new (json w.old.source plain (view_block_stmt x.now))) }
 {
     w.open("BlockStatement", x.span)?;
     w.list_key("body")?;
@@ -74,7 +74,7 @@ pub(crate) fn write_block<'a>(w: &mut Writer<'a>, x: &'a BlockStmt) -> Result<()
 
 /// Writes the body of a function.
 pub(crate) fn write_body<'a>(w: &mut Writer<'a>, x: &'a BlockStmt) -> Result<(), AllocError>
-    ensures { OnOk result (Writes w.old w.new (json w.old.text directives (view_block_stmt x.now))) }
+    ensures { OnOk result (Writes w.old w.new (json w.old.source directives (view_block_stmt x.now))) }
 {
     w.open("BlockStatement", x.span)?;
     w.list_key("body")?;
@@ -88,7 +88,7 @@ pub(crate) fn write_body<'a>(w: &mut Writer<'a>, x: &'a BlockStmt) -> Result<(),
 
 /// Writes an expression as a statement.
 fn write_expr_stmt<'a>(w: &mut Writer<'a>, x: &'a ExprStmt) -> Result<(), AllocError>
-    ensures { OnOk result (Writes w.old w.new (json w.old.text plain (view_expr_stmt x.now))) }
+    ensures { OnOk result (Writes w.old w.new (json w.old.source plain (view_expr_stmt x.now))) }
 {
     w.open("ExpressionStatement", x.span)?;
     w.key("expression")?;
@@ -99,7 +99,7 @@ fn write_expr_stmt<'a>(w: &mut Writer<'a>, x: &'a ExprStmt) -> Result<(), AllocE
 /// Writes a statement that is a directive where it is a string; else as it is.
 #[tactic(auto, using(ecma_estree_writer::proofs::Written::appended_on_ok, ecma_estree_writer::proofs::Written::pushed_on_ok))]
 pub(crate) fn write_directive<'a>(w: &mut Writer<'a>, stmt: &'a Stmt) -> Result<(), AllocError>
-    ensures { OnOk result (Writes w.old w.new (json w.old.text (next directives (view_stmt stmt.now)) (view_stmt stmt.now))) }
+    ensures { OnOk result (Writes w.old w.new (json w.old.source (next directives (view_stmt stmt.now)) (view_stmt stmt.now))) }
 {
     let Stmt::Expr(x) = stmt else {
         return write_stmt(w, stmt);
@@ -116,7 +116,7 @@ pub(crate) fn write_directive<'a>(w: &mut Writer<'a>, stmt: &'a Stmt) -> Result<
 
 /// Writes `with`.
 fn write_with<'a>(w: &mut Writer<'a>, x: &'a WithStmt) -> Result<(), AllocError>
-    ensures { OnOk result (Writes w.old w.new (json w.old.text plain (view_with_stmt x.now))) }
+    ensures { OnOk result (Writes w.old w.new (json w.old.source plain (view_with_stmt x.now))) }
 {
     w.open("WithStatement", x.span)?;
     w.key("object")?;
@@ -128,7 +128,7 @@ fn write_with<'a>(w: &mut Writer<'a>, x: &'a WithStmt) -> Result<(), AllocError>
 
 /// Writes `return`.
 fn write_return<'a>(w: &mut Writer<'a>, x: &'a ReturnStmt) -> Result<(), AllocError>
-    ensures { OnOk result (Writes w.old w.new (json w.old.text plain (view_return_stmt x.now))) }
+    ensures { OnOk result (Writes w.old w.new (json w.old.source plain (view_return_stmt x.now))) }
 {
     w.open("ReturnStatement", x.span)?;
     w.key("argument")?;
@@ -138,7 +138,7 @@ fn write_return<'a>(w: &mut Writer<'a>, x: &'a ReturnStmt) -> Result<(), AllocEr
 
 /// Writes a statement with a label.
 fn write_labeled<'a>(w: &mut Writer<'a>, x: &'a LabeledStmt) -> Result<(), AllocError>
-    ensures { OnOk result (Writes w.old w.new (json w.old.text plain (view_labeled_stmt x.now))) }
+    ensures { OnOk result (Writes w.old w.new (json w.old.source plain (view_labeled_stmt x.now))) }
 {
     w.open("LabeledStatement", x.span)?;
     w.key("body")?;
@@ -155,7 +155,7 @@ fn write_jump(
     span: Span,
     label: &Option<Ident>,
 ) -> Result<(), AllocError>
-    ensures { OnOk result (Appends w.old w.new (node w.old.text kind.now span ++ (key (codes "label") ++ (json w.old.text plain (view_option view_ident label.now) ++ end)))) }
+    ensures { OnOk result (Appends w.old w.new (node w.old.source kind.now span ++ (key (codes "label") ++ (json w.old.source plain (view_option view_ident label.now) ++ end)))) }
 {
     w.open(kind, span)?;
     w.key("label")?;
@@ -165,7 +165,7 @@ fn write_jump(
 
 /// Has a statement written, or `null`.
 fn push_optional_stmt<'a>(w: &mut Writer<'a>, stmt: &'a Option<StmtBox>) -> Result<(), AllocError>
-    ensures { OnOk result (Pushes w.old w.new (json w.old.text plain (view_option (λ b. b.node.tree) stmt.now))) }
+    ensures { OnOk result (Pushes w.old w.new (json w.old.source plain (view_option (λ b. b.node.tree) stmt.now))) }
 {
     match stmt {
         Some(x) => w.push(Work::Stmt(x)),
@@ -178,7 +178,7 @@ fn push_optional_block<'a>(
     w: &mut Writer<'a>,
     block: &'a Option<BlockStmt>,
 ) -> Result<(), AllocError>
-    ensures { OnOk result (Pushes w.old w.new (json w.old.text plain (view_option view_block_stmt block.now))) }
+    ensures { OnOk result (Pushes w.old w.new (json w.old.source plain (view_option view_block_stmt block.now))) }
 {
     match block {
         Some(x) => w.push(Work::Block(x)),
@@ -191,7 +191,7 @@ fn push_optional_catch<'a>(
     w: &mut Writer<'a>,
     handler: &'a Option<CatchClause>,
 ) -> Result<(), AllocError>
-    ensures { OnOk result (Pushes w.old w.new (json w.old.text plain (view_option view_catch_clause handler.now))) }
+    ensures { OnOk result (Pushes w.old w.new (json w.old.source plain (view_option view_catch_clause handler.now))) }
 {
     match handler {
         Some(x) => w.push(Work::Catch(x)),
@@ -201,7 +201,7 @@ fn push_optional_catch<'a>(
 
 /// Writes `if`.
 fn write_if<'a>(w: &mut Writer<'a>, x: &'a IfStmt) -> Result<(), AllocError>
-    ensures { OnOk result (Writes w.old w.new (json w.old.text plain (view_if_stmt x.now))) }
+    ensures { OnOk result (Writes w.old w.new (json w.old.source plain (view_if_stmt x.now))) }
 {
     w.open("IfStatement", x.span)?;
     w.key("test")?;
@@ -215,7 +215,7 @@ fn write_if<'a>(w: &mut Writer<'a>, x: &'a IfStmt) -> Result<(), AllocError>
 
 /// Writes `switch`.
 fn write_switch<'a>(w: &mut Writer<'a>, x: &'a SwitchStmt) -> Result<(), AllocError>
-    ensures { OnOk result (Writes w.old w.new (json w.old.text plain (view_switch_stmt x.now))) }
+    ensures { OnOk result (Writes w.old w.new (json w.old.source plain (view_switch_stmt x.now))) }
 {
     w.open("SwitchStatement", x.span)?;
     w.key("discriminant")?;
@@ -229,7 +229,7 @@ fn write_switch<'a>(w: &mut Writer<'a>, x: &'a SwitchStmt) -> Result<(), AllocEr
 
 /// Writes a case of a `switch`.
 pub(crate) fn write_case<'a>(w: &mut Writer<'a>, x: &'a SwitchCase) -> Result<(), AllocError>
-    ensures { OnOk result (Writes w.old w.new (json w.old.text plain (view_switch_case x.now))) }
+    ensures { OnOk result (Writes w.old w.new (json w.old.source plain (view_switch_case x.now))) }
 {
     w.open("SwitchCase", x.span)?;
     w.list_key("consequent")?;
@@ -245,7 +245,7 @@ pub(crate) fn write_case<'a>(w: &mut Writer<'a>, x: &'a SwitchCase) -> Result<()
 
 /// Writes `throw`.
 fn write_throw<'a>(w: &mut Writer<'a>, x: &'a ThrowStmt) -> Result<(), AllocError>
-    ensures { OnOk result (Writes w.old w.new (json w.old.text plain (view_throw_stmt x.now))) }
+    ensures { OnOk result (Writes w.old w.new (json w.old.source plain (view_throw_stmt x.now))) }
 {
     w.open("ThrowStatement", x.span)?;
     w.key("argument")?;
@@ -255,7 +255,7 @@ fn write_throw<'a>(w: &mut Writer<'a>, x: &'a ThrowStmt) -> Result<(), AllocErro
 
 /// Writes `try`.
 fn write_try<'a>(w: &mut Writer<'a>, x: &'a TryStmt) -> Result<(), AllocError>
-    ensures { OnOk result (Writes w.old w.new (json w.old.text plain (view_try_stmt x.now))) }
+    ensures { OnOk result (Writes w.old w.new (json w.old.source plain (view_try_stmt x.now))) }
 {
     w.open("TryStatement", x.span)?;
     w.key("block")?;
@@ -269,7 +269,7 @@ fn write_try<'a>(w: &mut Writer<'a>, x: &'a TryStmt) -> Result<(), AllocError>
 
 /// Writes what catches what was thrown.
 pub(crate) fn write_catch<'a>(w: &mut Writer<'a>, x: &'a CatchClause) -> Result<(), AllocError>
-    ensures { OnOk result (Writes w.old w.new (json w.old.text plain (view_catch_clause x.now))) }
+    ensures { OnOk result (Writes w.old w.new (json w.old.source plain (view_catch_clause x.now))) }
 {
     w.open("CatchClause", x.span)?;
     w.key("param")?;
@@ -284,7 +284,7 @@ pub(crate) fn write_catch<'a>(w: &mut Writer<'a>, x: &'a CatchClause) -> Result<
 
 /// Writes a declaration of variables.
 pub(crate) fn write_var<'a>(w: &mut Writer<'a>, x: &'a VarDecl) -> Result<(), AllocError>
-    ensures { OnOk result (Writes w.old w.new (json w.old.text plain (view_var_decl x.now))) }
+    ensures { OnOk result (Writes w.old w.new (json w.old.source plain (view_var_decl x.now))) }
 {
     w.open("VariableDeclaration", x.span)?;
     w.list_key("declarations")?;
@@ -296,7 +296,7 @@ pub(crate) fn write_var<'a>(w: &mut Writer<'a>, x: &'a VarDecl) -> Result<(), Al
 
 /// Writes a declaration of resources.
 pub(crate) fn write_using<'a>(w: &mut Writer<'a>, x: &'a UsingDecl) -> Result<(), AllocError>
-    ensures { OnOk result (Writes w.old w.new (json w.old.text plain (view_using_decl x.now))) }
+    ensures { OnOk result (Writes w.old w.new (json w.old.source plain (view_using_decl x.now))) }
 {
     w.open("VariableDeclaration", x.span)?;
     w.list_key("declarations")?;
@@ -311,7 +311,7 @@ pub(crate) fn write_declarator<'a>(
     w: &mut Writer<'a>,
     x: &'a VarDeclarator,
 ) -> Result<(), AllocError>
-    ensures { OnOk result (Writes w.old w.new (json w.old.text plain (view_declarator x.now))) }
+    ensures { OnOk result (Writes w.old w.new (json w.old.source plain (view_declarator x.now))) }
 {
     w.open("VariableDeclarator", x.span)?;
     w.key("id")?;

@@ -17,7 +17,7 @@ use swc_ecma_parser_ast::{
 
 /// Has the name of a member written.
 fn push_member_prop<'a>(w: &mut Writer<'a>, prop: &'a MemberProp) -> Result<(), AllocError>
-    ensures { OnOk result (Pushes w.old w.new (json w.old.text plain (view_member_prop prop.now))) }
+    ensures { OnOk result (Pushes w.old w.new (json w.old.source plain (view_member_prop prop.now))) }
 {
     match prop {
         MemberProp::Ident(x) => w.push(Work::Name(x)),
@@ -38,7 +38,7 @@ fn is_computed(prop: &MemberProp) -> bool
 
 /// Writes a member of an object.
 pub fn write_member<'a>(w: &mut Writer<'a>, x: &'a MemberExpr) -> Result<(), AllocError>
-    ensures { OnOk result (Writes w.old w.new (json w.old.text plain (view_member_expr x.now))) }
+    ensures { OnOk result (Writes w.old w.new (json w.old.source plain (view_member_expr x.now))) }
 {
     w.open("MemberExpression", x.span)?;
     w.key("object")?;
@@ -52,7 +52,7 @@ pub fn write_member<'a>(w: &mut Writer<'a>, x: &'a MemberExpr) -> Result<(), All
 
 /// Writes a member of `super`.
 pub fn write_super_member<'a>(w: &mut Writer<'a>, x: &'a SuperPropExpr) -> Result<(), AllocError>
-    ensures { OnOk result (Writes w.old w.new (json w.old.text plain (view_super_prop_expr x.now))) }
+    ensures { OnOk result (Writes w.old w.new (json w.old.source plain (view_super_prop_expr x.now))) }
 {
     w.open("MemberExpression", x.span)?;
     w.key("object")?;
@@ -75,7 +75,7 @@ pub fn write_super_member<'a>(w: &mut Writer<'a>, x: &'a SuperPropExpr) -> Resul
 /// Writes a call.
 #[tactic(auto, using(crate::proofs::AsExpr::call_of_expr, ecma_estree_writer::proofs::Written::appended_on_ok))]
 pub fn write_call<'a>(w: &mut Writer<'a>, x: &'a CallExpr) -> Result<(), AllocError>
-    ensures { OnOk result (Writes w.old w.new (json w.old.text plain (view_call_expr x.now))) }
+    ensures { OnOk result (Writes w.old w.new (json w.old.source plain (view_call_expr x.now))) }
 {
     if let Callee::Import(_) = &x.callee {
         return write_import_call(w, x);
@@ -97,7 +97,7 @@ pub fn write_call<'a>(w: &mut Writer<'a>, x: &'a CallExpr) -> Result<(), AllocEr
 
 /// Has the first argument of `import` written, or `null`.
 fn push_source<'a>(w: &mut Writer<'a>, args: &'a [ExprOrSpread]) -> Result<(), AllocError>
-    ensures { OnOk result (Pushes w.old w.new (json w.old.text (argument 0) (listed (map view_expr_or_spread args.now)))) }
+    ensures { OnOk result (Pushes w.old w.new (json w.old.source (argument 0) (listed (map view_expr_or_spread args.now)))) }
 {
     match args {
         [source, ..] => w.push(Work::Argument(source)),
@@ -107,7 +107,7 @@ fn push_source<'a>(w: &mut Writer<'a>, args: &'a [ExprOrSpread]) -> Result<(), A
 
 /// Has the second argument of `import` written, or `null`.
 fn push_options<'a>(w: &mut Writer<'a>, args: &'a [ExprOrSpread]) -> Result<(), AllocError>
-    ensures { OnOk result (Pushes w.old w.new (json w.old.text (argument 1) (listed (map view_expr_or_spread args.now)))) }
+    ensures { OnOk result (Pushes w.old w.new (json w.old.source (argument 1) (listed (map view_expr_or_spread args.now)))) }
 {
     match args {
         [_, options, ..] => w.push(Work::Argument(options)),
@@ -117,7 +117,7 @@ fn push_options<'a>(w: &mut Writer<'a>, args: &'a [ExprOrSpread]) -> Result<(), 
 
 /// Writes `import` that is called.
 fn write_import_call<'a>(w: &mut Writer<'a>, x: &'a CallExpr) -> Result<(), AllocError>
-    ensures { OnOk result (Writes w.old w.new (json w.old.text plain (call x.now.span (import_callee x.now.span) (listed (map view_expr_or_spread x.now.args.items))))) }
+    ensures { OnOk result (Writes w.old w.new (json w.old.source plain (call x.now.span (import_callee x.now.span) (listed (map view_expr_or_spread x.now.args.items))))) }
 {
     w.open("ImportExpression", x.span)?;
     w.key("source")?;
@@ -132,7 +132,7 @@ fn push_optional_arguments<'a>(
     w: &mut Writer<'a>,
     args: &'a Option<Vec<ExprOrSpread>>,
 ) -> Result<(), AllocError>
-    ensures { OnOk result (Pushes w.old w.new (arguments_text w.old.text (view_option (λ v. listed (map view_expr_or_spread v.items)) args.now))) }
+    ensures { OnOk result (Pushes w.old w.new (arguments_text w.old.source (view_option (λ v. listed (map view_expr_or_spread v.items)) args.now))) }
 {
     match args {
         Some(args) => w.push(Work::Arguments(args.as_slice(), true)),
@@ -142,7 +142,7 @@ fn push_optional_arguments<'a>(
 
 /// Writes `new`.
 pub fn write_new<'a>(w: &mut Writer<'a>, x: &'a NewExpr) -> Result<(), AllocError>
-    ensures { OnOk result (Writes w.old w.new (json w.old.text plain (view_new_expr x.now))) }
+    ensures { OnOk result (Writes w.old w.new (json w.old.source plain (view_new_expr x.now))) }
 {
     w.open("NewExpression", x.span)?;
     w.key("callee")?;
@@ -157,7 +157,7 @@ pub fn write_new<'a>(w: &mut Writer<'a>, x: &'a NewExpr) -> Result<(), AllocErro
 /// Writes an element or an argument.
 #[tactic(auto, using(ecma_estree_writer::proofs::Written::appended_on_ok, ecma_estree_writer::proofs::Written::pushed_on_ok))]
 pub fn write_argument<'a>(w: &mut Writer<'a>, x: &'a ExprOrSpread) -> Result<(), AllocError>
-    ensures { OnOk result (Writes w.old w.new (json w.old.text plain (view_expr_or_spread x.now))) }
+    ensures { OnOk result (Writes w.old w.new (json w.old.source plain (view_expr_or_spread x.now))) }
 {
     let Some(dots) = x.spread else {
         return w.push(Work::Expr(&x.expr));

@@ -20,7 +20,7 @@ use swc_ecma_parser_ast::Expr;
 /// Writes an expression.
 #[tactic(auto, using(ecma_estree_writer::proofs::Written::appended_on_ok, ecma_estree_writer::proofs::Written::pushed_on_ok))]
 pub fn write_expr<'a>(w: &mut Writer<'a>, expr: &'a Expr) -> Result<(), AllocError>
-    ensures { OnOk result (Writes w.old w.new (json w.old.text plain (view_expr expr.now))) }
+    ensures { OnOk result (Writes w.old w.new (json w.old.source plain (view_expr expr.now))) }
 {
     match expr {
         Expr::This(x) => w.leaf("ThisExpression", x.span),

@@ -21,14 +21,14 @@ use swc_ecma_parser_ast::{
 
 /// Where the parentheses of a method begin, in bytes.
 pub fn method_start(w: &Writer<'_>, key: &PropName) -> usize
-    ensures { result ≡ bracket w.now.text 40 (span_of (view_prop_name key.now)).hi.0 }
+    ensures { result ≡ bracket w.now.source.places.text 40 (span_of (view_prop_name key.now)).hi.0 }
 {
     w.find(b'(', key.span().hi.0 as usize)
 }
 
 /// Has the body of a function written, or `null`.
 pub fn push_body<'a>(w: &mut Writer<'a>, body: &'a Option<BlockStmt>) -> Result<(), AllocError>
-    ensures { OnOk result (Pushes w.old w.new (json w.old.text directives (view_option view_block_stmt body.now))) }
+    ensures { OnOk result (Pushes w.old w.new (json w.old.source directives (view_option view_block_stmt body.now))) }
 {
     match body {
         Some(x) => w.push(Work::Body(x)),
@@ -42,7 +42,7 @@ pub fn push_accessor<'a>(
     key: &'a PropName,
     span: Span,
 ) -> Result<(), AllocError>
-    ensures { OnOk result (Pushes w.old w.new (parts.key (codes "value") ++ (accessor w.old.text (view_prop_name key.now) span ++ (parts.key (codes "params") ++ open_list)))) }
+    ensures { OnOk result (Pushes w.old w.new (parts.key (codes "value") ++ (accessor w.old.source (view_prop_name key.now) span ++ (parts.key (codes "params") ++ open_list)))) }
 {
     let start = method_start(w, key);
     w.push(Work::Accessor(start, span.hi.0 as usize))?;
@@ -51,7 +51,7 @@ pub fn push_accessor<'a>(
 
 /// Writes the start of a method's value that has no parameters of its own, up to those.
 pub fn write_accessor(w: &mut Writer<'_>, start: usize, end: usize) -> Result<(), AllocError>
-    ensures { OnOk result (Appends w.old w.new (node_at w.old.text (codes "FunctionExpression") start end ++ (function_fields nothing false false false ++ (key (codes "params") ++ open_list)))) }
+    ensures { OnOk result (Appends w.old w.new (node_at w.old.source (codes "FunctionExpression") start end ++ (function_fields nothing false false false ++ (key (codes "params") ++ open_list)))) }
 {
     w.open_at("FunctionExpression", start, end)?;
     w.key("id")?;
@@ -64,7 +64,7 @@ pub fn write_accessor(w: &mut Writer<'_>, start: usize, end: usize) -> Result<()
 
 /// Writes what a function has behind its name.
 fn write_rest<'a>(w: &mut Writer<'a>, x: &'a Function) -> Result<(), AllocError>
-    ensures { OnOk result (Writes w.old w.new (function_rest w.old.text (view_function x.now))) }
+    ensures { OnOk result (Writes w.old w.new (function_rest w.old.source (view_function x.now))) }
 {
     w.flag("expression", false)?;
     w.flag("generator", x.is_generator)?;
@@ -83,7 +83,7 @@ pub fn write_method_value<'a>(
     x: &'a Function,
     start: usize,
 ) -> Result<(), AllocError>
-    ensures { OnOk result (Writes w.old w.new (json w.old.text (function (codes "FunctionExpression") nothing start) (view_function x.now))) }
+    ensures { OnOk result (Writes w.old w.new (json w.old.source (function (codes "FunctionExpression") nothing start) (view_function x.now))) }
 {
     w.open_at("FunctionExpression", start, x.span.hi.0 as usize)?;
     w.key("id")?;
@@ -97,7 +97,7 @@ pub fn write_function_expr<'a>(
     kind: &str,
     x: &'a FnExpr,
 ) -> Result<(), AllocError>
-    ensures { OnOk result (Writes w.old w.new (json w.old.text (function kind.now (json w.old.text plain (view_option view_ident x.now.ident)) x.now.span.lo.0) (view_function x.now.function.value))) }
+    ensures { OnOk result (Writes w.old w.new (json w.old.source (function kind.now (json w.old.source plain (view_option view_ident x.now.ident)) x.now.span.lo.0) (view_function x.now.function.value))) }
 {
     w.open_at(kind, x.span.lo.0 as usize, x.function.span.hi.0 as usize)?;
     w.key("id")?;
@@ -107,7 +107,7 @@ pub fn write_function_expr<'a>(
 
 /// Writes a function that is a declaration.
 pub fn write_function_decl<'a>(w: &mut Writer<'a>, x: &'a FnDecl) -> Result<(), AllocError>
-    ensures { OnOk result (Writes w.old w.new (json w.old.text plain (view_fn_decl x.now))) }
+    ensures { OnOk result (Writes w.old w.new (json w.old.source plain (view_fn_decl x.now))) }
 {
     w.open("FunctionDeclaration", x.function.span)?;
     w.key("id")?;
@@ -122,8 +122,8 @@ fn write_arrow_with<'a>(
     is_expression: bool,
     body: Work<'a>,
 ) -> Result<(), AllocError>
-    ensures { OnOk result (Writes w.old w.new (node w.old.text (codes "ArrowFunctionExpression") x.now.span ++ (function_fields nothing is_expression false x.now.is_async
-        ++ (key (codes "params") ++ (open_list ++ (json w.old.text plain (listed (map view_pat x.now.params.items)) ++ (end_list ++ (key (codes "body") ++ (work_text w.old.text body.entry ++ end))))))))) }
+    ensures { OnOk result (Writes w.old w.new (node w.old.source (codes "ArrowFunctionExpression") x.now.span ++ (function_fields nothing is_expression false x.now.is_async
+        ++ (key (codes "params") ++ (open_list ++ (json w.old.source plain (listed (map view_pat x.now.params.items)) ++ (end_list ++ (key (codes "body") ++ (work_text w.old.source body.entry ++ end))))))))) }
 {
     w.open("ArrowFunctionExpression", x.span)?;
     w.key("id")?;
@@ -142,7 +142,7 @@ fn write_arrow_with<'a>(
 /// Writes an arrow function.
 #[tactic(auto, using(crate::proofs::AsExpr::arrow_of_expr))]
 pub fn write_arrow<'a>(w: &mut Writer<'a>, x: &'a ArrowExpr) -> Result<(), AllocError>
-    ensures { OnOk result (Writes w.old w.new (json w.old.text plain (view_arrow_expr x.now))) }
+    ensures { OnOk result (Writes w.old w.new (json w.old.source plain (view_arrow_expr x.now))) }
 {
     match &x.body {
         BlockStmtOrExpr::BlockStmt(body) => write_arrow_with(w, x, false, Work::Body(body)),
@@ -155,7 +155,7 @@ pub fn push_decorators<'a>(
     w: &mut Writer<'a>,
     decorators: &'a [Decorator],
 ) -> Result<(), AllocError>
-    ensures { OnOk result (Pushes w.old w.new (decorator_field w.old.text (listed (map view_decorator decorators.now)))) }
+    ensures { OnOk result (Pushes w.old w.new (decorator_field w.old.source (listed (map view_decorator decorators.now)))) }
 {
     if decorators.is_empty() {
         return Ok(());
@@ -168,7 +168,7 @@ pub fn push_decorators<'a>(
 
 /// Writes a decorator.
 pub fn write_decorator<'a>(w: &mut Writer<'a>, x: &'a Decorator) -> Result<(), AllocError>
-    ensures { OnOk result (Writes w.old w.new (json w.old.text plain (view_decorator x.now))) }
+    ensures { OnOk result (Writes w.old w.new (json w.old.source plain (view_decorator x.now))) }
 {
     w.open("Decorator", x.span)?;
     w.key("expression")?;

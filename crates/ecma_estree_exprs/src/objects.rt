@@ -18,7 +18,7 @@ use swc_ecma_parser_ast::{
 
 /// Writes an array.
 pub fn write_array<'a>(w: &mut Writer<'a>, x: &'a ArrayLit) -> Result<(), AllocError>
-    ensures { OnOk result (Writes w.old w.new (json w.old.text plain (view_array_lit x.now))) }
+    ensures { OnOk result (Writes w.old w.new (json w.old.source plain (view_array_lit x.now))) }
 {
     w.open("ArrayExpression", x.span)?;
     w.list_key("elements")?;
@@ -29,7 +29,7 @@ pub fn write_array<'a>(w: &mut Writer<'a>, x: &'a ArrayLit) -> Result<(), AllocE
 
 /// Writes an object.
 pub fn write_object<'a>(w: &mut Writer<'a>, x: &'a ObjectLit) -> Result<(), AllocError>
-    ensures { OnOk result (Writes w.old w.new (json w.old.text plain (view_object_lit x.now))) }
+    ensures { OnOk result (Writes w.old w.new (json w.old.source plain (view_object_lit x.now))) }
 {
     w.open("ObjectExpression", x.span)?;
     w.list_key("properties")?;
@@ -51,7 +51,7 @@ pub fn is_computed(key: &PropName) -> bool
 /// Writes a key.
 #[tactic(auto, using(ecma_estree_writer::proofs::Written::appended_on_ok, ecma_estree_writer::proofs::Written::pushed_on_ok))]
 pub fn write_prop_name<'a>(w: &mut Writer<'a>, key: &'a PropName) -> Result<(), AllocError>
-    ensures { OnOk result (Writes w.old w.new (json w.old.text plain (view_prop_name key.now))) }
+    ensures { OnOk result (Writes w.old w.new (json w.old.source plain (view_prop_name key.now))) }
 {
     match key {
         PropName::Ident(x) => write_name(w, x),
@@ -70,7 +70,7 @@ pub fn open_property(
     is_shorthand: bool,
     is_computed: bool,
 ) -> Result<(), AllocError>
-    ensures { OnOk result (Appends w.old w.new (property w.old.text span is_method is_shorthand is_computed ++ key (codes "key"))) }
+    ensures { OnOk result (Appends w.old w.new (property w.old.source span is_method is_shorthand is_computed ++ key (codes "key"))) }
 {
     w.open("Property", span)?;
     w.flag("method", is_method)?;
@@ -82,7 +82,7 @@ pub fn open_property(
 /// Writes a part of an object.
 #[tactic(auto, using(ecma_estree_writer::proofs::Written::appended_on_ok, ecma_estree_writer::proofs::Written::pushed_on_ok))]
 pub fn write_part<'a>(w: &mut Writer<'a>, part: &'a PropOrSpread) -> Result<(), AllocError>
-    ensures { OnOk result (Writes w.old w.new (json w.old.text plain (view_prop_or_spread part.now))) }
+    ensures { OnOk result (Writes w.old w.new (json w.old.source plain (view_prop_or_spread part.now))) }
 {
     match part {
         PropOrSpread::Spread(x) => write_spread(w, x),
@@ -92,7 +92,7 @@ pub fn write_part<'a>(w: &mut Writer<'a>, part: &'a PropOrSpread) -> Result<(), 
 
 /// Writes what is spread in an object.
 fn write_spread<'a>(w: &mut Writer<'a>, x: &'a SpreadElement) -> Result<(), AllocError>
-    ensures { OnOk result (Writes w.old w.new (json w.old.text plain (view_spread_element x.now))) }
+    ensures { OnOk result (Writes w.old w.new (json w.old.source plain (view_spread_element x.now))) }
 {
     w.open_at(
         "SpreadElement",
@@ -107,7 +107,7 @@ fn write_spread<'a>(w: &mut Writer<'a>, x: &'a SpreadElement) -> Result<(), Allo
 /// Writes a property.
 #[tactic(auto, using(ecma_estree_writer::proofs::Written::appended_on_ok, ecma_estree_writer::proofs::Written::pushed_on_ok))]
 pub fn write_prop<'a>(w: &mut Writer<'a>, prop: &'a Prop) -> Result<(), AllocError>
-    ensures { OnOk result (Writes w.old w.new (json w.old.text plain (view_prop prop.now))) }
+    ensures { OnOk result (Writes w.old w.new (json w.old.source plain (view_prop prop.now))) }
 {
     match prop {
         Prop::Shorthand(x) => write_shorthand(w, x),
@@ -121,7 +121,7 @@ pub fn write_prop<'a>(w: &mut Writer<'a>, prop: &'a Prop) -> Result<(), AllocErr
 
 /// Writes a name that is its own value.
 fn write_shorthand(w: &mut Writer<'_>, name: &Ident) -> Result<(), AllocError>
-    ensures { OnOk result (Appends w.old w.new (json w.old.text plain (shorthand_prop name.now.span name.now.sym))) }
+    ensures { OnOk result (Appends w.old w.new (json w.old.source plain (shorthand_prop name.now.span name.now.sym))) }
 {
     open_property(w, name.span, false, true, false)?;
     write_name(w, name)?;
@@ -133,7 +133,7 @@ fn write_shorthand(w: &mut Writer<'_>, name: &Ident) -> Result<(), AllocError>
 
 /// Writes a key with its value.
 fn write_key_value<'a>(w: &mut Writer<'a>, x: &'a KeyValueProp) -> Result<(), AllocError>
-    ensures { OnOk result (Writes w.old w.new (json w.old.text plain (view_key_value_prop x.now))) }
+    ensures { OnOk result (Writes w.old w.new (json w.old.source plain (view_key_value_prop x.now))) }
 {
     open_property(w, x.span, false, false, is_computed(&x.key))?;
     w.push(Work::End)?;
@@ -145,7 +145,7 @@ fn write_key_value<'a>(w: &mut Writer<'a>, x: &'a KeyValueProp) -> Result<(), Al
 
 /// Writes a property as an attribute of an import.
 pub fn write_attribute<'a>(w: &mut Writer<'a>, part: &'a PropOrSpread) -> Result<(), AllocError>
-    ensures { OnOk result (Writes w.old w.new (json w.old.text attributes (view_prop_or_spread part.now))) }
+    ensures { OnOk result (Writes w.old w.new (json w.old.source attributes (view_prop_or_spread part.now))) }
 {
     let PropOrSpread::Prop(prop) = part else {
         return write_part(w, part);
@@ -163,7 +163,7 @@ pub fn write_attribute<'a>(w: &mut Writer<'a>, part: &'a PropOrSpread) -> Result
 
 /// Writes a name with a default.
 fn write_assign_prop<'a>(w: &mut Writer<'a>, x: &'a AssignProp) -> Result<(), AllocError>
-    ensures { OnOk result (Writes w.old w.new (json w.old.text plain (view_assign_prop x.now))) }
+    ensures { OnOk result (Writes w.old w.new (json w.old.source plain (view_assign_prop x.now))) }
 {
     open_property(w, x.span, false, true, false)?;
     write_name(w, &x.key)?;
@@ -180,7 +180,7 @@ fn write_assign_prop<'a>(w: &mut Writer<'a>, x: &'a AssignProp) -> Result<(), Al
 
 /// Writes a getter.
 fn write_getter<'a>(w: &mut Writer<'a>, x: &'a GetterProp) -> Result<(), AllocError>
-    ensures { OnOk result (Writes w.old w.new (json w.old.text plain (view_getter_prop x.now))) }
+    ensures { OnOk result (Writes w.old w.new (json w.old.source plain (view_getter_prop x.now))) }
 {
     open_property(w, x.span, false, false, is_computed(&x.key))?;
     w.push(Work::End)?;
@@ -195,7 +195,7 @@ fn write_getter<'a>(w: &mut Writer<'a>, x: &'a GetterProp) -> Result<(), AllocEr
 
 /// Writes a setter.
 fn write_setter<'a>(w: &mut Writer<'a>, x: &'a SetterProp) -> Result<(), AllocError>
-    ensures { OnOk result (Writes w.old w.new (json w.old.text plain (view_setter_prop x.now))) }
+    ensures { OnOk result (Writes w.old w.new (json w.old.source plain (view_setter_prop x.now))) }
 {
     open_property(w, x.span, false, false, is_computed(&x.key))?;
     w.push(Work::End)?;
@@ -211,7 +211,7 @@ fn write_setter<'a>(w: &mut Writer<'a>, x: &'a SetterProp) -> Result<(), AllocEr
 
 /// Writes a method.
 fn write_method<'a>(w: &mut Writer<'a>, x: &'a MethodProp) -> Result<(), AllocError>
-    ensures { OnOk result (Writes w.old w.new (json w.old.text plain (view_method_prop x.now))) }
+    ensures { OnOk result (Writes w.old w.new (json w.old.source plain (view_method_prop x.now))) }
 {
     open_property(w, x.span, true, false, is_computed(&x.key))?;
     w.push(Work::End)?;

@@ -19,7 +19,7 @@ use swc_ecma_parser_ast::{
 
 /// Has an expression written, or `null`.
 pub fn push_optional<'a>(w: &mut Writer<'a>, expr: &'a Option<ExprBox>) -> Result<(), AllocError>
-    ensures { OnOk result (Pushes w.old w.new (json w.old.text plain (view_option (λ b. b.node.tree) expr.now))) }
+    ensures { OnOk result (Pushes w.old w.new (json w.old.source plain (view_option (λ b. b.node.tree) expr.now))) }
 {
     match expr {
         Some(x) => w.push(Work::Expr(x)),
@@ -29,7 +29,7 @@ pub fn push_optional<'a>(w: &mut Writer<'a>, expr: &'a Option<ExprBox>) -> Resul
 
 /// Writes an operator before its operand.
 pub fn write_unary<'a>(w: &mut Writer<'a>, x: &'a UnaryExpr) -> Result<(), AllocError>
-    ensures { OnOk result (Writes w.old w.new (json w.old.text plain (view_unary_expr x.now))) }
+    ensures { OnOk result (Writes w.old w.new (json w.old.source plain (view_unary_expr x.now))) }
 {
     w.open("UnaryExpression", x.span)?;
     w.word("operator", unary_word(x.op))?;
@@ -41,7 +41,7 @@ pub fn write_unary<'a>(w: &mut Writer<'a>, x: &'a UnaryExpr) -> Result<(), Alloc
 
 /// Writes `++` or `--`.
 pub fn write_update<'a>(w: &mut Writer<'a>, x: &'a UpdateExpr) -> Result<(), AllocError>
-    ensures { OnOk result (Writes w.old w.new (json w.old.text plain (view_update_expr x.now))) }
+    ensures { OnOk result (Writes w.old w.new (json w.old.source plain (view_update_expr x.now))) }
 {
     w.open("UpdateExpression", x.span)?;
     w.word("operator", update_word(x.op))?;
@@ -53,7 +53,7 @@ pub fn write_update<'a>(w: &mut Writer<'a>, x: &'a UpdateExpr) -> Result<(), All
 
 /// Writes an operator between two operands.
 pub fn write_binary<'a>(w: &mut Writer<'a>, x: &'a BinExpr) -> Result<(), AllocError>
-    ensures { OnOk result (Writes w.old w.new (json w.old.text plain (view_bin_expr x.now))) }
+    ensures { OnOk result (Writes w.old w.new (json w.old.source plain (view_bin_expr x.now))) }
 {
     w.open(binary_kind(x.op), x.span)?;
     w.key("left")?;
@@ -66,7 +66,7 @@ pub fn write_binary<'a>(w: &mut Writer<'a>, x: &'a BinExpr) -> Result<(), AllocE
 
 /// Writes an assignment.
 pub fn write_assign<'a>(w: &mut Writer<'a>, x: &'a AssignExpr) -> Result<(), AllocError>
-    ensures { OnOk result (Writes w.old w.new (json w.old.text plain (view_assign_expr x.now))) }
+    ensures { OnOk result (Writes w.old w.new (json w.old.source plain (view_assign_expr x.now))) }
 {
     w.open("AssignmentExpression", x.span)?;
     w.word("operator", assign_word(x.op))?;
@@ -80,7 +80,7 @@ pub fn write_assign<'a>(w: &mut Writer<'a>, x: &'a AssignExpr) -> Result<(), All
 /// Writes what is assigned to.
 #[tactic(auto, using(ecma_estree_writer::proofs::Written::appended_on_ok, ecma_estree_writer::proofs::Written::pushed_on_ok))]
 fn write_target<'a>(w: &mut Writer<'a>, target: &'a AssignTarget) -> Result<(), AllocError>
-    ensures { OnOk result (Writes w.old w.new (json w.old.text plain (view_assign_target target.now))) }
+    ensures { OnOk result (Writes w.old w.new (json w.old.source plain (view_assign_target target.now))) }
 {
     match target {
         AssignTarget::Simple(SimpleAssignTarget::Ident(x)) => write_name(w, &x.id),
@@ -94,7 +94,7 @@ fn write_target<'a>(w: &mut Writer<'a>, target: &'a AssignTarget) -> Result<(), 
 
 /// Writes `? :`.
 pub fn write_conditional<'a>(w: &mut Writer<'a>, x: &'a CondExpr) -> Result<(), AllocError>
-    ensures { OnOk result (Writes w.old w.new (json w.old.text plain (view_cond_expr x.now))) }
+    ensures { OnOk result (Writes w.old w.new (json w.old.source plain (view_cond_expr x.now))) }
 {
     w.open("ConditionalExpression", x.span)?;
     w.key("test")?;
@@ -108,7 +108,7 @@ pub fn write_conditional<'a>(w: &mut Writer<'a>, x: &'a CondExpr) -> Result<(), 
 
 /// Writes expressions with commas between them.
 pub fn write_sequence<'a>(w: &mut Writer<'a>, x: &'a SeqExpr) -> Result<(), AllocError>
-    ensures { OnOk result (Writes w.old w.new (json w.old.text plain (view_seq_expr x.now))) }
+    ensures { OnOk result (Writes w.old w.new (json w.old.source plain (view_seq_expr x.now))) }
 {
     w.open("SequenceExpression", x.span)?;
     w.list_key("expressions")?;
@@ -119,7 +119,7 @@ pub fn write_sequence<'a>(w: &mut Writer<'a>, x: &'a SeqExpr) -> Result<(), Allo
 
 /// Writes `yield`.
 pub fn write_yield<'a>(w: &mut Writer<'a>, x: &'a YieldExpr) -> Result<(), AllocError>
-    ensures { OnOk result (Writes w.old w.new (json w.old.text plain (view_yield_expr x.now))) }
+    ensures { OnOk result (Writes w.old w.new (json w.old.source plain (view_yield_expr x.now))) }
 {
     w.open("YieldExpression", x.span)?;
     w.flag("delegate", x.delegate)?;
@@ -130,7 +130,7 @@ pub fn write_yield<'a>(w: &mut Writer<'a>, x: &'a YieldExpr) -> Result<(), Alloc
 
 /// Writes `await`.
 pub fn write_await<'a>(w: &mut Writer<'a>, x: &'a AwaitExpr) -> Result<(), AllocError>
-    ensures { OnOk result (Writes w.old w.new (json w.old.text plain (view_await_expr x.now))) }
+    ensures { OnOk result (Writes w.old w.new (json w.old.source plain (view_await_expr x.now))) }
 {
     w.open("AwaitExpression", x.span)?;
     w.key("argument")?;

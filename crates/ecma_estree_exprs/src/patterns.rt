@@ -17,7 +17,7 @@ use swc_ecma_parser_ast::{
 /// Writes a pattern.
 #[tactic(auto, using(ecma_estree_writer::proofs::Written::appended_on_ok, ecma_estree_writer::proofs::Written::pushed_on_ok))]
 pub fn write_pat<'a>(w: &mut Writer<'a>, pat: &'a Pat) -> Result<(), AllocError>
-    ensures { OnOk result (Writes w.old w.new (json w.old.text plain (view_pat pat.now))) }
+    ensures { OnOk result (Writes w.old w.new (json w.old.source plain (view_pat pat.now))) }
 {
     match pat {
         Pat::Ident(x) => write_name(w, &x.id),
@@ -32,7 +32,7 @@ pub fn write_pat<'a>(w: &mut Writer<'a>, pat: &'a Pat) -> Result<(), AllocError>
 
 /// Writes a pattern of elements.
 pub fn write_array_pat<'a>(w: &mut Writer<'a>, x: &'a ArrayPat) -> Result<(), AllocError>
-    ensures { OnOk result (Writes w.old w.new (json w.old.text plain (view_array_pat x.now))) }
+    ensures { OnOk result (Writes w.old w.new (json w.old.source plain (view_array_pat x.now))) }
 {
     w.open("ArrayPattern", x.span)?;
     w.list_key("elements")?;
@@ -43,7 +43,7 @@ pub fn write_array_pat<'a>(w: &mut Writer<'a>, x: &'a ArrayPat) -> Result<(), Al
 
 /// Writes what takes the rest.
 fn write_rest_pat<'a>(w: &mut Writer<'a>, x: &'a RestPat) -> Result<(), AllocError>
-    ensures { OnOk result (Writes w.old w.new (json w.old.text plain (view_rest_pat x.now))) }
+    ensures { OnOk result (Writes w.old w.new (json w.old.source plain (view_rest_pat x.now))) }
 {
     w.open("RestElement", x.span)?;
     w.key("argument")?;
@@ -53,7 +53,7 @@ fn write_rest_pat<'a>(w: &mut Writer<'a>, x: &'a RestPat) -> Result<(), AllocErr
 
 /// Writes a pattern of properties.
 pub fn write_object_pat<'a>(w: &mut Writer<'a>, x: &'a ObjectPat) -> Result<(), AllocError>
-    ensures { OnOk result (Writes w.old w.new (json w.old.text plain (view_object_pat x.now))) }
+    ensures { OnOk result (Writes w.old w.new (json w.old.source plain (view_object_pat x.now))) }
 {
     w.open("ObjectPattern", x.span)?;
     w.list_key("properties")?;
@@ -64,7 +64,7 @@ pub fn write_object_pat<'a>(w: &mut Writer<'a>, x: &'a ObjectPat) -> Result<(), 
 
 /// Writes a pattern with a default.
 fn write_assign_pat<'a>(w: &mut Writer<'a>, x: &'a AssignPat) -> Result<(), AllocError>
-    ensures { OnOk result (Writes w.old w.new (json w.old.text plain (view_assign_pat x.now))) }
+    ensures { OnOk result (Writes w.old w.new (json w.old.source plain (view_assign_pat x.now))) }
 {
     w.open("AssignmentPattern", x.span)?;
     w.key("left")?;
@@ -77,7 +77,7 @@ fn write_assign_pat<'a>(w: &mut Writer<'a>, x: &'a AssignPat) -> Result<(), Allo
 /// Writes a part of an object pattern.
 #[tactic(auto, using(ecma_estree_writer::proofs::Written::appended_on_ok, ecma_estree_writer::proofs::Written::pushed_on_ok))]
 pub fn write_pat_part<'a>(w: &mut Writer<'a>, part: &'a ObjectPatProp) -> Result<(), AllocError>
-    ensures { OnOk result (Writes w.old w.new (json w.old.text plain (view_object_pat_prop part.now))) }
+    ensures { OnOk result (Writes w.old w.new (json w.old.source plain (view_object_pat_prop part.now))) }
 {
     match part {
         ObjectPatProp::KeyValue(x) => write_key_value_pat(w, x),
@@ -88,7 +88,7 @@ pub fn write_pat_part<'a>(w: &mut Writer<'a>, part: &'a ObjectPatProp) -> Result
 
 /// Writes a key with the pattern for its value.
 fn write_key_value_pat<'a>(w: &mut Writer<'a>, x: &'a KeyValuePatProp) -> Result<(), AllocError>
-    ensures { OnOk result (Writes w.old w.new (json w.old.text plain (view_key_value_pat_prop x.now))) }
+    ensures { OnOk result (Writes w.old w.new (json w.old.source plain (view_key_value_pat_prop x.now))) }
 {
     open_property(w, x.span, false, false, is_computed(&x.key))?;
     w.push(Work::End)?;
@@ -100,7 +100,7 @@ fn write_key_value_pat<'a>(w: &mut Writer<'a>, x: &'a KeyValuePatProp) -> Result
 
 /// Writes a name that is its own key, with its default if it has one.
 fn write_assign_pat_prop<'a>(w: &mut Writer<'a>, x: &'a AssignPatProp) -> Result<(), AllocError>
-    ensures { OnOk result (Writes w.old w.new (json w.old.text plain (view_assign_pat_prop x.now))) }
+    ensures { OnOk result (Writes w.old w.new (json w.old.source plain (view_assign_pat_prop x.now))) }
 {
     open_property(w, x.span, false, true, false)?;
     write_name(w, &x.key.id)?;
@@ -119,7 +119,7 @@ fn write_default<'a>(
     x: &'a AssignPatProp,
     value: &'a ExprBox,
 ) -> Result<(), AllocError>
-    ensures { OnOk result (Writes w.old w.new (node w.old.text (codes "AssignmentPattern") x.now.span ++ (key (codes "left") ++ (json w.old.text plain (view_binding_ident x.now.key) ++ (key (codes "right") ++ (json w.old.text plain value.now.node.tree ++ end)))))) }
+    ensures { OnOk result (Writes w.old w.new (node w.old.source (codes "AssignmentPattern") x.now.span ++ (key (codes "left") ++ (json w.old.source plain (view_binding_ident x.now.key) ++ (key (codes "right") ++ (json w.old.source plain value.now.node.tree ++ end)))))) }
 {
     w.open("AssignmentPattern", x.span)?;
     w.key("left")?;

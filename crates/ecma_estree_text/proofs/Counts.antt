@@ -1,9 +1,9 @@
 -- The counts of a text and one byte more.
-use Rattle.std.proofs.Common.{◌≡◌, ℕ, List, [], ◌∷◌, ◌++◌, ◌+◌, ◌≤◌, ◌<◌, arith, ap, sym, ◌∙◌, refl, get_or, take, length, ◌⊎◌, inl, inr}
+use Rattle.std.proofs.Common.{◌≡◌, ℕ, List, [], ◌∷◌, ◌++◌, ◌+◌, ◌≤◌, ◌<◌, arith, ap, sym, ◌∙◌, get_or, take, length, inl, inr}
 use Rattle.std.proofs.lemmas.Bool.{cases_lt}
-use Rattle.std.proofs.lemmas.Grind.{common_steps}
-use Rattle.std.proofs.lemmas.List.{get_or_append_left, get_or_push, length_push, take_all, take_more}
-use Rattle.ecma_estree_text.specs.Offsets.{AreCounts, unit_count, unit_total}
+use Rattle.std.proofs.lemmas.List.{get_or_append_left, get_or_push, take_more}
+use Rattle.ecma_estree_text.specs.Spots.{unit_count}
+use Rattle.ecma_estree_text.specs.Places.{unit_total}
 
 pub unit_total_push : (bs : List ℕ) (b : ℕ) → unit_total (bs ++ b ∷ []) ≡ unit_total bs + unit_count b
 unit_total_push [] b = omega arith

@@ -1,4 +1,5 @@
 pub mod Quoted
-pub mod Offsets
+pub mod Spots
+pub mod Places
 pub mod Bracket
 pub mod Number

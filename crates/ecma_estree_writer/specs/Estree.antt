@@ -4,6 +4,7 @@ use Rattle.std.specs.Prelude.{ℕ, zero, suc, List, [], ◌++◌, ◌+◌, ◌-�
 use Rattle.ecma_estree_text.specs.Quoted.{quoted}
 use Rattle.ecma_estree_text.specs.Bracket.{bracket}
 use Rattle.ecma_estree_text.specs.Number.{number_text}
+use Rattle.ecma_estree_writer.specs.Source.{Source}
 use Rattle.ecma_estree_writer.specs.Words.{bool_word, kind_word, using_word, method_word, unary_word, update_word, binary_word, binary_kind, assign_word}
 use Rattle.ecma_estree_writer.specs.Parts.{node, node_at, key, word_field, bool_field, end, open_list, end_list, nothing, comma, identifier, word_name, literal, big_literal, directive, end_of_last, phase_field, is_namespace_alone, is_import, is_empty_member, is_empty}
 use Rattle.swc_ecma_parser_ast.specs.Parts.{as_expr}
@@ -13,7 +14,7 @@ use Rattle.swc_ecma_parser_model.specs.Directive.{is_string_statement}
 use Rattle.swc_ecma_parser_model.specs.Forms.{span_of, is_absent}
 use Rattle.swc_ecma_parser_model.specs.Kinds.{is_block, is_computed}
 use Rattle.swc_ecma_parser_model.specs.Tree as tree
-use Rattle.swc_ecma_parser_model.specs.Tree.{Tree, Trees, Text, none, also}
+use Rattle.swc_ecma_parser_model.specs.Tree.{Tree, Trees, none, also}
 
 -- what a tree is written as, where that is not plain
 pub data Role : Type 0 where
@@ -84,12 +85,12 @@ abbrev pub end_of_optional : Tree → ℕ
 end_of_optional x = cond (is_absent x) 0 (expr_end x)
 
 -- where the brace of a class begins: behind what it extends, its name, and its decorators
-abbrev pub brace : Text → Span → (decorators super_class : Tree) → (name_end : ℕ) → ℕ
-brace text s ds super_class name_end = bracket text 123 (max (end_of_optional super_class) (max name_end (end_of_last s.lo.0 ds)))
+abbrev pub brace : Source → Span → (decorators super_class : Tree) → (name_end : ℕ) → ℕ
+brace text s ds super_class name_end = bracket text.places.text 123 (max (end_of_optional super_class) (max name_end (end_of_last s.lo.0 ds)))
 
 -- a function without a name that is the value of a method, from its parenthesis on
-abbrev pub method_role : Text → (key : Tree) → Role
-method_role text k = function (codes "FunctionExpression") nothing (bracket text 40 (span_of k).hi.0)
+abbrev pub method_role : Source → (key : Tree) → Role
+method_role text k = function (codes "FunctionExpression") nothing (bracket text.places.text 40 (span_of k).hi.0)
 
 -- the parts of a function that are before its parameters
 abbrev pub function_fields : (name : List ℕ) → (is_expression is_generator is_async : Bool) → List ℕ
@@ -97,22 +98,22 @@ function_fields name is_expression is_generator is_async =
     key (codes "id") ++ (name ++ (bool_field (codes "expression") is_expression ++ (bool_field (codes "generator") is_generator ++ bool_field (codes "async") is_async)))
 
 -- how the value of a method begins that has its parameters and its body in itself
-abbrev pub accessor : Text → (key : Tree) → Span → List ℕ
+abbrev pub accessor : Source → (key : Tree) → Span → List ℕ
 accessor text k s =
-    node_at text (codes "FunctionExpression") (bracket text 40 (span_of k).hi.0) s.hi.0 ++ function_fields nothing false false false
+    node_at text (codes "FunctionExpression") (bracket text.places.text 40 (span_of k).hi.0) s.hi.0 ++ function_fields nothing false false false
 
 -- how a member of a class begins, up to its key
-abbrev pub member_head : Text → (kind : List ℕ) → Span → (is_static is_computed_key : Bool) → List ℕ
+abbrev pub member_head : Source → (kind : List ℕ) → Span → (is_static is_computed_key : Bool) → List ℕ
 member_head text kind s is_static is_computed_key =
     node text kind s ++ (bool_field (codes "static") is_static ++ (bool_field (codes "computed") is_computed_key ++ key (codes "key")))
 
 -- how a property begins: whether it is a method, a shorthand, and has a computed key
-abbrev pub property : Text → Span → (is_method is_shorthand is_computed_key : Bool) → List ℕ
+abbrev pub property : Source → Span → (is_method is_shorthand is_computed_key : Bool) → List ℕ
 property text s is_method is_shorthand is_computed_key =
     node text (codes "Property") s ++ (bool_field (codes "method") is_method ++ (bool_field (codes "shorthand") is_shorthand ++ bool_field (codes "computed") is_computed_key))
 
 abbrev mutual
-  pub json : Text → Role → Tree → List ℕ
+  pub json : Source → Role → Tree → List ℕ
   json t r tree.absent = cond (is_attributes r) [] nothing
   json t r (tree.list ts) = jsons t r true ts
   -- names and literals
@@ -317,38 +318,38 @@ abbrev mutual
       node t (codes "ExportSpecifier") s ++ (key (codes "local") ++ (json t plain orig ++ (key (codes "exported") ++ (cond (is_absent exported) (json t plain orig) (json t plain exported) ++ end))))
   -- wholes: from the start of the text to its end
   json t r (tree.script s body shebang) =
-      node_at t (codes "Program") 0 (length t) ++ (key (codes "body") ++ (open_list ++ (json t directives body ++ (end_list ++ (word_field (codes "sourceType") (codes "script") ++ end)))))
+      node_at t (codes "Program") 0 (length t.places.text) ++ (key (codes "body") ++ (open_list ++ (json t directives body ++ (end_list ++ (word_field (codes "sourceType") (codes "script") ++ (t.fields ++ end))))))
   json t r (tree.module_program s body shebang) =
-      node_at t (codes "Program") 0 (length t) ++ (key (codes "body") ++ (open_list ++ (json t directives body ++ (end_list ++ (word_field (codes "sourceType") (codes "module") ++ end)))))
+      node_at t (codes "Program") 0 (length t.places.text) ++ (key (codes "body") ++ (open_list ++ (json t directives body ++ (end_list ++ (word_field (codes "sourceType") (codes "module") ++ (t.fields ++ end))))))
 
   -- the parts of a list; but an argument is one of them
-  pub jsons : Text → Role → (is_first : Bool) → Trees → List ℕ
+  pub jsons : Source → Role → (is_first : Bool) → Trees → List ℕ
   jsons t (argument n) f none = nothing
   jsons t r f none = []
   jsons t (argument n) f (also x xs) = cond (is_zero n) (json t plain x) (jsons t (argument (n - 1)) f xs)
   jsons t r f (also x xs) = cond (skips r x) (jsons t r f xs) (comma f ++ (json t (next r x) x ++ jsons t (next r x) false xs))
 
 -- what a function has behind its name
-abbrev pub function_rest : Text → Tree → List ℕ
+abbrev pub function_rest : Source → Tree → List ℕ
 function_rest t (tree.function s ds params body is_async is_generator) =
     bool_field (codes "expression") false ++ (bool_field (codes "generator") is_generator ++ (bool_field (codes "async") is_async ++ (key (codes "params") ++ (open_list ++ (json t plain params ++ (end_list ++ (key (codes "body") ++ (json t directives body ++ end))))))))
 function_rest t _ = []
 
 -- decorators as a field, where there are some
-abbrev pub decorator_field : Text → Tree → List ℕ
+abbrev pub decorator_field : Source → Tree → List ℕ
 decorator_field t ds = cond (is_empty ds) [] (key (codes "decorators") ++ (open_list ++ (json t plain ds ++ end_list)))
 
 -- what a class has behind its name
-abbrev pub class_rest : Text → (name_end : ℕ) → Tree → List ℕ
+abbrev pub class_rest : Source → (name_end : ℕ) → Tree → List ℕ
 class_rest t name_end (tree.class s ds body super_class) =
     key (codes "superClass") ++ (json t plain super_class ++ (key (codes "body")
     ++ (node_at t (codes "ClassBody") (brace t s ds super_class name_end) s.hi.0 ++ (key (codes "body") ++ (open_list ++ (json t members body ++ (end_list ++ (end ++ (decorator_field t ds ++ end)))))))))
 class_rest t name_end _ = []
 
 -- arguments, or nothing
-abbrev pub arguments_text : Text → Tree → List ℕ
+abbrev pub arguments_text : Source → Tree → List ℕ
 arguments_text t args = cond (is_absent args) [] (json t plain args)
 
 -- a name, or another where there is none
-abbrev pub first_or : Text → (name other : Tree) → List ℕ
+abbrev pub first_or : Source → (name other : Tree) → List ℕ
 first_or t name other = cond (is_absent name) (json t plain other) (json t plain name)

@@ -1,3 +1,4 @@
+pub mod Source
 pub mod Words
 pub mod Parts
 pub mod Estree

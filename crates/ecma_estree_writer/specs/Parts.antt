@@ -1,6 +1,7 @@
 -- What nodes are made of.
 use Rattle.std.specs.Prelude.{ℕ, List, [], ◌++◌, ◌+◌, ◌-◌, Bool, true, false, Option, Some, None, codes, decimal, take, drop, length, max}
-use Rattle.ecma_estree_text.specs.Offsets.{offset}
+use Rattle.ecma_estree_text.specs.Places.{place_fields}
+use Rattle.ecma_estree_writer.specs.Source.{Source}
 use Rattle.ecma_estree_text.specs.Quoted.{quoted, inner_quoted}
 use Rattle.ecma_estree_text.specs.Number.{number_text, digits_text}
 use Rattle.ecma_estree_writer.specs.Words.{bool_word}
@@ -12,11 +13,10 @@ use Rattle.swc_ecma_parser_model.specs.Tree as tree
 use Rattle.swc_ecma_parser_model.specs.Tree.{Tree, Trees, Text, none, also}
 
 -- how a node begins: its kind and its place
-unfoldable pub node_at : Text → (kind : List ℕ) → (start end : ℕ) → List ℕ
-node_at text kind start end =
-    codes "{\"type\":\"" ++ (kind ++ (codes "\",\"start\":" ++ (decimal (offset text start) ++ (codes ",\"end\":" ++ decimal (offset text end)))))
+unfoldable pub node_at : Source → (kind : List ℕ) → (start end : ℕ) → List ℕ
+node_at s kind start end = codes "{\"type\":\"" ++ (kind ++ (codes "\"," ++ place_fields s.places start end))
 
-abbrev pub node : Text → (kind : List ℕ) → Span → List ℕ
+abbrev pub node : Source → (kind : List ℕ) → Span → List ℕ
 node text kind s = node_at text kind s.lo.0 s.hi.0
 
 -- how a field begins
@@ -49,17 +49,17 @@ comma true = []
 comma false = codes ","
 
 -- a name
-unfoldable pub identifier : Text → Span → Text → List ℕ
+unfoldable pub identifier : Source → Span → Text → List ℕ
 identifier text s name = node text (codes "Identifier") s ++ (key (codes "name") ++ (quoted name ++ end))
 
 -- a word of the language as a name, between two places
-unfoldable pub word_name : Text → (name : List ℕ) → (from to : ℕ) → List ℕ
+unfoldable pub word_name : Source → (name : List ℕ) → (from to : ℕ) → List ℕ
 word_name text name from to = node_at text (codes "Identifier") from to ++ (word_field (codes "name") name ++ end)
 
-unfoldable pub literal : Text → Span → (value raw : List ℕ) → List ℕ
+unfoldable pub literal : Source → Span → (value raw : List ℕ) → List ℕ
 literal text s value raw = node text (codes "Literal") s ++ (key (codes "value") ++ (value ++ (key (codes "raw") ++ (quoted raw ++ end))))
 
-unfoldable pub big_literal : Text → Span → Text → List ℕ
+unfoldable pub big_literal : Source → Span → Text → List ℕ
 big_literal text s raw =
     node text (codes "Literal") s ++ (key (codes "value") ++ (nothing ++ (key (codes "raw") ++ (quoted raw ++ (key (codes "bigint") ++ (codes "\"" ++ (digits_text raw ++ (codes "\"" ++ end))))))))
 

@@ -2,17 +2,19 @@
 use Rattle.std.specs.Prelude.{ℕ, List, [], ◌∷◌, ◌++◌, false, map, codes}
 use Rattle.ecma_estree_writer.specs.Parts.{node_at, key, word_field, bool_field, end, open_list, end_list, nothing, directive}
 use Rattle.ecma_estree_writer.specs.Estree.{Role, plain, directives, members, attributes, function, json, jsons, function_fields}
+use Rattle.ecma_estree_writer.specs.Source.{Source}
 use Rattle.ecma_estree_writer.specs.declared.work.Work.{Work}
 use Rattle.ecma_estree_writer.specs.declared.work.Work.TheVariants as w
 use Rattle.swc_ecma_parser_ast.specs.Parts.{view_option}
 use Rattle.swc_ecma_parser_ast.specs.View.{view_block_stmt, view_catch_clause, view_class_member, view_decl, view_declarator, view_decorator, view_export_specifier, view_expr_or_spread, view_function, view_ident, view_import_specifier, view_module_item, view_object_pat_prop, view_param, view_param_or_ts_param_prop, view_pat, view_private_name, view_prop_or_spread, view_stmt, view_str, view_switch_case}
-use Rattle.swc_ecma_parser_model.specs.Tree.{Text, trees}
+use Rattle.swc_ecma_parser_model.specs.Tree.{trees}
 
-abbrev pub work_text : Text → Work → List ℕ
+abbrev pub work_text : Source → Work → List ℕ
 work_text t w.End = end
 work_text t w.OpenList = open_list
 work_text t w.EndList = end_list
 work_text t w.Nothing = nothing
+work_text t w.Further = t.fields
 work_text t (w.Key name) = key name.now
 work_text t (w.Word name word) = word_field name.now word.now
 work_text t (w.Bool name value) = bool_field name.now value
@@ -64,6 +66,6 @@ work_text t (w.Imports xs f) = jsons t plain f (trees (map view_import_specifier
 work_text t (w.Exports xs f) = jsons t plain f (trees (map view_export_specifier xs.now))
 
 -- the stack's top is its last
-abbrev pub pending : Text → List Work → List ℕ
+abbrev pub pending : Source → List Work → List ℕ
 pending t [] = []
 pending t (x ∷ xs) = pending t xs ++ work_text t x

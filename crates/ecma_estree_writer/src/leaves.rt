@@ -17,7 +17,7 @@ use swc_ecma_parser_ast::{BigInt, Ident, Lit, MetaPropExpr, MetaPropKind, Privat
 /// Writes a name.
 #[tactic(auto, unfolding(crate::specs::Parts::identifier))]
 pub fn write_name(w: &mut Writer<'_>, name: &Ident) -> Result<(), AllocError>
-    ensures { OnOk result (Appends w.old w.new (json w.old.text plain (view_ident name.now))) }
+    ensures { OnOk result (Appends w.old w.new (json w.old.source plain (view_ident name.now))) }
 {
     w.open("Identifier", name.span)?;
     w.key("name")?;
@@ -27,7 +27,7 @@ pub fn write_name(w: &mut Writer<'_>, name: &Ident) -> Result<(), AllocError>
 
 /// Writes a name, or `null`.
 pub fn write_optional_name(w: &mut Writer<'_>, name: &Option<Ident>) -> Result<(), AllocError>
-    ensures { OnOk result (Appends w.old w.new (json w.old.text plain (view_option view_ident name.now))) }
+    ensures { OnOk result (Appends w.old w.new (json w.old.source plain (view_option view_ident name.now))) }
 {
     match name {
         Some(name) => write_name(w, name),
@@ -37,7 +37,7 @@ pub fn write_optional_name(w: &mut Writer<'_>, name: &Option<Ident>) -> Result<(
 
 /// Writes `#` and a word.
 pub fn write_private_name(w: &mut Writer<'_>, name: &PrivateName) -> Result<(), AllocError>
-    ensures { OnOk result (Appends w.old w.new (json w.old.text plain (view_private_name name.now))) }
+    ensures { OnOk result (Appends w.old w.new (json w.old.source plain (view_private_name name.now))) }
 {
     w.open("PrivateIdentifier", name.span)?;
     w.key("name")?;
@@ -48,7 +48,7 @@ pub fn write_private_name(w: &mut Writer<'_>, name: &PrivateName) -> Result<(), 
 /// Writes a string literal.
 #[tactic(auto, unfolding(crate::specs::Parts::literal))]
 pub fn write_str(w: &mut Writer<'_>, literal: &Str) -> Result<(), AllocError>
-    ensures { OnOk result (Appends w.old w.new (json w.old.text plain (view_str literal.now))) }
+    ensures { OnOk result (Appends w.old w.new (json w.old.source plain (view_str literal.now))) }
 {
     w.open("Literal", literal.span)?;
     w.key("value")?;
@@ -61,7 +61,7 @@ pub fn write_str(w: &mut Writer<'_>, literal: &Str) -> Result<(), AllocError>
 /// Writes a literal that is a word.
 #[tactic(auto, unfolding(crate::specs::Parts::literal))]
 fn write_word(w: &mut Writer<'_>, word: &str, span: Span) -> Result<(), AllocError>
-    ensures { OnOk result (Appends w.old w.new (parts.literal w.old.text span word.now word.now)) }
+    ensures { OnOk result (Appends w.old w.new (parts.literal w.old.source span word.now word.now)) }
 {
     w.open("Literal", span)?;
     w.key("value")?;
@@ -74,7 +74,7 @@ fn write_word(w: &mut Writer<'_>, word: &str, span: Span) -> Result<(), AllocErr
 /// Writes a number literal.
 #[tactic(auto, unfolding(crate::specs::Parts::literal))]
 pub fn write_number(w: &mut Writer<'_>, raw: &str, span: Span) -> Result<(), AllocError>
-    ensures { OnOk result (Appends w.old w.new (parts.literal w.old.text span (number_text raw.now) raw.now)) }
+    ensures { OnOk result (Appends w.old w.new (parts.literal w.old.source span (number_text raw.now) raw.now)) }
 {
     w.open("Literal", span)?;
     w.key("value")?;
@@ -87,7 +87,7 @@ pub fn write_number(w: &mut Writer<'_>, raw: &str, span: Span) -> Result<(), All
 /// Writes a big integer literal. JSON has no such numbers, so its value is `null`.
 #[tactic(auto, unfolding(crate::specs::Parts::big_literal))]
 pub fn write_big_int(w: &mut Writer<'_>, literal: &BigInt) -> Result<(), AllocError>
-    ensures { OnOk result (Appends w.old w.new (json w.old.text plain (view_big_int literal.now))) }
+    ensures { OnOk result (Appends w.old w.new (json w.old.source plain (view_big_int literal.now))) }
 {
     w.open("Literal", literal.span)?;
     w.key("value")?;
@@ -101,7 +101,7 @@ pub fn write_big_int(w: &mut Writer<'_>, literal: &BigInt) -> Result<(), AllocEr
 
 /// Writes a literal.
 pub fn write_literal(w: &mut Writer<'_>, literal: &Lit) -> Result<(), AllocError>
-    ensures { OnOk result (Appends w.old w.new (json w.old.text plain (view_lit literal.now))) }
+    ensures { OnOk result (Appends w.old w.new (json w.old.source plain (view_lit literal.now))) }
 {
     match literal {
         Lit::Str(x) => write_str(w, x),
@@ -120,7 +120,7 @@ fn write_word_name(
     start: usize,
     end: usize,
 ) -> Result<(), AllocError>
-    ensures { OnOk result (Appends w.old w.new (parts.word_name w.old.text word.now start end)) }
+    ensures { OnOk result (Appends w.old w.new (parts.word_name w.old.source word.now start end)) }
 {
     w.open_at("Identifier", start, end)?;
     w.word("name", word)?;
@@ -137,9 +137,9 @@ fn write_words(
     second_len: usize,
 ) -> Result<(), AllocError>
     requires { first_len < 100 }
-    ensures { OnOk result (Appends w.old w.new (parts.node w.old.text (codes "MetaProperty") span ++ (parts.key (codes "meta")
-        ++ (parts.word_name w.old.text first.now span.lo.0 (span.lo.0 + first_len) ++ (parts.key (codes "property")
-        ++ (parts.word_name w.old.text second.now (span.hi.0 - second_len) span.hi.0 ++ parts.end)))))) }
+    ensures { OnOk result (Appends w.old w.new (parts.node w.old.source (codes "MetaProperty") span ++ (parts.key (codes "meta")
+        ++ (parts.word_name w.old.source first.now span.lo.0 (span.lo.0 + first_len) ++ (parts.key (codes "property")
+        ++ (parts.word_name w.old.source second.now (span.hi.0 - second_len) span.hi.0 ++ parts.end)))))) }
 {
     let start = span.lo.0 as usize;
     let end = span.hi.0 as usize;
@@ -153,7 +153,7 @@ fn write_words(
 
 /// Writes `import.meta` or `new.target`.
 pub fn write_meta(w: &mut Writer<'_>, meta: &MetaPropExpr) -> Result<(), AllocError>
-    ensures { OnOk result (Appends w.old w.new (json w.old.text plain (view_meta_prop_expr meta.now))) }
+    ensures { OnOk result (Appends w.old w.new (json w.old.source plain (view_meta_prop_expr meta.now))) }
 {
     match meta.kind {
         MetaPropKind::ImportMeta => write_words(w, meta.span, "import", 6, "meta", 4),

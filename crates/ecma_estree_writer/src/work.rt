@@ -11,6 +11,8 @@ pub enum Work<'a> {
     OpenList,
     EndList,
     Nothing,
+    /// The fields that stand behind the others of a script or module.
+    Further,
     Key(&'static str),
     Word(&'static str, &'static str),
     Bool(&'static str, bool),

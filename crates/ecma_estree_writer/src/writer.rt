@@ -11,16 +11,18 @@ ghost use Rattle.ecma_estree_writer.specs.Writing.{Appends, Pushes};
 use crate::words::bool_word;
 use crate::work::Work;
 use ecma_estree_text::{
-    Offsets, find, push_count, push_digits, push_inner, push_number, push_quoted,
+    Places, find, push_digits, push_inner, push_number, push_quoted,
 };
 use std::alloc::{AllocError, Global};
 use std::marker::Model;
 use swc_ecma_parser_ast::Span;
 
-/// Contracts see the text that the tree was read from, what is written, and what is yet to be written as text.
+/// What is written of a tree, and what is yet to be written of it. Contracts see what it is written from, what is written, and what is yet to
+/// be written as text.
 #[derive(Drop)]
 pub struct Writer<'a> {
-    offsets: Offsets<'a>,
+    places: &'a Places<'a>,
+    fields: &'a [u8],
     out: Vec<u8>,
     work: Vec<Work<'a>>,
 }
@@ -31,18 +33,28 @@ impl<'a> Model for Writer<'a> {
 
     ghost Value = { Writing };
 
-    ghost view = { λ w. record { text = w.offsets; written = w.out.items; pending = pending w.offsets w.work.items } };
+    ghost view = { λ w. record {
+        source = record { places = w.places.now; fields = w.fields.now };
+        written = w.out.items;
+        pending = pending (record { places = w.places.now; fields = w.fields.now }) w.work.items
+    } };
 }
 
 impl<'a> Writer<'a> {
-    /// A writer over a text that goes on behind what is written.
-    pub fn new(alloc: Global, out: Vec<u8>, offsets: Offsets<'a>) -> Writer<'a>
-        ensures text { result.text ≡ offsets }
+    /// A writer over the places of a text that goes on behind what is written. `fields` stand behind the other fields of a script or module.
+    pub fn new(
+        alloc: Global,
+        out: Vec<u8>,
+        places: &'a Places<'a>,
+        fields: &'a [u8],
+    ) -> Writer<'a>
+        ensures source { result.source ≡ record { places = places.now; fields = fields.now } }
         ensures written { result.written ≡ out.items }
         ensures pending { result.pending ≡ [] }
     {
         Writer {
-            offsets,
+            places,
+            fields,
             out,
             work: Vec::new(alloc),
         }
@@ -58,22 +70,22 @@ impl<'a> Writer<'a> {
 
     /// The length of the text in bytes.
     pub fn text_len(&self) -> usize
-        ensures { result ≡ length self.now.text }
+        ensures { result ≡ length self.now.source.places.text }
     {
-        self.offsets.text().len()
+        self.places.text().len()
     }
 
     /// Where a bracket stands from an offset on, in no comment.
     pub fn find(&self, mark: u8, from: usize) -> usize
-        ensures { result ≡ bracket self.now.text mark from }
+        ensures { result ≡ bracket self.now.source.places.text mark from }
     {
-        find(self.offsets.text(), mark, from)
+        find(self.places.text(), mark, from)
     }
 
     /// Lays work upon the stack: it is done before what lies there.
     #[tactic(auto, using(crate::proofs::Pending::pending_push))]
     pub fn push(&mut self, work: Work<'a>) -> Result<(), AllocError>
-        ensures { OnOk result (Pushes self.old self.new (work_text self.old.text work.entry)) }
+        ensures { OnOk result (Pushes self.old self.new (work_text self.old.source work.entry)) }
     {
         self.work.push(work)?;
         Ok(())
@@ -82,7 +94,7 @@ impl<'a> Writer<'a> {
     /// Takes work from the stack.
     #[tactic(auto, using(crate::proofs::Pending::pending_push))]
     pub fn pop(&mut self) -> Option<Work<'a>>
-        ensures { MatchOption result ((self.old.pending ≡ []) × (self.new ≡ self.old)) (λ work. Pushes self.new self.old (work_text self.old.text work)) }
+        ensures { MatchOption result ((self.old.pending ≡ []) × (self.new ≡ self.old)) (λ work. Pushes self.new self.old (work_text self.old.source work)) }
     {
         self.work.pop()
     }
@@ -90,28 +102,24 @@ impl<'a> Writer<'a> {
     /// Writes how a node begins.
     #[tactic(auto, unfolding(crate::specs::Parts::node_at))]
     pub fn open_at(&mut self, kind: &str, start: usize, end: usize) -> Result<(), AllocError>
-        ensures { OnOk result (Appends self.old self.new (parts.node_at self.old.text kind.now start end)) }
+        ensures { OnOk result (Appends self.old self.new (parts.node_at self.old.source kind.now start end)) }
     {
-        let start = self.offsets.at(start);
-        let end = self.offsets.at(end);
         self.out.extend_from_slice(b"{\"type\":\"")?;
         self.out.extend_from_slice(kind.as_bytes())?;
-        self.out.extend_from_slice(b"\",\"start\":")?;
-        push_count(&mut self.out, start)?;
-        self.out.extend_from_slice(b",\"end\":")?;
-        push_count(&mut self.out, end)
+        self.out.extend_from_slice(b"\",")?;
+        self.places.push_fields(&mut self.out, start, end)
     }
 
     /// Writes how a node begins.
     pub fn open(&mut self, kind: &str, span: Span) -> Result<(), AllocError>
-        ensures { OnOk result (Appends self.old self.new (parts.node self.old.text kind.now span)) }
+        ensures { OnOk result (Appends self.old self.new (parts.node self.old.source kind.now span)) }
     {
         self.open_at(kind, span.lo.0 as usize, span.hi.0 as usize)
     }
 
     /// Writes a node without fields.
     pub fn leaf(&mut self, kind: &str, span: Span) -> Result<(), AllocError>
-        ensures { OnOk result (Appends self.old self.new (parts.node self.old.text kind.now span ++ parts.end)) }
+        ensures { OnOk result (Appends self.old self.new (parts.node self.old.source kind.now span ++ parts.end)) }
     {
         self.open(kind, span)?;
         self.end()
@@ -226,6 +234,13 @@ impl<'a> Writer<'a> {
         self.out.extend_from_slice(b"\"")?;
         push_digits(&mut self.out, raw)?;
         self.out.extend_from_slice(b"\"")
+    }
+
+    /// Writes the fields that stand behind the others of a script or module.
+    pub fn further_fields(&mut self) -> Result<(), AllocError>
+        ensures { OnOk result (Appends self.old self.new self.old.source.fields) }
+    {
+        self.out.extend_from_slice(self.fields)
     }
 
     /// Writes a word or a literal as its text.

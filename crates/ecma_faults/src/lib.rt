@@ -1,12 +1,14 @@
-//! Faults for people and for tools: a sentence for each kind, lines and columns, and the lines that are printed.
+//! Faults for people and for tools: a sentence for each kind, where it stands, and the lines that are printed.
 #![tactic(auto)]
 
+mod excerpt;
 mod json;
-mod place;
+mod note;
 mod sentence;
+mod shown;
 mod text;
 
 pub use json::push_fault as push_json;
-pub use place::{Place, place_of};
+pub use note::{Note, note_of};
 pub use sentence::sentence;
 pub use text::push_fault as push_text;

@@ -1,5 +1,5 @@
 -- The place, and how many of the bytes that are left stand before the mark.
-use Rattle.std.proofs.Common.{◌≡◌, ◌+◌, ◌≤◌, drop, length}
+use Rattle.std.proofs.Common.{◌≡◌, ◌+◌, drop, length}
 use Rattle.ecma_estree_text.specs.Bracket.{skipped}
 use Rattle.ecma_estree_text.proofs.bracket.find.Given as goal
 

@@ -1,7 +1,7 @@
 -- The counts so far.
 use Rattle.std.proofs.Common.{◌≡◌, ℕ, ◌+◌, ◌*◌, ◌≤◌, take, length, slice_index}
-use Rattle.ecma_estree_text.specs.Offsets.{unit_total}
-use Rattle.ecma_estree_text.proofs.offsets.Offsets.new.Given as goal
+use Rattle.ecma_estree_text.specs.Places.{unit_total}
+use Rattle.ecma_estree_text.proofs.places.counts_of.Given as goal
 
 abbrev pub invariant-loop-byte : goal.invariant-loop-byte
 invariant-loop-byte l = record {
