@@ -1,30 +1,43 @@
-//! Tokens, as espree names them: a word is a `Keyword` where it is one in every context, and `let`, `yield` and `static` too; `#` and its
-//! name are one token.
+//! Tokens, as espree names them: a word is a `Keyword` where it is one in every context, and `#` and its name are one token.
 
-use ecma_estree_text::{Places, push_quoted};
+ghost use Rattle.std.specs.Prelude.{◌≡◌, ◌++◌, OnOk, true, None};
+ghost use Rattle.ecma_estree_lists.specs.Tokens as tokens;
+ghost use Rattle.ecma_estree_lists.specs.Tokens.{part, step_text, token_list, token_text, tokens_field, value_text, written};
+
+use ecma_estree_text::{Places, push_quoted_bytes};
 use std::alloc::AllocError;
 use swc_ecma_parser_common::Span;
 use swc_ecma_parser_token::{Keyword, Token, TokenAndSpan, Word};
 
+/// What a keyword is.
+#[tactic(auto, unfolding(crate::specs::Tokens::keyword_type))]
+fn keyword_type(keyword: Keyword) -> &'static str
+    ensures { result.now ≡ tokens.keyword_type keyword }
+{
+    match keyword {
+        Keyword::Await => "Identifier",
+        _ => "Keyword",
+    }
+}
+
 /// What a word is.
-fn word_type(word: &Word) -> &'static str {
+#[tactic(auto, unfolding(crate::specs::Tokens::word_type))]
+fn word_type(word: &Word) -> &'static str
+    ensures { result.now ≡ tokens.word_type word.now }
+{
     match word {
-        Word::Keyword(Keyword::Await) => "Identifier",
-        Word::Keyword(_) => "Keyword",
+        Word::Keyword(keyword) => keyword_type(*keyword),
         Word::Null => "Null",
         Word::True | Word::False => "Boolean",
-        Word::Ident(text) => {
-            if text.as_str() == "static" {
-                "Keyword"
-            } else {
-                "Identifier"
-            }
-        }
+        Word::Ident(_) => "Identifier",
     }
 }
 
 /// What a token is.
-fn token_type(token: &Token) -> &'static str {
+#[tactic(auto, unfolding(crate::specs::Tokens::token_type))]
+fn token_type(token: &Token) -> &'static str
+    ensures { result.now ≡ tokens.token_type token.now }
+{
     match token {
         Token::Word(word) => word_type(word),
         Token::Str { .. } => "String",
@@ -33,79 +46,162 @@ fn token_type(token: &Token) -> &'static str {
     }
 }
 
-/// Writes a token with its text.
-fn push_token(
-    out: &mut Vec<u8>,
-    places: &Places<'_>,
-    kind: &str,
-    value: &str,
-    span: Span,
-) -> Result<(), AllocError> {
-    out.extend_from_slice(b"{\"type\":\"")?;
-    out.extend_from_slice(kind.as_bytes())?;
-    out.extend_from_slice(b"\",\"value\":")?;
-    push_quoted(out, value)?;
-    out.extend_from_slice(b",")?;
-    places.push_fields(out, span.lo.0 as usize, span.hi.0 as usize)?;
-    out.extend_from_slice(b"}")
+/// Whether a token is a `#`, which is one with the name behind it.
+fn is_hash(token: &Token) -> bool
+    ensures { result ≡ tokens.is_hash token.now }
+{
+    match token {
+        Token::Hash => true,
+        _ => false,
+    }
+}
+
+/// Whether a token is a first line that begins with `#!`.
+fn is_shebang(token: &Token) -> bool
+    ensures { result ≡ tokens.is_shebang token.now }
+{
+    match token {
+        Token::Shebang(_) => true,
+        _ => false,
+    }
+}
+
+/// A part of a text.
+fn part_of(text: &str, low: usize, high: usize) -> &[u8]
+    ensures { result.now ≡ part text.now low high }
+{
+    let bytes = text.as_bytes();
+    let high = high.min(bytes.len());
+    let low = low.min(high);
+    &bytes[low..high]
 }
 
 /// How a token is written, of a word what it says.
-fn value_of<'a>(text: &'a str, token: &'a TokenAndSpan) -> &'a str {
-    if let Token::Word(word) = &token.token {
-        return word.as_str();
-    }
-    let bytes = text.as_bytes();
-    let high = (token.span.hi.0 as usize).min(bytes.len());
-    let low = (token.span.lo.0 as usize).min(high);
-    match std::str::from_utf8(&bytes[low..high]) {
-        Ok(value) => value,
-        Err(_) => "",
+fn value_of<'a>(text: &'a str, token: &'a Token, span: Span) -> &'a [u8]
+    ensures { result.now ≡ value_text text.now token.now span }
+{
+    match token {
+        Token::Word(word) => word.as_str().as_bytes(),
+        _ => part_of(text, span.lo.0 as usize, span.hi.0 as usize),
     }
 }
 
+/// Writes a token.
+fn push_written(
+    out: &mut Vec<u8>,
+    places: &Places<'_>,
+    kind: &str,
+    value: &[u8],
+    low: usize,
+    high: usize,
+) -> Result<(), AllocError>
+    ensures { OnOk result (out.new.items ≡ out.old.items ++ written places.now kind.now value.now low high) }
+{
+    out.extend_from_slice(b"{\"type\":\"")?;
+    out.extend_from_slice(kind.as_bytes())?;
+    out.extend_from_slice(b"\",\"value\":")?;
+    push_quoted_bytes(out, value)?;
+    out.extend_from_slice(b",")?;
+    places.push_fields(out, low, high)?;
+    out.extend_from_slice(b"}")
+}
+
+/// Writes a token, which is the name of the `#` before it if there is one.
+fn push_token(
+    out: &mut Vec<u8>,
+    places: &Places<'_>,
+    hash: Option<Span>,
+    token: &TokenAndSpan,
+) -> Result<(), AllocError>
+    ensures { OnOk result (out.new.items ≡ out.old.items ++ token_text places.now hash token.now) }
+{
+    let value = value_of(places.text(), &token.token, token.span);
+    let high = token.span.hi.0 as usize;
+    match hash {
+        Some(mark) => push_written(
+            out,
+            places,
+            "PrivateIdentifier",
+            value,
+            mark.lo.0 as usize,
+            high,
+        ),
+        None => push_written(
+            out,
+            places,
+            token_type(&token.token),
+            value,
+            token.span.lo.0 as usize,
+            high,
+        ),
+    }
+}
+
+/// Writes a token with the comma before it, but not one that is none there.
+fn push_step(
+    out: &mut Vec<u8>,
+    places: &Places<'_>,
+    is_first: bool,
+    hash: Option<Span>,
+    token: &TokenAndSpan,
+) -> Result<(), AllocError>
+    ensures { OnOk result (out.new.items ≡ out.old.items ++ step_text places.now is_first hash token.now) }
+{
+    if is_hash(&token.token) || is_shebang(&token.token) {
+        return Ok(());
+    }
+    if !is_first {
+        out.extend_from_slice(b",")?;
+    }
+    push_token(out, places, hash, token)
+}
+
+/// Whether what stands behind a token is the first of all.
+fn is_first_behind(is_first: bool, token: &TokenAndSpan) -> bool
+    ensures { result ≡ tokens.is_first_behind is_first token.now }
+{
+    is_first && (is_hash(&token.token) || is_shebang(&token.token))
+}
+
+/// The place of a token that is a `#`.
+fn hash_behind(token: &TokenAndSpan) -> Option<Span>
+    ensures { result ≡ tokens.hash_behind token.now }
+{
+    if is_hash(&token.token) {
+        return Some(token.span);
+    }
+    None
+}
+
+/// Writes tokens with commas between them.
+#[tactic(auto, using(crate::proofs::Listed::list_more, crate::proofs::Listed::list_all))]
+fn push_list(
+    out: &mut Vec<u8>,
+    places: &Places<'_>,
+    tokens: &[TokenAndSpan],
+) -> Result<(), AllocError>
+    ensures { OnOk result (out.new.items ≡ out.old.items ++ token_list places.now true None tokens.now) }
+{
+    let mut is_first = true;
+    let mut hash = None;
+    for token in tokens {
+        push_step(out, places, is_first, hash, token)?;
+        is_first = is_first_behind(is_first, token);
+        hash = hash_behind(token);
+    }
+    Ok(())
+}
+
 /// Writes tokens as a field `tokens` that stands behind another.
+#[tactic(auto, unfolding(crate::specs::Tokens::tokens_field))]
 pub fn push_tokens(
     out: &mut Vec<u8>,
     places: &Places<'_>,
     tokens: &[TokenAndSpan],
-) -> Result<(), AllocError> {
+) -> Result<(), AllocError>
+    ensures { OnOk result (out.new.items ≡ out.old.items ++ tokens_field places.now tokens.now) }
+{
     out.extend_from_slice(b",\"tokens\":[")?;
-    let mut is_first = true;
-    let mut hash: Option<Span> = None;
-    for token in tokens {
-        if let Token::Shebang(_) = &token.token {
-            continue;
-        }
-        if token.token == Token::Hash {
-            hash = Some(token.span);
-            continue;
-        }
-        if !is_first {
-            out.extend_from_slice(b",")?;
-        }
-        is_first = false;
-        let value = value_of(places.text(), token);
-        match hash {
-            Some(mark) => push_token(
-                out,
-                places,
-                "PrivateIdentifier",
-                value,
-                Span {
-                    lo: mark.lo,
-                    hi: token.span.hi,
-                },
-            )?,
-            None => push_token(
-                out,
-                places,
-                token_type(&token.token),
-                value,
-                token.span,
-            )?,
-        }
-        hash = None;
-    }
+    push_list(out, places, tokens)?;
     out.extend_from_slice(b"]")
 }

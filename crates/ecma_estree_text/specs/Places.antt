@@ -27,8 +27,11 @@ pub record AreCounts (text : List ℕ) (counts : List ℕ) : Type 0 where
 abbrev pub spot_text : Spot → List ℕ
 spot_text p = codes "{\"line\":" ++ (decimal p.line ++ (codes ",\"column\":" ++ (decimal p.column ++ codes "}")))
 
+abbrev pub spots_text : (start end : Spot) → List ℕ
+spots_text start end = codes ",\"loc\":{\"start\":" ++ (spot_text start ++ (codes ",\"end\":" ++ (spot_text end ++ codes "}")))
+
 abbrev pub loc_text : Placed → (start end : ℕ) → List ℕ
-loc_text x start end = codes ",\"loc\":{\"start\":" ++ (spot_text (spot_at x.text start) ++ (codes ",\"end\":" ++ (spot_text (spot_at x.text end) ++ codes "}")))
+loc_text x start end = spots_text (spot_at x.text start) (spot_at x.text end)
 
 abbrev pub range_text : Placed → (start end : ℕ) → List ℕ
 range_text x start end = codes ",\"range\":[" ++ (decimal (offset x.text start) ++ (codes "," ++ (decimal (offset x.text end) ++ codes "]")))

@@ -10,5 +10,5 @@ mod spot;
 pub use bracket::find;
 pub use number::{push_count, push_digits, push_number};
 pub use places::{Extras, Places};
-pub use quoted::{push_inner, push_quoted};
+pub use quoted::{push_inner, push_quoted, push_quoted_bytes};
 pub use spot::{Mark, Spot};

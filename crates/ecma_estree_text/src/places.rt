@@ -1,7 +1,7 @@
 //! Places as JavaScript's tools count them: offsets, lines and columns.
 
 ghost use Rattle.std.specs.Prelude.{◌≡◌, ◌++◌, ◌<◌, ◌^◌, [], cond, length, is_some, IfOk, IfSome, OnOk};
-ghost use Rattle.ecma_estree_text.specs.Places.{AreCounts, loc_text, offset, place_fields, range_text, spot_text};
+ghost use Rattle.ecma_estree_text.specs.Places.{AreCounts, loc_text, offset, place_fields, range_text, spot_text, spots_text};
 ghost use Rattle.ecma_estree_text.specs.Spots.{AreSpots, spot_at};
 
 use crate::number::push_count;
@@ -85,6 +85,26 @@ fn push_spot(out: &mut Vec<u8>, spot: Spot) -> Result<(), AllocError>
     out.extend_from_slice(b"}")
 }
 
+/// Writes two places as `loc`.
+fn push_spots(out: &mut Vec<u8>, start: Spot, end: Spot) -> Result<(), AllocError>
+    ensures { OnOk result (out.new.items ≡ out.old.items ++ spots_text start end) }
+{
+    out.extend_from_slice(b",\"loc\":{\"start\":")?;
+    push_spot(out, start)?;
+    out.extend_from_slice(b",\"end\":")?;
+    push_spot(out, end)?;
+    out.extend_from_slice(b"}")
+}
+
+/// The place of a byte, behind the end that of the end.
+fn spot_of(spots: &[Spot], text: &str, position: usize) -> Spot
+    requires { AreSpots text.now spots.now }
+    ensures { result ≡ spot_at text.now position }
+{
+    let last = text.len();
+    spots[position.min(last)]
+}
+
 impl<'a> Places<'a> {
     /// Counts once over a text. It fails only where memory runs out.
     pub fn new(alloc: Global, text: &'a str, extras: Extras) -> Result<Places<'a>, AllocError>
@@ -120,25 +140,24 @@ impl<'a> Places<'a> {
         ensures wanted { is_some result ≡ self.now.has_locations }
         ensures spot { IfSome result (λ spot. spot ≡ spot_at self.now.text position) }
     {
-        let Some(spots) = &self.spots else {
-            return None;
-        };
-        let last = self.text.len();
-        Some(spots[position.min(last)])
+        match &self.spots {
+            Some(spots) => Some(spot_of(spots.as_slice(), self.text, position)),
+            None => None,
+        }
     }
 
     /// Writes the lines of a place, if they are written.
     fn push_loc(&self, out: &mut Vec<u8>, start: usize, end: usize) -> Result<(), AllocError>
         ensures { OnOk result (out.new.items ≡ out.old.items ++ cond self.now.has_locations (loc_text self.now start end) []) }
     {
-        let (Some(first), Some(last)) = (self.spot(start), self.spot(end)) else {
-            return Ok(());
-        };
-        out.extend_from_slice(b",\"loc\":{\"start\":")?;
-        push_spot(out, first)?;
-        out.extend_from_slice(b",\"end\":")?;
-        push_spot(out, last)?;
-        out.extend_from_slice(b"}")
+        match &self.spots {
+            Some(spots) => push_spots(
+                out,
+                spot_of(spots.as_slice(), self.text, start),
+                spot_of(spots.as_slice(), self.text, end),
+            ),
+            None => Ok(()),
+        }
     }
 
     /// Writes the offsets of a place as a range, if that is written.

@@ -55,7 +55,7 @@ fn push_escaped(out: &mut Vec<u8>, byte: u8) -> Result<(), AllocError>
 }
 
 /// Writes bytes of UTF-8 as a JSON string.
-fn push_bytes(out: &mut Vec<u8>, bytes: &[u8]) -> Result<(), AllocError>
+pub fn push_quoted_bytes(out: &mut Vec<u8>, bytes: &[u8]) -> Result<(), AllocError>
     ensures { OnOk result (out.new.items ≡ out.old.items ++ wrapped bytes.now) }
 {
     out.push(b'"')?;
@@ -71,7 +71,7 @@ fn push_bytes(out: &mut Vec<u8>, bytes: &[u8]) -> Result<(), AllocError>
 pub fn push_quoted(out: &mut Vec<u8>, text: &str) -> Result<(), AllocError>
     ensures { OnOk result (out.new.items ≡ out.old.items ++ quoted text.now) }
 {
-    push_bytes(out, text.as_bytes())
+    push_quoted_bytes(out, text.as_bytes())
 }
 
 /// Writes what stands between the first and the last byte of a text as a JSON string.
@@ -80,7 +80,7 @@ pub fn push_inner(out: &mut Vec<u8>, text: &str) -> Result<(), AllocError>
     ensures { OnOk result (out.new.items ≡ out.old.items ++ inner_quoted text.now) }
 {
     match text.as_bytes() {
-        [_, inner @ .., _] => push_bytes(out, inner),
-        _ => push_bytes(out, b""),
+        [_, inner @ .., _] => push_quoted_bytes(out, inner),
+        _ => push_quoted_bytes(out, b""),
     }
 }

@@ -1,7 +1,7 @@
 //! Faults as JSON: one object a line.
 
+use crate::message::message_of;
 use crate::note::note_of;
-use crate::sentence::sentence;
 use ecma_estree_text::{Places, push_count, push_quoted};
 use std::alloc::AllocError;
 use swc_ecma_parser_common::Span;
@@ -63,11 +63,12 @@ pub fn push_fault(
     word: &str,
     error: &Error,
 ) -> Result<(), AllocError> {
+    let message = message_of(*out.allocator(), &error.kind)?;
     out.extend_from_slice(b"{\"file\":")?;
     push_quoted(out, file)?;
     push_string(out, "severity", word)?;
     push_string(out, "kind", error.kind.name())?;
-    push_string(out, "message", sentence(&error.kind))?;
+    push_string(out, "message", message.as_str())?;
     push_span(out, places, error.span)?;
     if let Some(note) = note_of(&error.kind) {
         push_key(out, "note")?;

@@ -3,6 +3,7 @@
 
 mod excerpt;
 mod json;
+mod message;
 mod note;
 mod sentence;
 mod shown;
@@ -10,5 +11,6 @@ mod text;
 
 pub use json::push_fault as push_json;
 pub use note::{Note, note_of};
+pub use message::message_of;
 pub use sentence::sentence;
 pub use text::push_fault as push_text;

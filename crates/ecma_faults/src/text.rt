@@ -1,8 +1,8 @@
 //! Faults as text: a line with the place and a sentence, the line of the text, and carets under what is wrong.
 
 use crate::excerpt::push_excerpt;
+use crate::message::message_of;
 use crate::note::note_of;
-use crate::sentence::sentence;
 use crate::shown::push_name;
 use ecma_estree_text::{Places, Spot, push_count};
 use std::alloc::AllocError;
@@ -48,7 +48,9 @@ pub fn push_fault(
     word: &str,
     error: &Error,
 ) -> Result<(), AllocError> {
-    let mut head = Vec::new(*out.allocator());
+    let alloc = *out.allocator();
+    let message = message_of(alloc, &error.kind)?;
+    let mut head = Vec::new(alloc);
     head.extend_from_slice(word.as_bytes())?;
     head.extend_from_slice(b" [")?;
     head.extend_from_slice(error.kind.name().as_bytes())?;
@@ -59,7 +61,7 @@ pub fn push_fault(
         places,
         error.span,
         head.as_slice(),
-        sentence(&error.kind),
+        message.as_str(),
     )?;
     match note_of(&error.kind) {
         Some(note) => push_sentence(out, file, places, note.span, b"note", note.sentence),
