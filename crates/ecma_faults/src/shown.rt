@@ -43,7 +43,7 @@ pub(crate) fn push_shown(out: &mut Vec<u8>, c: char) -> Result<(), AllocError> {
 }
 
 /// Writes a text as it is shown, with a mark for each tab.
-pub(crate) fn push_name(out: &mut Vec<u8>, text: &str) -> Result<(), AllocError> {
+pub fn push_name(out: &mut Vec<u8>, text: &str) -> Result<(), AllocError> {
     for c in text.chars() {
         push_shown(out, if c == '\t' { MARK } else { c })?;
     }
