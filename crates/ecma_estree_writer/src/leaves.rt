@@ -4,7 +4,8 @@ ghost use Rattle.std.specs.Prelude.{◌++◌, ◌<◌, ◌+◌, ◌-◌, codes, 
 ghost use Rattle.ecma_estree_writer.specs.Parts.{end};
 ghost use Rattle.ecma_estree_writer.specs.Estree.{json, plain};
 ghost use Rattle.ecma_estree_writer.specs.Writing.{Appends};
-ghost use Rattle.ecma_estree_text.specs.Number.{number_text};
+ghost use Rattle.ecma_estree_text.specs.Number.{digits_text, number_text};
+ghost use Rattle.ecma_estree_text.specs.Quoted.{quoted};
 ghost use Rattle.swc_ecma_parser_ast.specs.Parts.{view_option};
 ghost use Rattle.swc_ecma_parser_ast.specs.View.{view_big_int, view_ident, view_lit, view_meta_prop_expr, view_private_name, view_str};
 ghost use Rattle.ecma_estree_writer.specs.Parts as parts;
@@ -13,6 +14,45 @@ use crate::words::bool_word;
 use crate::writer::Writer;
 use std::alloc::AllocError;
 use swc_ecma_parser_ast::{BigInt, Ident, Lit, MetaPropExpr, MetaPropKind, PrivateName, Span, Str};
+
+/// Writes a field that is a text.
+fn write_text(w: &mut Writer<'_>, key: &str, text: &str) -> Result<(), AllocError>
+    ensures { OnOk result (Appends w.old w.new (parts.key key.now ++ quoted text.now)) }
+{
+    w.key(key)?;
+    w.quoted(text)
+}
+
+/// Writes a field that is `null`.
+fn write_nothing(w: &mut Writer<'_>, key: &str) -> Result<(), AllocError>
+    ensures { OnOk result (Appends w.old w.new (parts.key key.now ++ parts.nothing)) }
+{
+    w.key(key)?;
+    w.nothing()
+}
+
+/// Writes a field that is the digits of a big integer literal.
+fn write_digits(w: &mut Writer<'_>, key: &str, raw: &str) -> Result<(), AllocError>
+    ensures { OnOk result (Appends w.old w.new (parts.key key.now ++ (codes "\"" ++ (digits_text raw.now ++ codes "\"")))) }
+{
+    w.key(key)?;
+    w.digits(raw)
+}
+
+/// Writes a node of the given kind that has a text as its one field.
+fn write_text_node(
+    w: &mut Writer<'_>,
+    kind: &str,
+    span: Span,
+    key: &str,
+    text: &str,
+) -> Result<(), AllocError>
+    ensures { OnOk result (Appends w.old w.new (parts.node w.old.source kind.now span ++ (parts.key key.now ++ (quoted text.now ++ end)))) }
+{
+    w.open(kind, span)?;
+    write_text(w, key, text)?;
+    w.end()
+}
 
 /// Writes a name.
 #[tactic(auto, unfolding(crate::specs::Parts::identifier))]
@@ -39,10 +79,7 @@ pub fn write_optional_name(w: &mut Writer<'_>, name: &Option<Ident>) -> Result<(
 pub fn write_private_name(w: &mut Writer<'_>, name: &PrivateName) -> Result<(), AllocError>
     ensures { OnOk result (Appends w.old w.new (json w.old.source plain (view_private_name name.now))) }
 {
-    w.open("PrivateIdentifier", name.span)?;
-    w.key("name")?;
-    w.quoted(name.id.sym.as_str())?;
-    w.end()
+    write_text_node(w, "PrivateIdentifier", name.span, "name", name.id.sym.as_str())
 }
 
 /// Writes a string literal.
@@ -90,12 +127,9 @@ pub fn write_big_int(w: &mut Writer<'_>, literal: &BigInt) -> Result<(), AllocEr
     ensures { OnOk result (Appends w.old w.new (json w.old.source plain (view_big_int literal.now))) }
 {
     w.open("Literal", literal.span)?;
-    w.key("value")?;
-    w.nothing()?;
-    w.key("raw")?;
-    w.quoted(literal.raw.as_str())?;
-    w.key("bigint")?;
-    w.digits(literal.raw.as_str())?;
+    write_nothing(w, "value")?;
+    write_text(w, "raw", literal.raw.as_str())?;
+    write_digits(w, "bigint", literal.raw.as_str())?;
     w.end()
 }
 

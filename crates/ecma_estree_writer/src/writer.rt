@@ -62,7 +62,7 @@ impl<'a> Writer<'a> {
 
     /// What is written.
     pub fn into_out(self) -> Vec<u8>
-        ensures { result.items ≡ self.written }
+        ensures { result.items ≡ self.entry.written }
     {
         let Writer { out, .. } = self;
         out
