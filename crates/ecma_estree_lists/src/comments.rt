@@ -21,11 +21,7 @@ fn kind_word(kind: CommentKind) -> &'static str
 }
 
 /// Writes a comment.
-fn push_comment(
-    out: &mut Vec<u8>,
-    places: &Places<'_>,
-    comment: &Comment,
-) -> Result<(), AllocError>
+fn push_comment(out: &mut Vec<u8>, places: &Places<'_>, comment: &Comment) -> Result<(), AllocError>
     ensures { OnOk result (out.new.items ≡ out.old.items ++ comment_text places.now comment.now) }
 {
     out.extend_from_slice(b"{\"type\":\"")?;
@@ -33,11 +29,7 @@ fn push_comment(
     out.extend_from_slice(b"\",\"value\":")?;
     push_quoted(out, comment.text.as_str())?;
     out.extend_from_slice(b",")?;
-    places.push_fields(
-        out,
-        comment.span.lo.0 as usize,
-        comment.span.hi.0 as usize,
-    )?;
+    places.push_fields(out, comment.span.lo.0 as usize, comment.span.hi.0 as usize)?;
     out.extend_from_slice(b"}")
 }
 
@@ -60,11 +52,7 @@ fn push_rest(out: &mut Vec<u8>, places: &Places<'_>, rest: &[Comment]) -> Result
 }
 
 /// Writes comments with commas between them.
-fn push_list(
-    out: &mut Vec<u8>,
-    places: &Places<'_>,
-    comments: &[Comment],
-) -> Result<(), AllocError>
+fn push_list(out: &mut Vec<u8>, places: &Places<'_>, comments: &[Comment]) -> Result<(), AllocError>
     ensures { OnOk result (out.new.items ≡ out.old.items ++ comment_list places.now comments.now) }
 {
     match comments {

@@ -59,11 +59,7 @@ fn counts_of(alloc: Global, text: &str) -> Result<Vec<u64>, AllocError>
 }
 
 /// The place of each byte, if they are wanted.
-fn wanted_spots(
-    alloc: Global,
-    text: &str,
-    is_wanted: bool,
-) -> Result<Option<Vec<Spot>>, AllocError>
+fn wanted_spots(alloc: Global, text: &str, is_wanted: bool) -> Result<Option<Vec<Spot>>, AllocError>
     requires { length text.now < 2 ^ 32 }
     ensures wanted { IfOk result (λ spots. is_some spots ≡ is_wanted) }
     ensures spots { IfOk result (λ spots. IfSome spots (λ v. AreSpots text.now v.items)) }

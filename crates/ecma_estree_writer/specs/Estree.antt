@@ -189,9 +189,9 @@ abbrev mutual
   json t r (tree.getter_prop s k body) =
       property t s false false (is_computed k) ++ (key (codes "key") ++ (json t plain k ++ (key (codes "value")
       ++ (accessor t k s ++ (key (codes "params") ++ (open_list ++ (end_list ++ (key (codes "body") ++ (json t directives body ++ (end ++ (word_field (codes "kind") (codes "get") ++ end)))))))))))
-  json t r (tree.setter_prop s k param body) =
+  json t r (tree.setter_prop s k pattern body) =
       property t s false false (is_computed k) ++ (key (codes "key") ++ (json t plain k ++ (key (codes "value")
-      ++ (accessor t k s ++ (key (codes "params") ++ (open_list ++ (json t plain param ++ (end_list ++ (key (codes "body") ++ (json t directives body ++ (end ++ (word_field (codes "kind") (codes "set") ++ end))))))))))))
+      ++ (accessor t k s ++ (key (codes "params") ++ (open_list ++ (json t plain pattern ++ (end_list ++ (key (codes "body") ++ (json t directives body ++ (end ++ (word_field (codes "kind") (codes "set") ++ end))))))))))))
   json t r (tree.method_prop s k fn) =
       property t s true false (is_computed k) ++ (key (codes "key") ++ (json t plain k ++ (key (codes "value") ++ (json t (method_role t k) fn ++ (word_field (codes "kind") (codes "init") ++ end)))))
   -- patterns
@@ -274,8 +274,8 @@ abbrev mutual
   json t r (tree.throw s arg) = node t (codes "ThrowStatement") s ++ (key (codes "argument") ++ (json t plain arg ++ end))
   json t r (tree.try s body handler finalizer) =
       node t (codes "TryStatement") s ++ (key (codes "block") ++ (json t plain body ++ (key (codes "handler") ++ (json t plain handler ++ (key (codes "finalizer") ++ (json t plain finalizer ++ end))))))
-  json t r (tree.catch s param body) =
-      node t (codes "CatchClause") s ++ (key (codes "param") ++ (json t plain param ++ (key (codes "body") ++ (json t plain body ++ end))))
+  json t r (tree.catch s pattern body) =
+      node t (codes "CatchClause") s ++ (key (codes "param") ++ (json t plain pattern ++ (key (codes "body") ++ (json t plain body ++ end))))
   json t r (tree.while s test body) =
       node t (codes "WhileStatement") s ++ (key (codes "test") ++ (json t plain test ++ (key (codes "body") ++ (json t plain body ++ end))))
   json t r (tree.do_while s test body) =

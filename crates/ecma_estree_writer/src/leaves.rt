@@ -79,7 +79,13 @@ pub fn write_optional_name(w: &mut Writer<'_>, name: &Option<Ident>) -> Result<(
 pub fn write_private_name(w: &mut Writer<'_>, name: &PrivateName) -> Result<(), AllocError>
     ensures { OnOk result (Appends w.old w.new (json w.old.source plain (view_private_name name.now))) }
 {
-    write_text_node(w, "PrivateIdentifier", name.span, "name", name.id.sym.as_str())
+    write_text_node(
+        w,
+        "PrivateIdentifier",
+        name.span,
+        "name",
+        name.id.sym.as_str(),
+    )
 }
 
 /// Writes a string literal.

@@ -10,9 +10,7 @@ ghost use Rattle.ecma_estree_writer.specs.Writing.{Appends, Pushes};
 
 use crate::words::bool_word;
 use crate::work::Work;
-use ecma_estree_text::{
-    Places, find, push_digits, push_inner, push_number, push_quoted,
-};
+use ecma_estree_text::{Places, find, push_digits, push_inner, push_number, push_quoted};
 use std::alloc::{AllocError, Global};
 use std::marker::Model;
 use swc_ecma_parser_ast::Span;
@@ -34,20 +32,15 @@ impl<'a> Model for Writer<'a> {
     ghost Value = { Writing };
 
     ghost view = { λ w. record {
-        source = record { places = w.places.now; fields = w.fields.now };
-        written = w.out.items;
-        pending = pending (record { places = w.places.now; fields = w.fields.now }) w.work.items
+      source = record { places = w.places.now; fields = w.fields.now };
+      written = w.out.items;
+      pending = pending (record { places = w.places.now; fields = w.fields.now }) w.work.items;
     } };
 }
 
 impl<'a> Writer<'a> {
     /// A writer over the places of a text that goes on behind what is written. `fields` stand behind the other fields of a script or module.
-    pub fn new(
-        alloc: Global,
-        out: Vec<u8>,
-        places: &'a Places<'a>,
-        fields: &'a [u8],
-    ) -> Writer<'a>
+    pub fn new(alloc: Global, out: Vec<u8>, places: &'a Places<'a>, fields: &'a [u8]) -> Writer<'a>
         ensures source { result.source ≡ record { places = places.now; fields = fields.now } }
         ensures written { result.written ≡ out.items }
         ensures pending { result.pending ≡ [] }

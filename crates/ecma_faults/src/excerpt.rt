@@ -134,7 +134,8 @@ pub(crate) fn push_excerpt(
     let start = line_start(bytes, low);
     let end = line_end(bytes, low);
     let from = shown_from(text, start, low);
-    let is_whole = from == 0 || ends_line(bytes[from.saturating_sub(1).min(bytes.len().saturating_sub(1))]);
+    let is_whole = from == 0
+        || ends_line(bytes[from.saturating_sub(1).min(bytes.len().saturating_sub(1))]);
     if !is_whole {
         out.extend_from_slice(b"...")?;
     }

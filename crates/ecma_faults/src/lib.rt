@@ -10,8 +10,8 @@ mod shown;
 mod text;
 
 pub use json::push_fault as push_json;
-pub use note::{Note, note_of};
 pub use message::message_of;
+pub use note::{Note, note_of};
 pub use sentence::sentence;
 pub use shown::push_name;
 pub use text::push_fault as push_text;

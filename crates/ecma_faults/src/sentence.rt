@@ -170,7 +170,8 @@ fn module_sentences(kind: &SyntaxError) -> &'static str {
 /// The sentences on what no rule reads.
 fn refusal_sentences(kind: &SyntaxError) -> &'static str {
     match kind {
-        SyntaxError::TS1005 => "a `;` is missing here (ECMA-262, 12.10), or `try`, `catch` and `finally` do not stand together (ECMA-262, 14.15)",
+        SyntaxError::TS1005 =>
+            "a `;` is missing here (ECMA-262, 12.10), or `try`, `catch` and `finally` do not stand together (ECMA-262, 14.15)",
         SyntaxError::Eof => "the text ends in the midst of a statement (ECMA-262, 16)",
         SyntaxError::Expected(_) => "another token is wanted here (ECMA-262, 14)",
         SyntaxError::Unexpected(_) => "no rule reads this token here (ECMA-262, 14)",
