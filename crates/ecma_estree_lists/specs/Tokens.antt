@@ -52,9 +52,14 @@ abbrev pub value_text : List ℕ → Token → Span → List ℕ
 value_text text (token.Word w) s = word_text w
 value_text text _ s = part text s.lo.0 s.hi.0
 
-abbrev pub written : Placed → (kind value : List ℕ) → (low high : ℕ) → List ℕ
-written p kind value low high =
-    codes "{\"type\":\"" ++ (kind ++ (codes "\",\"value\":" ++ (wrapped value ++ (codes "," ++ (place_fields p low high ++ codes "}")))))
+unfoldable pub token_head : (kind : List ℕ) → List ℕ
+token_head kind = codes "{\"type\":\"" ++ (kind ++ codes "\",\"value\":")
+
+unfoldable pub token_tail : Placed → (low high : ℕ) → List ℕ
+token_tail p low high = codes "," ++ (place_fields p low high ++ codes "}")
+
+unfoldable pub written : Placed → (kind value : List ℕ) → (low high : ℕ) → List ℕ
+written p kind value low high = token_head kind ++ (wrapped value ++ token_tail p low high)
 
 -- a token, behind a `#` if it is the name of one
 abbrev pub token_text : Placed → (hash : Option Span) → TokenAndSpan → List ℕ

@@ -2,7 +2,7 @@
 
 ghost use Rattle.std.specs.Prelude.{◌≡◌, ◌++◌, OnOk, true, None};
 ghost use Rattle.ecma_estree_lists.specs.Tokens as tokens;
-ghost use Rattle.ecma_estree_lists.specs.Tokens.{part, step_text, token_list, token_text, tokens_field, value_text, written};
+ghost use Rattle.ecma_estree_lists.specs.Tokens.{part, step_text, token_head, token_list, token_tail, token_text, tokens_field, value_text, written};
 
 use ecma_estree_text::{Places, push_quoted_bytes};
 use std::alloc::AllocError;
@@ -86,7 +86,33 @@ fn value_of<'a>(text: &'a str, token: &'a Token, span: Span) -> &'a [u8]
     }
 }
 
+/// Writes how a token begins, up to its text.
+#[tactic(auto, unfolding(crate::specs::Tokens::token_head))]
+fn push_head(out: &mut Vec<u8>, kind: &str) -> Result<(), AllocError>
+    ensures { OnOk result (out.new.items ≡ out.old.items ++ token_head kind.now) }
+{
+    out.extend_from_slice(b"{\"type\":\"")?;
+    out.extend_from_slice(kind.as_bytes())?;
+    out.extend_from_slice(b"\",\"value\":")
+}
+
+/// Writes where a token stands, and its end.
+#[tactic(auto, unfolding(crate::specs::Tokens::token_tail))]
+fn push_tail(
+    out: &mut Vec<u8>,
+    places: &Places<'_>,
+    low: usize,
+    high: usize,
+) -> Result<(), AllocError>
+    ensures { OnOk result (out.new.items ≡ out.old.items ++ token_tail places.now low high) }
+{
+    out.extend_from_slice(b",")?;
+    places.push_fields(out, low, high)?;
+    out.extend_from_slice(b"}")
+}
+
 /// Writes a token.
+#[tactic(auto, unfolding(crate::specs::Tokens::written))]
 fn push_written(
     out: &mut Vec<u8>,
     places: &Places<'_>,
@@ -97,13 +123,23 @@ fn push_written(
 ) -> Result<(), AllocError>
     ensures { OnOk result (out.new.items ≡ out.old.items ++ written places.now kind.now value.now low high) }
 {
-    out.extend_from_slice(b"{\"type\":\"")?;
-    out.extend_from_slice(kind.as_bytes())?;
-    out.extend_from_slice(b"\",\"value\":")?;
+    push_head(out, kind)?;
     push_quoted_bytes(out, value)?;
-    out.extend_from_slice(b",")?;
-    places.push_fields(out, low, high)?;
-    out.extend_from_slice(b"}")
+    push_tail(out, places, low, high)
+}
+
+/// Writes a token of the given kind with its text, from an offset on.
+fn push_from(
+    out: &mut Vec<u8>,
+    places: &Places<'_>,
+    kind: &str,
+    token: &TokenAndSpan,
+    low: usize,
+) -> Result<(), AllocError>
+    ensures { OnOk result (out.new.items ≡ out.old.items ++ written places.now kind.now (value_text places.now.text token.now.token token.now.span) low token.now.span.hi.0) }
+{
+    let value = value_of(places.text(), &token.token, token.span);
+    push_written(out, places, kind, value, low, token.span.hi.0 as usize)
 }
 
 /// Writes a token, which is the name of the `#` before it if there is one.
@@ -115,24 +151,14 @@ fn push_token(
 ) -> Result<(), AllocError>
     ensures { OnOk result (out.new.items ≡ out.old.items ++ token_text places.now hash token.now) }
 {
-    let value = value_of(places.text(), &token.token, token.span);
-    let high = token.span.hi.0 as usize;
     match hash {
-        Some(mark) => push_written(
-            out,
-            places,
-            "PrivateIdentifier",
-            value,
-            mark.lo.0 as usize,
-            high,
-        ),
-        None => push_written(
+        Some(mark) => push_from(out, places, "PrivateIdentifier", token, mark.lo.0 as usize),
+        None => push_from(
             out,
             places,
             token_type(&token.token),
-            value,
+            token,
             token.span.lo.0 as usize,
-            high,
         ),
     }
 }
