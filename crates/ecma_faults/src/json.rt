@@ -1,81 +1,131 @@
 //! Faults as JSON: one object a line.
 
-use crate::message::message_of;
+ghost use Rattle.std.specs.Prelude.{◌≡◌, ◌++◌, ◌<◌, ◌^◌, OnOk, length};
+ghost use Rattle.ecma_faults.specs.Json as json;
+ghost use Rattle.ecma_faults.specs.Json.{fault_json, key, offsets_json, place_json, remark_json, span_json, spot_json};
+ghost use Rattle.ecma_faults.specs.Note.{remark_of};
+
+use crate::messages::message;
 use crate::note::note_of;
-use ecma_estree_text::{Places, push_count, push_quoted};
+use ecma_estree_text::{Places, Spot, push_count, push_quoted};
 use std::alloc::AllocError;
 use swc_ecma_parser_common::Span;
-use swc_ecma_parser_error::Error;
+use swc_ecma_parser_error::{Error, SyntaxError};
 
 /// Writes how a further field begins.
-fn push_key(out: &mut Vec<u8>, name: &str) -> Result<(), AllocError> {
+fn push_key(out: &mut Vec<u8>, name: &str) -> Result<(), AllocError>
+    ensures { OnOk result (out.new.items ≡ out.old.items ++ key name.now) }
+{
     out.extend_from_slice(b",\"")?;
     out.extend_from_slice(name.as_bytes())?;
     out.extend_from_slice(b"\":")
 }
 
 /// Writes a field that is a number.
-fn push_number(out: &mut Vec<u8>, name: &str, value: u64) -> Result<(), AllocError> {
+fn push_number(out: &mut Vec<u8>, name: &str, value: u64) -> Result<(), AllocError>
+    ensures { OnOk result (out.new.items ≡ out.old.items ++ json.number name.now value) }
+{
     push_key(out, name)?;
     push_count(out, value)
 }
 
 /// Writes a field that is a text.
-fn push_string(out: &mut Vec<u8>, name: &str, value: &str) -> Result<(), AllocError> {
+fn push_string(out: &mut Vec<u8>, name: &str, value: &str) -> Result<(), AllocError>
+    ensures { OnOk result (out.new.items ≡ out.old.items ++ json.string name.now value.now) }
+{
     push_key(out, name)?;
     push_quoted(out, value)
 }
 
 /// Writes a line and a column, both counted from 1.
-fn push_spot(
+fn push_spot(out: &mut Vec<u8>, line: &str, column: &str, spot: Spot) -> Result<(), AllocError>
+    requires { spot.column < 2 ^ 34 }
+    ensures { OnOk result (out.new.items ≡ out.old.items ++ spot_json line.now column.now spot) }
+{
+    push_number(out, line, spot.line)?;
+    push_number(out, column, spot.column + 1)
+}
+
+/// Writes the line and the column of an offset, if lines are known.
+#[tactic(auto, using(crate::proofs::Columns::column_bound))]
+fn push_place(
     out: &mut Vec<u8>,
     places: &Places<'_>,
     line: &str,
     column: &str,
     position: usize,
-) -> Result<(), AllocError> {
+) -> Result<(), AllocError>
+    requires { length places.now.text < 2 ^ 32 }
+    ensures { OnOk result (out.new.items ≡ out.old.items ++ place_json places.now line.now column.now position) }
+{
     match places.spot(position) {
-        Some(spot) => {
-            push_number(out, line, spot.line)?;
-            push_number(out, column, spot.column.saturating_add(1))
-        }
+        Some(spot) => push_spot(out, line, column, spot),
         None => Ok(()),
     }
 }
 
-/// Writes a place: `byteStart` and `byteEnd` in bytes, `start` and `end` in code units of UTF-16, lines and columns from 1.
-fn push_span(out: &mut Vec<u8>, places: &Places<'_>, span: Span) -> Result<(), AllocError> {
-    let low = span.lo.0 as usize;
-    let high = span.hi.0 as usize;
+/// Writes two offsets of a place in bytes, and the same in code units of UTF-16.
+#[tactic(auto, unfolding(crate::specs::Json::offsets_json))]
+fn push_offsets(out: &mut Vec<u8>, places: &Places<'_>, low: usize, high: usize) -> Result<(), AllocError>
+    ensures { OnOk result (out.new.items ≡ out.old.items ++ offsets_json places.now low high) }
+{
     push_number(out, "byteStart", low as u64)?;
     push_number(out, "byteEnd", high as u64)?;
     push_number(out, "start", places.at(low))?;
-    push_number(out, "end", places.at(high))?;
-    push_spot(out, places, "line", "column", low)?;
-    push_spot(out, places, "endLine", "endColumn", high)
+    push_number(out, "end", places.at(high))
+}
+
+/// Writes a place: `byteStart` and `byteEnd` in bytes, `start` and `end` in code units of UTF-16, lines and columns from 1.
+#[tactic(auto, unfolding(crate::specs::Json::span_json))]
+fn push_span(out: &mut Vec<u8>, places: &Places<'_>, span: Span) -> Result<(), AllocError>
+    requires { length places.now.text < 2 ^ 32 }
+    ensures { OnOk result (out.new.items ≡ out.old.items ++ span_json places.now span) }
+{
+    let low = span.lo.0 as usize;
+    let high = span.hi.0 as usize;
+    push_offsets(out, places, low, high)?;
+    push_place(out, places, "line", "column", low)?;
+    push_place(out, places, "endLine", "endColumn", high)
+}
+
+/// Writes another place that a fault speaks of.
+fn push_note(
+    out: &mut Vec<u8>,
+    places: &Places<'_>,
+    kind: &SyntaxError,
+) -> Result<(), AllocError>
+    requires { length places.now.text < 2 ^ 32 }
+    ensures { OnOk result (out.new.items ≡ out.old.items ++ remark_json places.now (remark_of kind.now)) }
+{
+    let Some(note) = note_of(kind) else {
+        return Ok(());
+    };
+    push_key(out, "note")?;
+    out.extend_from_slice(b"{\"message\":")?;
+    push_quoted(out, note.sentence)?;
+    push_span(out, places, note.span)?;
+    out.extend_from_slice(b"}")
 }
 
 /// Writes a fault of a file as an object in a line of its own: `severity` is the word.
+#[tactic(auto, unfolding(crate::specs::Json::fault_json))]
 pub fn push_fault(
     out: &mut Vec<u8>,
     file: &str,
     places: &Places<'_>,
     word: &str,
     error: &Error,
-) -> Result<(), AllocError> {
-    let message = message_of(*out.allocator(), &error.kind)?;
+) -> Result<(), AllocError>
+    requires { length places.now.text < 2 ^ 32 }
+    ensures { OnOk result (out.new.items ≡ out.old.items ++ fault_json places.now file.now word.now error.now) }
+{
+    let said = message(*out.allocator(), &error.kind)?;
     out.extend_from_slice(b"{\"file\":")?;
     push_quoted(out, file)?;
     push_string(out, "severity", word)?;
     push_string(out, "kind", error.kind.name())?;
-    push_string(out, "message", message.as_str())?;
+    push_string(out, "message", said.as_str())?;
     push_span(out, places, error.span)?;
-    if let Some(note) = note_of(&error.kind) {
-        push_key(out, "note")?;
-        out.extend_from_slice(b"{\"message\":")?;
-        push_quoted(out, note.sentence)?;
-        push_span(out, places, note.span)?;
-        out.extend_from_slice(b"}")?;
-    }
+    push_note(out, places, &error.kind)?;
     out.extend_from_slice(b"}\n")
 }

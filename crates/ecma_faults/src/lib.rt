@@ -3,14 +3,15 @@
 
 mod excerpt;
 mod json;
-mod message;
+mod messages;
 mod note;
-mod sentence;
+mod place;
+mod sentences;
 mod shown;
 mod text;
 
 pub use json::push_fault as push_json;
+pub use messages::message;
 pub use note::{Note, note_of};
-pub use message::message_of;
-pub use sentence::sentence;
+pub use sentences::sentence;
 pub use text::push_fault as push_text;

@@ -1,5 +1,8 @@
 //! What else a fault speaks of: an earlier place.
 
+ghost use Rattle.std.specs.Prelude.{◌≡◌, option_map};
+ghost use Rattle.ecma_faults.specs.Note.{remark_of};
+
 use swc_ecma_parser_common::Span;
 use swc_ecma_parser_error::SyntaxError;
 
@@ -11,7 +14,9 @@ pub struct Note<'a> {
 }
 
 /// The other place of a fault, if it has one.
-pub fn note_of<'a>(kind: &'a SyntaxError) -> Option<Note<'a>> {
+pub fn note_of<'a>(kind: &'a SyntaxError) -> Option<Note<'a>>
+    ensures { option_map (λ note. record { span = note.span; sentence = note.sentence.now }) result ≡ remark_of kind.now }
+{
     match kind {
         SyntaxError::MultipleDefault { previous } => Some(Note {
             span: *previous,

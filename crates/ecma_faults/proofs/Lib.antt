@@ -1,0 +1,3 @@
+mod Back
+mod Chars
+mod Columns
