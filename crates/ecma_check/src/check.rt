@@ -4,7 +4,7 @@ use crate::command::{Format, Options};
 use crate::fault::Fault;
 use crate::tree::{Tree, lexer_of, parse, write};
 use ecma_estree_text::{Extras, Places};
-use ecma_faults::{push_json, push_text};
+use ecma_faults::{note_of, push_json, push_text};
 use std::alloc::{AllocError, Global};
 use swc_ecma_parser::Parser;
 use swc_ecma_parser::error::Error;
@@ -41,9 +41,10 @@ fn push_fault(
     word: &str,
     error: &Error,
 ) -> Result<(), AllocError> {
+    let note = note_of(&error.kind);
     match format {
-        Format::Json => push_json(out, file, places, word, error),
-        Format::Text | Format::Estree => push_text(out, file, places, word, error),
+        Format::Json => push_json(out, file, places, word, error, note),
+        Format::Text | Format::Estree => push_text(out, file, places, word, error, note),
     }
 }
 

@@ -67,7 +67,7 @@ fn limit(alloc: Global) -> Arg<'static> {
         .long("limit")
         .value_name("N")
         .value_parser(clap::value_parser!(u32))
-        .help("how many levels deep a file may nest, 1000 by default")
+        .help("how many levels deep a file may nest, 1000 by default and at most")
 }
 
 /// What is read besides ECMA-262.
@@ -177,7 +177,7 @@ pub fn options_of(matches: &ArgMatches<'_>) -> Options {
     Options {
         goal: goal_of(matches),
         limit: match matches.get_one::<u32>("limit") {
-            Some(limit) => limit,
+            Some(limit) => limit.min(1000),
             None => 1000,
         },
         format: format_of(matches),

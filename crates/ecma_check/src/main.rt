@@ -5,6 +5,8 @@ mod check;
 mod command;
 mod fault;
 mod run;
+#[cfg(test)]
+mod tests;
 mod tree;
 
 use std::process::ExitCode;

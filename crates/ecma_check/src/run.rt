@@ -3,6 +3,8 @@
 use crate::check::{Checked, Outcome, check};
 use crate::command::{Format, Options, matches_of, options_of};
 use crate::fault::Fault;
+use ecma_faults::push_name;
+use std::alloc::Global;
 use std::fs;
 use std::io::{self, ErrorKind, Read, Write};
 use std::rt::Files;
@@ -64,6 +66,16 @@ fn answer<R: Files + AllocGlobal, I: Read, W: Write, E: Write>(
     // There is no place left to say that this fails.
     let _ = errors.write_all(notes.as_slice());
     Ok((outcome, faults))
+}
+
+/// Tells why a file comes to no answer.
+fn tell<E: Write>(alloc: Global, errors: &mut E, file: &str, fault: Fault) {
+    let mut line = Vec::new(alloc);
+    // There is no place left to say that one of these fails.
+    if push_name(&mut line, file).is_ok() {
+        let _ = errors.write_all(line.as_slice());
+    }
+    let _ = writeln!(errors, ": {fault}");
 }
 
 /// The status of an outcome.
@@ -135,7 +147,7 @@ fn run_files<R: Files + AllocGlobal, I: Read, W: Write, E: Write>(
     for file in files {
         let outcome = answer(rt, options, input, output, errors, file);
         if let Err(fault) = outcome {
-            let _ = writeln!(errors, "{file}: {fault}");
+            tell(rt.alloc(), errors, file, fault);
         }
         sum = added(sum, outcome);
         if let Err(Fault::CannotWrite) = outcome {

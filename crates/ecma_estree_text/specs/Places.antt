@@ -24,7 +24,7 @@ pub record AreCounts (text : List ℕ) (counts : List ℕ) : Type 0 where
   pub value : (n : ℕ) → n ≤ length text → slice_index counts n ≡ unit_total (take n text)
 
 -- a line and a column
-abbrev pub spot_text : Spot → List ℕ
+unfoldable pub spot_text : Spot → List ℕ
 spot_text p = codes "{\"line\":" ++ (decimal p.line ++ (codes ",\"column\":" ++ (decimal p.column ++ codes "}")))
 
 abbrev pub spots_text : (start end : Spot) → List ℕ

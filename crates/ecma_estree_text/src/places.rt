@@ -1,6 +1,6 @@
 //! Places as JavaScript's tools count them: offsets, lines and columns.
 
-ghost use Rattle.std.specs.Prelude.{◌≡◌, ◌++◌, ◌<◌, ◌^◌, [], cond, length, is_some, IfOk, IfSome, OnOk};
+ghost use Rattle.std.specs.Prelude.{◌≡◌, ◌++◌, ◌<◌, ◌^◌, [], cond, decimal, length, is_some, IfOk, IfSome, OnOk};
 ghost use Rattle.ecma_estree_text.specs.Places.{AreCounts, loc_text, offset, place_fields, range_text, spot_text, spots_text};
 ghost use Rattle.ecma_estree_text.specs.Spots.{AreSpots, spot_at};
 
@@ -74,14 +74,22 @@ fn wanted_spots(
     Ok(None)
 }
 
-/// Writes a line and a column.
-fn push_spot(out: &mut Vec<u8>, spot: Spot) -> Result<(), AllocError>
-    ensures { OnOk result (out.new.items ≡ out.old.items ++ spot_text spot) }
+/// Writes a text and a number.
+fn push_labelled(out: &mut Vec<u8>, label: &[u8], number: u64) -> Result<(), AllocError>
+    ensures { OnOk result (out.new.items ≡ out.old.items ++ (label.now ++ decimal number)) }
 {
-    out.extend_from_slice(b"{\"line\":")?;
-    push_count(out, spot.line)?;
-    out.extend_from_slice(b",\"column\":")?;
-    push_count(out, spot.column)?;
+    out.extend_from_slice(label)?;
+    push_count(out, number)
+}
+
+/// Writes a text, a line and a column.
+#[tactic(auto, unfolding(crate::specs::Places::spot_text))]
+fn push_spot(out: &mut Vec<u8>, label: &[u8], spot: Spot) -> Result<(), AllocError>
+    ensures { OnOk result (out.new.items ≡ out.old.items ++ (label.now ++ spot_text spot)) }
+{
+    out.extend_from_slice(label)?;
+    push_labelled(out, b"{\"line\":", spot.line)?;
+    push_labelled(out, b",\"column\":", spot.column)?;
     out.extend_from_slice(b"}")
 }
 
@@ -89,10 +97,8 @@ fn push_spot(out: &mut Vec<u8>, spot: Spot) -> Result<(), AllocError>
 fn push_spots(out: &mut Vec<u8>, start: Spot, end: Spot) -> Result<(), AllocError>
     ensures { OnOk result (out.new.items ≡ out.old.items ++ spots_text start end) }
 {
-    out.extend_from_slice(b",\"loc\":{\"start\":")?;
-    push_spot(out, start)?;
-    out.extend_from_slice(b",\"end\":")?;
-    push_spot(out, end)?;
+    push_spot(out, b",\"loc\":{\"start\":", start)?;
+    push_spot(out, b",\"end\":", end)?;
     out.extend_from_slice(b"}")
 }
 
@@ -167,10 +173,8 @@ impl<'a> Places<'a> {
         if !self.ranges {
             return Ok(());
         }
-        out.extend_from_slice(b",\"range\":[")?;
-        push_count(out, self.at(start))?;
-        out.extend_from_slice(b",")?;
-        push_count(out, self.at(end))?;
+        push_labelled(out, b",\"range\":[", self.at(start))?;
+        push_labelled(out, b",", self.at(end))?;
         out.extend_from_slice(b"]")
     }
 
@@ -179,10 +183,8 @@ impl<'a> Places<'a> {
     pub fn push_fields(&self, out: &mut Vec<u8>, start: usize, end: usize) -> Result<(), AllocError>
         ensures { OnOk result (out.new.items ≡ out.old.items ++ place_fields self.now start end) }
     {
-        out.extend_from_slice(b"\"start\":")?;
-        push_count(out, self.at(start))?;
-        out.extend_from_slice(b",\"end\":")?;
-        push_count(out, self.at(end))?;
+        push_labelled(out, b"\"start\":", self.at(start))?;
+        push_labelled(out, b",\"end\":", self.at(end))?;
         self.push_loc(out, start, end)?;
         self.push_range(out, start, end)
     }

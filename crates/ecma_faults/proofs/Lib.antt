@@ -1,3 +1,4 @@
 mod Back
 mod Chars
 mod Columns
+mod Said

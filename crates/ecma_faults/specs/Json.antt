@@ -8,16 +8,16 @@ use Rattle.ecma_estree_text.specs.Quoted.{quoted}
 use Rattle.ecma_estree_text.specs.Spots.{spot_at}
 use Rattle.ecma_estree_text.specs.declared.spot.Spot.{Spot}
 use Rattle.ecma_faults.specs.Message.{message_of}
-use Rattle.ecma_faults.specs.Note.{Remark, remark_of}
+use Rattle.ecma_faults.specs.declared.note.Note.{Note}
 
 -- how a further field begins
-abbrev pub key : List ℕ → List ℕ
+unfoldable pub key : List ℕ → List ℕ
 key name = codes ",\"" ++ (name ++ codes "\":")
 
-abbrev pub number : List ℕ → ℕ → List ℕ
+unfoldable pub number : List ℕ → ℕ → List ℕ
 number name n = key name ++ decimal n
 
-abbrev pub string : List ℕ → List ℕ → List ℕ
+unfoldable pub string : List ℕ → List ℕ → List ℕ
 string name text = key name ++ quoted text
 
 abbrev pub spot_json : (line column : List ℕ) → Spot → List ℕ
@@ -39,12 +39,12 @@ span_json p span =
     offsets_json p span.lo.0 span.hi.0
     ++ (place_json p (codes "line") (codes "column") span.lo.0 ++ place_json p (codes "endLine") (codes "endColumn") span.hi.0)
 
-abbrev pub remark_json : Placed → Option Remark → List ℕ
-remark_json p None = []
-remark_json p (Some note) = key (codes "note") ++ (codes "{\"message\":" ++ (quoted note.sentence ++ (span_json p note.span ++ codes "}")))
+abbrev pub note_json : Placed → Option Note → List ℕ
+note_json p None = []
+note_json p (Some note) = key (codes "note") ++ (codes "{\"message\":" ++ (quoted note.sentence.now ++ (span_json p note.span ++ codes "}")))
 
--- a fault of a file
-unfoldable pub fault_json : Placed → (file word : List ℕ) → Error → List ℕ
-fault_json p file word e =
+-- a fault of a file, with the other place that it speaks of
+unfoldable pub fault_json : Placed → (file word : List ℕ) → Error → Option Note → List ℕ
+fault_json p file word e note =
     codes "{\"file\":" ++ (quoted file ++ (string (codes "severity") word ++ (string (codes "kind") (name_of (kind_of e.kind))
-    ++ (string (codes "message") (message_of e.kind) ++ (span_json p e.span ++ (remark_json p (remark_of e.kind) ++ codes "}\n"))))))
+    ++ (string (codes "message") (message_of e.kind) ++ (span_json p e.span ++ (note_json p note ++ codes "}\n"))))))

@@ -1,4 +1,4 @@
--- What is said of a fault, and of the other place that it speaks of.
+-- What is said of a fault.
 use Rattle.std.specs.Prelude.{ℕ, List, ◌++◌, codes}
 use Rattle.swc_ecma_parser_error.specs.declared.kind.SyntaxError.{SyntaxError}
 use Rattle.swc_ecma_parser_error.specs.declared.kind.SyntaxError.TheVariants as kinds

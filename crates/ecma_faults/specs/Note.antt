@@ -1,19 +1,17 @@
 -- The other place that a fault speaks of.
-use Rattle.std.specs.Prelude.{ℕ, List, codes, Option, Some, None}
+use Rattle.std.specs.Prelude.{◌≡◌, ℕ, List, codes, Option, Some, None, IfSome, IsSome}
 use Rattle.swc_ecma_parser_common.specs.declared.span.Span.{Span}
 use Rattle.swc_ecma_parser_error.specs.declared.kind.SyntaxError.{SyntaxError}
 use Rattle.swc_ecma_parser_error.specs.declared.kind.SyntaxError.TheVariants as kinds
+use Rattle.ecma_faults.specs.declared.note.Note.{Note}
 
--- a place, and a sentence on it
-pub record Remark : Type 0 where
-  pub span : Span
-  pub sentence : List ℕ
+-- a note with the place and the sentence
+abbrev pub Says : Option Note → Span → List ℕ → Type 0
+Says note span sentence = IsSome note × IfSome note (λ it. (it.span ≡ span) × (it.sentence.now ≡ sentence))
 
-abbrev remark : Span → List ℕ → Option Remark
-remark span sentence = Some (record { span = span; sentence = sentence })
-
-abbrev pub remark_of : SyntaxError → Option Remark
-remark_of (kinds.MultipleDefault previous) = remark previous (codes "the first `default` stands here")
-remark_of (kinds.ExpectedSemiForExprStmt expr) = remark expr (codes "the expression stands here")
-remark_of (kinds.WithLabel' l n) = remark n.span n.note
-remark_of k = None
+-- The note on a kind of fault. Of one in a condition this tells the sentence, and not where the condition stands.
+abbrev pub IsNote : SyntaxError → Option Note → Type 0
+IsNote (kinds.MultipleDefault previous) note = Says note previous (codes "the first `default` stands here")
+IsNote (kinds.ExpectedSemiForExprStmt expr) note = Says note expr (codes "the expression stands here")
+IsNote (kinds.WithLabel' l n) note = IsSome note × IfSome note (λ it. it.sentence.now ≡ codes "it stands in the condition of this `if`")
+IsNote k note = note ≡ None

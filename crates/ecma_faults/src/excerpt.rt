@@ -53,7 +53,10 @@ fn columns_of(room: usize, text: &str) -> usize
     let mut left = room;
     let mut sum: usize = 0;
     for c in text.chars() {
-        if ends_line(c) || left < room_taken(c) {
+        if ends_line(c) {
+            return sum;
+        }
+        if left < room_taken(c) {
             return sum;
         }
         left -= room_taken(c);

@@ -2,17 +2,17 @@
 
 ghost use Rattle.std.specs.Prelude.{◌≡◌, ◌++◌, ◌<◌, ◌^◌, OnOk, length};
 ghost use Rattle.ecma_faults.specs.Json as json;
-ghost use Rattle.ecma_faults.specs.Json.{fault_json, key, offsets_json, place_json, remark_json, span_json, spot_json};
-ghost use Rattle.ecma_faults.specs.Note.{remark_of};
+ghost use Rattle.ecma_faults.specs.Json.{fault_json, key, note_json, offsets_json, place_json, span_json, spot_json};
 
 use crate::messages::message;
-use crate::note::note_of;
+use crate::note::Note;
 use ecma_estree_text::{Places, Spot, push_count, push_quoted};
 use std::alloc::AllocError;
 use swc_ecma_parser_common::Span;
-use swc_ecma_parser_error::{Error, SyntaxError};
+use swc_ecma_parser_error::Error;
 
 /// Writes how a further field begins.
+#[tactic(auto, unfolding(crate::specs::Json::key))]
 fn push_key(out: &mut Vec<u8>, name: &str) -> Result<(), AllocError>
     ensures { OnOk result (out.new.items ≡ out.old.items ++ key name.now) }
 {
@@ -22,6 +22,7 @@ fn push_key(out: &mut Vec<u8>, name: &str) -> Result<(), AllocError>
 }
 
 /// Writes a field that is a number.
+#[tactic(auto, unfolding(crate::specs::Json::number))]
 fn push_number(out: &mut Vec<u8>, name: &str, value: u64) -> Result<(), AllocError>
     ensures { OnOk result (out.new.items ≡ out.old.items ++ json.number name.now value) }
 {
@@ -30,6 +31,7 @@ fn push_number(out: &mut Vec<u8>, name: &str, value: u64) -> Result<(), AllocErr
 }
 
 /// Writes a field that is a text.
+#[tactic(auto, unfolding(crate::specs::Json::string))]
 fn push_string(out: &mut Vec<u8>, name: &str, value: &str) -> Result<(), AllocError>
     ensures { OnOk result (out.new.items ≡ out.old.items ++ json.string name.now value.now) }
 {
@@ -89,15 +91,11 @@ fn push_span(out: &mut Vec<u8>, places: &Places<'_>, span: Span) -> Result<(), A
 }
 
 /// Writes another place that a fault speaks of.
-fn push_note(
-    out: &mut Vec<u8>,
-    places: &Places<'_>,
-    kind: &SyntaxError,
-) -> Result<(), AllocError>
+fn push_note(out: &mut Vec<u8>, places: &Places<'_>, note: Option<Note>) -> Result<(), AllocError>
     requires { length places.now.text < 2 ^ 32 }
-    ensures { OnOk result (out.new.items ≡ out.old.items ++ remark_json places.now (remark_of kind.now)) }
+    ensures { OnOk result (out.new.items ≡ out.old.items ++ note_json places.now note) }
 {
-    let Some(note) = note_of(kind) else {
+    let Some(note) = note else {
         return Ok(());
     };
     push_key(out, "note")?;
@@ -107,7 +105,8 @@ fn push_note(
     out.extend_from_slice(b"}")
 }
 
-/// Writes a fault of a file as an object in a line of its own: `severity` is the word.
+/// Writes a fault of a file as an object in a line of its own: `severity` is the word, and `note` another place that it speaks of, which
+/// `note_of` tells.
 #[tactic(auto, unfolding(crate::specs::Json::fault_json))]
 pub fn push_fault(
     out: &mut Vec<u8>,
@@ -115,9 +114,10 @@ pub fn push_fault(
     places: &Places<'_>,
     word: &str,
     error: &Error,
+    note: Option<Note>,
 ) -> Result<(), AllocError>
     requires { length places.now.text < 2 ^ 32 }
-    ensures { OnOk result (out.new.items ≡ out.old.items ++ fault_json places.now file.now word.now error.now) }
+    ensures { OnOk result (out.new.items ≡ out.old.items ++ fault_json places.now file.now word.now error.now note) }
 {
     let said = message(*out.allocator(), &error.kind)?;
     out.extend_from_slice(b"{\"file\":")?;
@@ -126,6 +126,6 @@ pub fn push_fault(
     push_string(out, "kind", error.kind.name())?;
     push_string(out, "message", said.as_str())?;
     push_span(out, places, error.span)?;
-    push_note(out, places, &error.kind)?;
+    push_note(out, places, note)?;
     out.extend_from_slice(b"}\n")
 }

@@ -14,4 +14,5 @@ pub use json::push_fault as push_json;
 pub use messages::message;
 pub use note::{Note, note_of};
 pub use sentences::sentence;
+pub use shown::push_name;
 pub use text::push_fault as push_text;

@@ -19,6 +19,7 @@ fn joined(alloc: Global, first: &str, second: &str, third: &str) -> Result<Strin
 }
 
 /// The sentence of a fault's kind, and what is wanted where the fault holds that. It fails only where memory runs out.
+#[tactic(auto, using(crate::proofs::Said::message_other))]
 pub fn message(alloc: Global, kind: &SyntaxError) -> Result<String, AllocError>
     ensures { IfOk result (λ text. string_bytes text ≡ message_of kind.now) }
 {
@@ -35,6 +36,9 @@ pub fn message(alloc: Global, kind: &SyntaxError) -> Result<String, AllocError>
             texts.get().wanted.as_str(),
             " (ECMA-262, Annex A)",
         ),
-        other => joined(alloc, sentence(other), "", ""),
+        _ => {
+            let text = String::from_str(alloc, sentence(kind))?;
+            Ok(text)
+        }
     }
 }

@@ -2,13 +2,13 @@
 
 ghost use Rattle.std.specs.Prelude.{◌≡◌, ◌++◌, ◌≤◌, OnOk, replicate};
 ghost use Rattle.ecma_faults.specs.Shown as show;
-ghost use Rattle.ecma_faults.specs.Shown.{blank, blank_text, columns, is_turn, shown_bytes, shown_text};
+ghost use Rattle.ecma_faults.specs.Shown.{blank, blank_text, columns, is_turn, name_text, shown_bytes, shown_text};
 
 use std::alloc::AllocError;
 use unicode_width::UnicodeWidthChar;
 
 /// What stands for a character that a terminal might take for an order: Unicode's replacement character.
-pub(crate) const MARK: char = '\u{fffd}';
+const MARK: char = '\u{fffd}';
 
 /// Whether a character ends lines or turns the direction of a text.
 fn turns(c: char) -> bool
@@ -61,6 +61,13 @@ pub(crate) fn push_shown(out: &mut Vec<u8>, tab: char, text: &str) -> Result<(),
         push_char(out, tab, c)?;
     }
     Ok(())
+}
+
+/// Writes a name as it is shown, with a mark for each tab too.
+pub fn push_name(out: &mut Vec<u8>, text: &str) -> Result<(), AllocError>
+    ensures { OnOk result (out.new.items ≡ out.old.items ++ name_text text.now) }
+{
+    push_shown(out, MARK, text)
 }
 
 /// Writes so many times a byte.

@@ -2,13 +2,12 @@
 
 ghost use Rattle.std.specs.Prelude.{◌≡◌, ◌++◌, ◌<◌, ◌^◌, IfOk, OnOk, length, codes};
 ghost use Rattle.swc_ecma_parser_error.specs.Kind.{kind_of, name_of};
-ghost use Rattle.ecma_faults.specs.Text.{fault_text, place_text, remark_text, spot_text, told_text};
-ghost use Rattle.ecma_faults.specs.Note.{remark_of};
+ghost use Rattle.ecma_faults.specs.Text.{fault_text, note_text, place_text, spot_text, told_text};
 
 use crate::excerpt::push_excerpt;
 use crate::messages::message;
-use crate::note::note_of;
-use crate::shown::{MARK, push_shown};
+use crate::note::Note;
+use crate::shown::push_name;
 use ecma_estree_text::{Places, Spot, push_count};
 use std::alloc::AllocError;
 use swc_ecma_parser_common::Span;
@@ -19,7 +18,7 @@ fn push_spot(out: &mut Vec<u8>, file: &str, spot: Spot) -> Result<(), AllocError
     requires { spot.column < 2 ^ 34 }
     ensures { OnOk result (out.new.items ≡ out.old.items ++ spot_text file.now spot) }
 {
-    push_shown(out, MARK, file)?;
+    push_name(out, file)?;
     out.extend_from_slice(b":")?;
     push_count(out, spot.line)?;
     out.extend_from_slice(b":")?;
@@ -55,7 +54,7 @@ fn push_told(
     push_place(out, file, places, span.lo.0 as usize)?;
     out.extend_from_slice(word)?;
     out.extend_from_slice(b": ")?;
-    push_shown(out, MARK, sentence)?;
+    push_name(out, sentence)?;
     out.extend_from_slice(b"\n")?;
     push_excerpt(out, places, span.lo.0 as usize, span.hi.0 as usize)
 }
@@ -77,19 +76,19 @@ fn push_note(
     out: &mut Vec<u8>,
     file: &str,
     places: &Places<'_>,
-    kind: &SyntaxError,
+    note: Option<Note>,
 ) -> Result<(), AllocError>
     requires { length places.now.text < 2 ^ 32 }
-    ensures { OnOk result (out.new.items ≡ out.old.items ++ remark_text places.now file.now (remark_of kind.now)) }
+    ensures { OnOk result (out.new.items ≡ out.old.items ++ note_text places.now file.now note) }
 {
-    match note_of(kind) {
+    match note {
         Some(note) => push_told(out, file, places, note.span, b"note", note.sentence),
         None => Ok(()),
     }
 }
 
 /// Writes a fault of a file: `FILE:LINE:COLUMN: WORD [KIND]: sentence`, the line of the text, and carets; and the same of another place that
-/// it speaks of.
+/// it speaks of, which `note_of` tells.
 #[tactic(auto, unfolding(crate::specs::Text::fault_text))]
 pub fn push_fault(
     out: &mut Vec<u8>,
@@ -97,9 +96,10 @@ pub fn push_fault(
     places: &Places<'_>,
     word: &str,
     error: &Error,
+    note: Option<Note>,
 ) -> Result<(), AllocError>
     requires { length places.now.text < 2 ^ 32 }
-    ensures { OnOk result (out.new.items ≡ out.old.items ++ fault_text places.now file.now word.now error.now) }
+    ensures { OnOk result (out.new.items ≡ out.old.items ++ fault_text places.now file.now word.now error.now note) }
 {
     let head = head(out, word, &error.kind)?;
     let said = message(*out.allocator(), &error.kind)?;
@@ -111,5 +111,5 @@ pub fn push_fault(
         head.as_slice(),
         said.as_str(),
     )?;
-    push_note(out, file, places, &error.kind)
+    push_note(out, file, places, note)
 }
