@@ -1,5 +1,7 @@
 //! One file: what it comes to.
 
+ghost use Rattle.std.specs.Prelude.{◌<◌, ◌^◌, length};
+
 use crate::command::{Format, Options};
 use crate::fault::Fault;
 use crate::tree::{Tree, lexer_of, parse, write};
@@ -40,7 +42,9 @@ fn push_fault(
     places: &Places<'_>,
     word: &str,
     error: &Error,
-) -> Result<(), AllocError> {
+) -> Result<(), AllocError>
+    requires { length places.now.text < 2 ^ 32 }
+{
     let note = note_of(&error.kind);
     match format {
         Format::Json => push_json(out, file, places, word, error, note),
@@ -56,7 +60,9 @@ fn told(
     text: &str,
     faults: &[Error],
     refusal: Option<&Error>,
-) -> Result<Vec<u8>, AllocError> {
+) -> Result<Vec<u8>, AllocError>
+    requires { length text.now < 2 ^ 32 }
+{
     let mut out = Vec::new(alloc);
     if faults.is_empty() && refusal.is_none() {
         return Ok(out);
@@ -83,7 +89,9 @@ fn with_tree(
     text: &str,
     tree: Tree,
     faults: &[Error],
-) -> Result<Checked, AllocError> {
+) -> Result<Checked, AllocError>
+    requires { length text.now < 2 ^ 32 }
+{
     let outcome = if faults.is_empty() {
         Outcome::Clean
     } else {
@@ -119,7 +127,9 @@ fn without_tree(
     text: &str,
     error: &Error,
     faults: &[Error],
-) -> Result<Checked, AllocError> {
+) -> Result<Checked, AllocError>
+    requires { length text.now < 2 ^ 32 }
+{
     let told = told(alloc, options.format, file, text, faults, Some(error))?;
     let (out, notes) = if options.format == Format::Estree {
         (Vec::new(alloc), told)

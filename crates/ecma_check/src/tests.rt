@@ -144,6 +144,36 @@ fn what_fails(rt: HostRuntime) -> Result<(), Fail> {
 }
 
 #[test]
+fn a_line_that_is_cut(rt: HostRuntime) -> Result<(), Fail> {
+    let rows = [
+        (
+            "                                                            break;                                                            ",
+            "-:1:61: fault [TS1105]: `break` stands in a loop or in `switch`, or names a label around it (ECMA-262, 14.9.1)\n...                                        break;                            ...\n                                           ^^^^^^\nfiles: 1, faults: 1, refused: 0, unread: 0\n||1",
+        ),
+        (
+            "a\u{2028}break;",
+            "-:2:1: fault [TS1105]: `break` stands in a loop or in `switch`, or names a label around it (ECMA-262, 14.9.1)\nbreak;\n^^^^^^\nfiles: 1, faults: 1, refused: 0, unread: 0\n||1",
+        ),
+        (
+            "'\u{4e00}'; break;",
+            "-:1:6: fault [TS1105]: `break` stands in a loop or in `switch`, or names a label around it (ECMA-262, 14.9.1)\n'\u{4e00}'; break;\n      ^^^^^^\nfiles: 1, faults: 1, refused: 0, unread: 0\n||1",
+        ),
+    ];
+    for (text, wanted) in rows {
+        let found = printed(&rt, &["--script"], text.as_bytes(), false, 1000)?;
+        assert_eq!(rt; found.as_str(), wanted, "{text:?}");
+    }
+    Ok(())
+}
+
+#[test]
+fn the_other_files_go_on(rt: HostRuntime) -> Result<(), Fail> {
+    let found = printed(&rt, &["nosuch", "-"], b"break", false, 1000)?;
+    assert_eq!(rt; found.as_str(), "-:1:1: fault [TS1105]: `break` stands in a loop or in `switch`, or names a label around it (ECMA-262, 14.9.1)\nbreak\n^^^^^\nfiles: 2, faults: 1, refused: 0, unread: 1\n|nosuch: cannot read it\n|3");
+    Ok(())
+}
+
+#[test]
 fn what_is_enabled(rt: HostRuntime) -> Result<(), Fail> {
     let found = printed(
         &rt,

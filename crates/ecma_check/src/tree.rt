@@ -1,5 +1,7 @@
 //! A file as ESTree.
 
+ghost use Rattle.std.specs.Prelude.{◌<◌, ◌^◌, length};
+
 use crate::command::{Goal, Options};
 use ecma_estree::{write_module, write_program, write_script};
 use ecma_estree_lists::{push_comments, push_tokens};
@@ -86,7 +88,9 @@ pub fn write(
     options: Options,
     text: &str,
     tree: &Tree,
-) -> Result<Vec<u8>, AllocError> {
+) -> Result<Vec<u8>, AllocError>
+    requires { length text.now < 2 ^ 32 }
+{
     let places = Places::new(alloc, text, options.extras)?;
     let fields = fields_of(alloc, options, &places)?;
     match tree {

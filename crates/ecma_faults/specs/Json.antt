@@ -39,9 +39,13 @@ span_json p span =
     offsets_json p span.lo.0 span.hi.0
     ++ (place_json p (codes "line") (codes "column") span.lo.0 ++ place_json p (codes "endLine") (codes "endColumn") span.hi.0)
 
+-- the message that an object begins with
+unfoldable pub opening : List ℕ → List ℕ
+opening sentence = codes "{\"message\":" ++ quoted sentence
+
 abbrev pub note_json : Placed → Option Note → List ℕ
 note_json p None = []
-note_json p (Some note) = key (codes "note") ++ (codes "{\"message\":" ++ (quoted note.sentence.now ++ (span_json p note.span ++ codes "}")))
+note_json p (Some note) = key (codes "note") ++ (opening note.sentence.now ++ (span_json p note.span ++ codes "}"))
 
 -- a fault of a file, with the other place that it speaks of
 unfoldable pub fault_json : Placed → (file word : List ℕ) → Error → Option Note → List ℕ

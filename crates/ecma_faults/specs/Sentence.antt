@@ -69,7 +69,7 @@ sentence_of LineBreakBeforeArrow = codes "`=>` stands on the line of its paramet
 sentence_of InvalidSuper = codes "`super` stands before `(`, `.` and `[` in methods and constructors (ECMA-262, 13.3.7)"
 sentence_of WithLabel = codes "what stands in the condition of an `if` cannot stand here (ECMA-262, 14.6)"
 sentence_of OutOfMemory = codes "memory ran out"
-sentence_of TooDeep = codes "this nests deeper than the limit; a higher one is set by --limit"
+sentence_of TooDeep = codes "this nests deeper than the limit, which --limit sets to at most 1000 levels"
 sentence_of UnexpectedChar = codes "no token begins with this character (ECMA-262, 12)"
 sentence_of UnterminatedStrLit = codes "this string does not end on its line; a quote is wanted (ECMA-262, 12.9.4)"
 sentence_of UnterminatedBlockComment = codes "this comment does not end; `*/` is wanted (ECMA-262, 12.4)"

@@ -2,7 +2,7 @@
 
 ghost use Rattle.std.specs.Prelude.{◌≡◌, ◌++◌, ◌<◌, ◌^◌, OnOk, length};
 ghost use Rattle.ecma_faults.specs.Json as json;
-ghost use Rattle.ecma_faults.specs.Json.{fault_json, key, note_json, offsets_json, place_json, span_json, spot_json};
+ghost use Rattle.ecma_faults.specs.Json.{fault_json, key, note_json, offsets_json, opening, place_json, span_json, spot_json};
 
 use crate::messages::message;
 use crate::note::Note;
@@ -90,6 +90,15 @@ fn push_span(out: &mut Vec<u8>, places: &Places<'_>, span: Span) -> Result<(), A
     push_place(out, places, "endLine", "endColumn", high)
 }
 
+/// Writes how an object begins with a message.
+#[tactic(auto, unfolding(crate::specs::Json::opening))]
+fn push_opening(out: &mut Vec<u8>, message: &str) -> Result<(), AllocError>
+    ensures { OnOk result (out.new.items ≡ out.old.items ++ opening message.now) }
+{
+    out.extend_from_slice(b"{\"message\":")?;
+    push_quoted(out, message)
+}
+
 /// Writes another place that a fault speaks of.
 fn push_note(out: &mut Vec<u8>, places: &Places<'_>, note: Option<Note>) -> Result<(), AllocError>
     requires { length places.now.text < 2 ^ 32 }
@@ -99,8 +108,7 @@ fn push_note(out: &mut Vec<u8>, places: &Places<'_>, note: Option<Note>) -> Resu
         return Ok(());
     };
     push_key(out, "note")?;
-    out.extend_from_slice(b"{\"message\":")?;
-    push_quoted(out, note.sentence)?;
+    push_opening(out, note.sentence)?;
     push_span(out, places, note.span)?;
     out.extend_from_slice(b"}")
 }

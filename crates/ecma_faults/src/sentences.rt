@@ -85,7 +85,7 @@ macro_rules! sentence {
             InvalidSuper: "`super` stands before `(`, `.` and `[` in methods and constructors (ECMA-262, 13.3.7)",
             WithLabel: "what stands in the condition of an `if` cannot stand here (ECMA-262, 14.6)",
             OutOfMemory: "memory ran out",
-            TooDeep: "this nests deeper than the limit; a higher one is set by --limit",
+            TooDeep: "this nests deeper than the limit, which --limit sets to at most 1000 levels",
             UnexpectedChar: "no token begins with this character (ECMA-262, 12)",
             UnterminatedStrLit: "this string does not end on its line; a quote is wanted (ECMA-262, 12.9.4)",
             UnterminatedBlockComment: "this comment does not end; `*/` is wanted (ECMA-262, 12.4)",
