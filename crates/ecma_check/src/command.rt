@@ -120,9 +120,14 @@ fn with_extras(alloc: Global, command: Command<'static>) -> Result<Command<'stat
 
 /// The command.
 pub fn command(alloc: Global) -> Result<Command<'static>, AllocError> {
-    let command = Command::new(alloc, "ecma-check").about("Tells the faults of JavaScript files, or writes their trees");
+    let command = Command::new(alloc, "ecma-check").about(
+        "Tells the faults of JavaScript files, or writes their trees",
+    );
     let command = with_goals(alloc, command)?;
-    let command = command.arg(limit(alloc))?.arg(enable(alloc))?.arg(format(alloc))?;
+    let command = command
+        .arg(limit(alloc))?
+        .arg(enable(alloc))?
+        .arg(format(alloc))?;
     with_extras(alloc, command)?.arg(files(alloc))
 }
 

@@ -121,7 +121,10 @@ fn write_sum<W: Write>(output: &mut W, sum: Sum) -> io::Result<()> {
         unread,
         ..
     } = sum;
-    writeln!(output, "files: {files}, faults: {faults}, refused: {refused}, unread: {unread}")
+    writeln!(
+        output,
+        "files: {files}, faults: {faults}, refused: {refused}, unread: {unread}"
+    )
 }
 
 /// Reads each file, prints what it comes to, and answers the highest status.

@@ -98,7 +98,10 @@ fn faults_as_text(rt: HostRuntime) -> Result<(), Fail> {
 #[test]
 fn an_earlier_place(rt: HostRuntime) -> Result<(), Fail> {
     let found = printed(&rt, &[], b"\ta b", false, 1000)?;
-    assert_eq!(rt; found.as_str(), "-:1:4: refused [ExpectedSemiForExprStmt]: the expression before this ends its statement; a `;` or a line break is wanted (ECMA-262, 12.10)\n\ta b\n\t  ^\n-:1:2: note: the expression stands here\n\ta b\n\t^\nfiles: 1, faults: 1, refused: 1, unread: 0\n||2");
+    assert_eq!(rt;
+        found.as_str(),
+        "-:1:4: refused [ExpectedSemiForExprStmt]: the expression before this ends its statement; a `;` or a line break is wanted (ECMA-262, 12.10)\n\ta b\n\t  ^\n-:1:2: note: the expression stands here\n\ta b\n\t^\nfiles: 1, faults: 1, refused: 1, unread: 0\n||2"
+    );
     Ok(())
 }
 
@@ -111,7 +114,10 @@ fn faults_as_json(rt: HostRuntime) -> Result<(), Fail> {
         false,
         1000,
     )?;
-    assert_eq!(rt; found.as_str(), "{\"file\":\"-\",\"severity\":\"fault\",\"kind\":\"ReturnNotAllowed\",\"message\":\"`return` stands only in the body of a function (ECMA-262, 14.10)\",\"byteStart\":8,\"byteEnd\":14,\"start\":6,\"end\":12,\"line\":1,\"column\":7,\"endLine\":1,\"endColumn\":13}\n||1");
+    assert_eq!(rt;
+        found.as_str(),
+        "{\"file\":\"-\",\"severity\":\"fault\",\"kind\":\"ReturnNotAllowed\",\"message\":\"`return` stands only in the body of a function (ECMA-262, 14.10)\",\"byteStart\":8,\"byteEnd\":14,\"start\":6,\"end\":12,\"line\":1,\"column\":7,\"endLine\":1,\"endColumn\":13}\n||1"
+    );
     Ok(())
 }
 
@@ -124,22 +130,37 @@ fn a_tree_with_all_its_extras(rt: HostRuntime) -> Result<(), Fail> {
         false,
         1000,
     )?;
-    assert_eq!(rt; found.as_str(), "{\"type\":\"Program\",\"start\":0,\"end\":3,\"range\":[0,3],\"body\":[{\"type\":\"ExpressionStatement\",\"start\":0,\"end\":1,\"range\":[0,1],\"expression\":{\"type\":\"Identifier\",\"start\":0,\"end\":1,\"range\":[0,1],\"name\":\"a\"}}],\"sourceType\":\"script\",\"comments\":[{\"type\":\"Line\",\"value\":\"\",\"start\":1,\"end\":3,\"range\":[1,3]}],\"tokens\":[{\"type\":\"Identifier\",\"value\":\"a\",\"start\":0,\"end\":1,\"range\":[0,1]}]}\n||0");
+    assert_eq!(rt;
+        found.as_str(),
+        "{\"type\":\"Program\",\"start\":0,\"end\":3,\"range\":[0,3],\"body\":[{\"type\":\"ExpressionStatement\",\"start\":0,\"end\":1,\"range\":[0,1],\"expression\":{\"type\":\"Identifier\",\"start\":0,\"end\":1,\"range\":[0,1],\"name\":\"a\"}}],\"sourceType\":\"script\",\"comments\":[{\"type\":\"Line\",\"value\":\"\",\"start\":1,\"end\":3,\"range\":[1,3]}],\"tokens\":[{\"type\":\"Identifier\",\"value\":\"a\",\"start\":0,\"end\":1,\"range\":[0,1]}]}\n||0"
+    );
     Ok(())
 }
 
 #[test]
 fn what_fails(rt: HostRuntime) -> Result<(), Fail> {
     let found = printed(&rt, &[], b"a", true, 1000)?;
-    assert_eq!(rt; found.as_str(), "files: 1, faults: 0, refused: 0, unread: 1\n|-: cannot read it\n|3");
+    assert_eq!(rt;
+        found.as_str(),
+        "files: 1, faults: 0, refused: 0, unread: 1\n|-: cannot read it\n|3"
+    );
     let found = printed(&rt, &[], b"\xff", false, 1000)?;
-    assert_eq!(rt; found.as_str(), "files: 1, faults: 0, refused: 0, unread: 1\n|-: it is not UTF-8\n|3");
+    assert_eq!(rt;
+        found.as_str(),
+        "files: 1, faults: 0, refused: 0, unread: 1\n|-: it is not UTF-8\n|3"
+    );
     let found = printed(&rt, &["--format", "json"], b"break", false, 4)?;
     assert_eq!(rt; found.as_str(), "{\"fi|-: cannot write standard output\n|3");
     let found = printed(&rt, &["nosuch\u{1b}file"], b"", false, 1000)?;
-    assert_eq!(rt; found.as_str(), "files: 1, faults: 0, refused: 0, unread: 1\n|nosuch\u{fffd}file: cannot read it\n|3");
+    assert_eq!(rt;
+        found.as_str(),
+        "files: 1, faults: 0, refused: 0, unread: 1\n|nosuch\u{fffd}file: cannot read it\n|3"
+    );
     let found = printed(&rt, &["--format", "estree", "a", "b"], b"", false, 1000)?;
-    assert_eq!(rt; found.as_str(), "|ecma-check: a tree is written of one file\n|3");
+    assert_eq!(rt;
+        found.as_str(),
+        "|ecma-check: a tree is written of one file\n|3"
+    );
     Ok(())
 }
 
@@ -169,7 +190,10 @@ fn a_line_that_is_cut(rt: HostRuntime) -> Result<(), Fail> {
 #[test]
 fn the_other_files_go_on(rt: HostRuntime) -> Result<(), Fail> {
     let found = printed(&rt, &["nosuch", "-"], b"break", false, 1000)?;
-    assert_eq!(rt; found.as_str(), "-:1:1: fault [TS1105]: `break` stands in a loop or in `switch`, or names a label around it (ECMA-262, 14.9.1)\nbreak\n^^^^^\nfiles: 2, faults: 1, refused: 0, unread: 1\n|nosuch: cannot read it\n|3");
+    assert_eq!(rt;
+        found.as_str(),
+        "-:1:1: fault [TS1105]: `break` stands in a loop or in `switch`, or names a label around it (ECMA-262, 14.9.1)\nbreak\n^^^^^\nfiles: 2, faults: 1, refused: 0, unread: 1\n|nosuch: cannot read it\n|3"
+    );
     Ok(())
 }
 
