@@ -39,16 +39,20 @@ span_json p span =
     offsets_json p span.lo.0 span.hi.0
     ++ (place_json p (codes "line") (codes "column") span.lo.0 ++ place_json p (codes "endLine") (codes "endColumn") span.hi.0)
 
--- the message that an object begins with
-unfoldable pub opening : List ℕ → List ℕ
-opening sentence = codes "{\"message\":" ++ quoted sentence
+-- how an object begins with a text
+unfoldable pub first : List ℕ → List ℕ → List ℕ
+first name text = 123 ∷ (quoted name ++ (58 ∷ quoted text))
 
 abbrev pub note_json : Placed → Option Note → List ℕ
 note_json p None = []
-note_json p (Some note) = key (codes "note") ++ (opening note.sentence.now ++ (span_json p note.span ++ codes "}"))
+note_json p (Some note) = key (codes "note") ++ (first (codes "message") note.sentence.now ++ (span_json p note.span ++ codes "}"))
+
+-- what a fault says
+unfoldable pub head_json : (file word : List ℕ) → Error → List ℕ
+head_json file word e =
+    first (codes "file") file ++ (string (codes "severity") word
+    ++ (string (codes "kind") (name_of (kind_of e.kind)) ++ string (codes "message") (message_of e.kind)))
 
 -- a fault of a file, with the other place that it speaks of
 unfoldable pub fault_json : Placed → (file word : List ℕ) → Error → Option Note → List ℕ
-fault_json p file word e note =
-    codes "{\"file\":" ++ (quoted file ++ (string (codes "severity") word ++ (string (codes "kind") (name_of (kind_of e.kind))
-    ++ (string (codes "message") (message_of e.kind) ++ (span_json p e.span ++ (note_json p note ++ codes "}\n"))))))
+fault_json p file word e note = head_json file word e ++ (span_json p e.span ++ (note_json p note ++ codes "}\n"))

@@ -2,7 +2,7 @@
 
 ghost use Rattle.std.specs.Prelude.{◌≡◌, ◌++◌, ◌<◌, ◌^◌, OnOk, length};
 ghost use Rattle.ecma_faults.specs.Json as json;
-ghost use Rattle.ecma_faults.specs.Json.{fault_json, key, note_json, offsets_json, opening, place_json, span_json, spot_json};
+ghost use Rattle.ecma_faults.specs.Json.{fault_json, first, head_json, key, note_json, offsets_json, place_json, span_json, spot_json};
 
 use crate::messages::message;
 use crate::note::Note;
@@ -68,7 +68,12 @@ fn push_place(
 
 /// Writes two offsets of a place in bytes, and the same in code units of UTF-16.
 #[tactic(auto, unfolding(crate::specs::Json::offsets_json))]
-fn push_offsets(out: &mut Vec<u8>, places: &Places<'_>, low: usize, high: usize) -> Result<(), AllocError>
+fn push_offsets(
+    out: &mut Vec<u8>,
+    places: &Places<'_>,
+    low: usize,
+    high: usize,
+) -> Result<(), AllocError>
     ensures { OnOk result (out.new.items ≡ out.old.items ++ offsets_json places.now low high) }
 {
     push_number(out, "byteStart", low as u64)?;
@@ -90,13 +95,15 @@ fn push_span(out: &mut Vec<u8>, places: &Places<'_>, span: Span) -> Result<(), A
     push_place(out, places, "endLine", "endColumn", high)
 }
 
-/// Writes how an object begins with a message.
-#[tactic(auto, unfolding(crate::specs::Json::opening))]
-fn push_opening(out: &mut Vec<u8>, message: &str) -> Result<(), AllocError>
-    ensures { OnOk result (out.new.items ≡ out.old.items ++ opening message.now) }
+/// Writes how an object begins with a text.
+#[tactic(auto, unfolding(crate::specs::Json::first))]
+fn push_first(out: &mut Vec<u8>, name: &str, text: &str) -> Result<(), AllocError>
+    ensures { OnOk result (out.new.items ≡ out.old.items ++ first name.now text.now) }
 {
-    out.extend_from_slice(b"{\"message\":")?;
-    push_quoted(out, message)
+    out.push(b'{')?;
+    push_quoted(out, name)?;
+    out.push(b':')?;
+    push_quoted(out, text)
 }
 
 /// Writes another place that a fault speaks of.
@@ -108,9 +115,26 @@ fn push_note(out: &mut Vec<u8>, places: &Places<'_>, note: Option<Note>) -> Resu
         return Ok(());
     };
     push_key(out, "note")?;
-    push_opening(out, note.sentence)?;
+    push_first(out, "message", note.sentence)?;
     push_span(out, places, note.span)?;
     out.extend_from_slice(b"}")
+}
+
+/// Writes what a fault says.
+#[tactic(auto, unfolding(crate::specs::Json::head_json))]
+fn push_head(
+    out: &mut Vec<u8>,
+    file: &str,
+    word: &str,
+    error: &Error,
+) -> Result<(), AllocError>
+    ensures { OnOk result (out.new.items ≡ out.old.items ++ head_json file.now word.now error.now) }
+{
+    let said = message(*out.allocator(), &error.kind)?;
+    push_first(out, "file", file)?;
+    push_string(out, "severity", word)?;
+    push_string(out, "kind", error.kind.name())?;
+    push_string(out, "message", said.as_str())
 }
 
 /// Writes a fault of a file as an object in a line of its own: `severity` is the word, and `note` another place that it speaks of, which
@@ -127,12 +151,7 @@ pub fn push_fault(
     requires { length places.now.text < 2 ^ 32 }
     ensures { OnOk result (out.new.items ≡ out.old.items ++ fault_json places.now file.now word.now error.now note) }
 {
-    let said = message(*out.allocator(), &error.kind)?;
-    out.extend_from_slice(b"{\"file\":")?;
-    push_quoted(out, file)?;
-    push_string(out, "severity", word)?;
-    push_string(out, "kind", error.kind.name())?;
-    push_string(out, "message", said.as_str())?;
+    push_head(out, file, word, error)?;
     push_span(out, places, error.span)?;
     push_note(out, places, note)?;
     out.extend_from_slice(b"}\n")

@@ -28,7 +28,12 @@ fn push_spot(out: &mut Vec<u8>, file: &str, spot: Spot) -> Result<(), AllocError
 
 /// Writes a place, if lines are known.
 #[tactic(auto, using(crate::proofs::Columns::column_bound))]
-fn push_place(out: &mut Vec<u8>, file: &str, places: &Places<'_>, position: usize) -> Result<(), AllocError>
+fn push_place(
+    out: &mut Vec<u8>,
+    file: &str,
+    places: &Places<'_>,
+    position: usize,
+) -> Result<(), AllocError>
     requires { length places.now.text < 2 ^ 32 }
     ensures { OnOk result (out.new.items ≡ out.old.items ++ place_text places.now file.now position) }
 {
