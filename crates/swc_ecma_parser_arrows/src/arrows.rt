@@ -306,7 +306,7 @@ pub fn async_named_arrow<
     p.skip()?;
     let param = only_parameter(g, t, p)?;
     if !p.sees(TokenKind::Arrow) {
-        return Err(p.wanted(Wanted::Expression));
+        return Err(p.refuse(Wanted::Token("=>")));
     }
     arrow_of_one(g, t, p, true, start, param)
 }

@@ -241,6 +241,11 @@ pub trait Cursor {
         ensures { kind_of result.kind ≢ kinds.OutOfMemory
             → reader.refuse {A = Tree} (kind_of kind) (seen self.old) ≡ Err (fault_of result, seen self.new) };
 
+    /// Refuses what stands here in the place of a fixed token; an error token that stands here is read and recorded.
+    fn refuse(&mut self, wanted: Wanted) -> Error
+        ensures { kind_of result.kind ≢ kinds.OutOfMemory
+            → reader.refuse {A = Tree} (wanted_kind wanted) (seen self.old) ≡ Err (fault_of result, seen self.new) };
+
     /// Refuses what would stand deeper than the limit, and marks it.
     fn too_deep(&mut self) -> Error
         ensures { kind_of result.kind ≢ kinds.OutOfMemory

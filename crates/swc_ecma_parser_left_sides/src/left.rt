@@ -107,8 +107,8 @@ fn member<T: BuildsCall>(
     }
 }
 
-/// An expression in parentheses.
-#[tactic(auto, unfolding(swc_ecma_parser_reader::specs::Expressions::paren))]
+/// An expression in parentheses. `()` is none, and what stands behind it is refused.
+#[tactic(auto, unfolding(swc_ecma_parser_reader::specs::Expressions::paren, swc_ecma_parser_reader::specs::Expressions::empty_paren, swc_ecma_parser_reader::specs::Expressions::filled_paren))]
 #[inline(never)]
 fn paren<
     P: Cursor,
@@ -126,6 +126,10 @@ fn paren<
 {
     let start = p.span();
     p.skip()?;
+    if p.sees(TokenKind::RParen) {
+        p.skip()?;
+        return Err(p.wanted(Wanted::Expression));
+    }
     let expr = inside(g, t, p, Class::Expression)?;
     p.expect(TokenKind::RParen, ")")?;
     let span = since(p, start);

@@ -270,7 +270,7 @@ pub fn head_behind_async<
 {
     let param = only_parameter(g, t, p)?;
     if !p.sees(TokenKind::Arrow) {
-        return Err(p.wanted(Wanted::Expression));
+        return Err(p.refuse(Wanted::Token("=>")));
     }
     let x = arrow_of_one(g, t, p, true, start, param)?;
     if !p.sees(TokenKind::Comma) {

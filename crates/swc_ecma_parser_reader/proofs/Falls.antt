@@ -12,7 +12,7 @@ use Rattle.swc_ecma_parser_reader.proofs.decorators.Taking.{either_falls}
 use Rattle.swc_ecma_parser_reader.specs.State.{Scope, and_then, below, relabelled, below_label, enclosed, unlabelled, fault_at, noted, module_found, reference, State, Outcome, Reader, moved, coded, within, fault, labelled, labelled_as, name, expect, end}
 use Rattle.swc_ecma_parser_grammar.specs.language.Declarations.{is_using_declaration}
 use Rattle.swc_ecma_parser_grammar.specs.language.Items.{labelled_item, sub_statement, nested_item, top_item}
-use Rattle.swc_ecma_parser_reader.specs.Reader.{begins_label, right_operand, relabels, labelled_body, labeled_stmt, other_stmt, note_with, with_stmt, await_here, unless_awaited, function_body, function_decl, function_parts, function_stmt, misdirected, function_word, async_or_other, missing_initializer, Opening, Nothing, Variables, Expression, as_init, as_left, head_variables, head_expression, opening, head_part, misdeclared, for_parts, for_in, for_of, for_behind, for_stmt, const_stmt, let_stmt, no_parameter, one_parameter, getter, setter, plain_method, arrow_block, function_by, named, own_name, function_expr, expr, cover, head_cover, pattern, element, decorated_in, member, function, empty, debugger, uninitialized, initialized, ends_declarators, missing_at, no_declarator, declarator, declarators_turn, declarators, declaration_end, variables, closes, at_end, close, items_turn, items, block_from, block, braced, note_statement, no_label, stmt_end, expr_stmt, expr_stmt_at, told, target, unbroken, break_stmt, uncontinued, continue_stmt, misplaced, after_return, operand, returned, return_stmt, optional_end, import_stmt_at, thrown, throw, head, while_stmt, do_while, Link, goes_on, condition, alternative, link_from, link, behind_link, links, if_stmt, begins_clause, closes_clause, Clauses, clause_from, default_clause, case_clause, clause, clauses_turn, clauses, switch_stmt, is_handled, handled, bound, parameter, finalizer, caught, handler, try_stmt, stmt_by, stmt_level, stmt, top_await_fault, top_await, whole_stmt, shebang_in, shebang_taken, shebang, script_body, script, misusing, using_from, using_stmt, using_or_other, Resource, Named, undeclared, using_head, named_head, await_or_expression, await_head, async_head, unfollowed, async_or_expression, head_target, begins_await_head}
+use Rattle.swc_ecma_parser_reader.specs.Reader.{begins_label, right_operand, relabels, labelled_body, labeled_stmt, other_stmt, note_with, with_stmt, await_here, unless_awaited, function_body, function_decl, function_parts, function_stmt, misdirected, function_word, async_or_other, missing_initializer, Opening, Nothing, Variables, Expression, as_init, as_left, head_variables, head_expression, opening, head_part, misdeclared, for_parts, for_in, for_of, for_behind, for_stmt, const_stmt, let_stmt, no_parameter, one_parameter, getter, setter, plain_method, arrow_block, function_by, named, own_name, function_expr, expr, cover, head_cover, pattern, element, decorated_in, member, function, empty, debugger, uninitialized, initialized, ends_declarators, missing_at, no_declarator, declarator, declarators_turn, declarators, declaration_end, variables, closes, at_end, close, items_turn, items, block_from, block, braced, note_statement, no_label, stmt_end, expr_stmt, expr_stmt_at, told, target, unbroken, break_stmt, uncontinued, continue_stmt, may_return, misplaced, after_return, operand, returned, return_stmt, optional_end, import_stmt_at, thrown, throw, head, while_stmt, do_while, Link, goes_on, condition, alternative, link_from, link, behind_link, links, if_stmt, begins_clause, closes_clause, Clauses, clause_from, default_clause, case_clause, clause, clauses_turn, clauses, switch_stmt, is_handled, handled, bound, parameter, finalizer, caught, handler, try_stmt, stmt_by, stmt_level, stmt, top_await_fault, top_await, whole_stmt, shebang_in, shebang_taken, shebang, script_body, script, misusing, using_from, using_stmt, using_or_other, Resource, Named, undeclared, using_head, named_head, await_or_expression, await_head, async_head, unfollowed, async_or_expression, head_target, begins_await_head}
 use Rattle.swc_ecma_parser_grammar.specs.language.Contexts.{without_in, named_by, in_body, in_arrow, in_parameters, in_loop, in_breakable, in_with, with_in, head_code, script_code}
 use Rattle.swc_ecma_parser_grammar.specs.Variables.{is_const, needs_no_initializer}
 use Rattle.swc_ecma_parser_model.specs.declared.leaves.VarDeclKind.{VarDeclKind}
@@ -384,10 +384,10 @@ continue_falls s e = falls_past s _ e (falls_then 0 0 (length (after s.at).left)
     falls_then 0 0 (length t.at.left) (end faults.Expected t) _ (end_falls faults.Expected t) (λ _ u.
     falls_last 0 (length u.at.left) (uncontinued x (record { lo = (span_at s.at).lo; hi = u.at.last.hi }) u) _ (told_falls _ u))))
 
-after_return_falls : (n : ℕ) (start : Span) (o : Outcome Tree) → Falls 0 n o → Falls 0 n (after_return start o)
+after_return_falls : (n : ℕ) (may : Bool) (start : Span) (o : Outcome Tree) → Falls 0 n o → Falls 0 n (after_return may start o)
 unfolding misplaced
-after_return_falls n start (Ok p) h = fewer 0 n (length p.1.at.left) (after_return start (Ok p)) (omega arith) (falls_last 0 (length p.1.at.left) (misplaced start p.1) _ (told_falls _ p.1))
-after_return_falls n start (Err e) h = falls_if 0 n (is_some e.1.scope.mark) _ _ tt (refused_falls Tree 0 n e.0 (misplaced start e.1))
+after_return_falls n may start (Ok p) h = fewer 0 n (length p.1.at.left) (after_return may start (Ok p)) (omega arith) (falls_last 0 (length p.1.at.left) (misplaced may start p.1) _ (told_falls _ p.1))
+after_return_falls n may start (Err e) h = falls_if 0 n (is_some e.1.scope.mark) _ _ tt (refused_falls Tree 0 n e.0 (misplaced may start e.1))
 
 module _ (inner : Reader Tree) (h : (s : State) → Falls 1 (length s.at.left) (inner s)) where
   operand_falls : (s : State) → Falls 0 (length s.at.left) (operand inner s)
@@ -401,7 +401,7 @@ module _ (inner : Reader Tree) (h : (s : State) → Falls 1 (length s.at.left) (
 
   return_falls : (s : State) → kind_at s.at ≢ kind.End → Falls 1 (length s.at.left) (return_stmt inner s)
   unfolding return_stmt
-  return_falls s e = falls_past s _ e (after_return_falls (length (after s.at).left) (span_at s.at) (returned inner (span_at s.at) (moved s)) (returned_falls (span_at s.at) (moved s)))
+  return_falls s e = falls_past s _ e (after_return_falls (length (after s.at).left) (may_return s.code) (span_at s.at) (returned inner (span_at s.at) (moved s)) (returned_falls (span_at s.at) (moved s)))
 
 -- ---- labels
 

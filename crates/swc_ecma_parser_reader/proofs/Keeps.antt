@@ -18,7 +18,7 @@ use Rattle.swc_ecma_parser_grammar.proofs.StatementBegins.{word_place}
 use Rattle.swc_ecma_parser_grammar.proofs.Tests.{and_yes}
 use Rattle.swc_ecma_parser_grammar.proofs.Using.{using_stands}
 use Rattle.swc_ecma_parser_reader.specs.Methods.{FunctionForm, expression_form, class_form, property_form, getter_form, setter_form, method_form, parameter_form, block_form, star}
-use Rattle.swc_ecma_parser_reader.specs.Reader.{no_parameter, one_parameter, getter, setter, plain_method, arrow_block, function_by, named, own_name, function_expr, expr, cover, head_cover, pattern, element, decorated_in, member, operators, right_operand, function, function_word, async_or_other, begins_label, relabels, labelled_body, labeled_stmt, other_stmt, note_with, with_stmt, await_here, function_decl, function_stmt, function_parts, function_body, misdirected, missing_initializer, variables, Opening, as_init, as_left, head_variables, head_expression, opening, head_part, misdeclared, for_parts, for_in, for_of, for_behind, for_stmt, const_stmt, let_stmt, empty, debugger, initialized, ends_declarators, missing_at, no_declarator, declarator, declarators_turn, declarators, declaration_end, stray, closes, at_end, close, directs, items_turn, items, block_from, block, braced, note_statement, no_label, stmt_end, expr_stmt, expr_stmt_at, optional_end, import_stmt_at, told, target, unbroken, break_stmt, uncontinued, continue_stmt, operand, returned, return_stmt, thrown, throw, head, while_stmt, do_while, goes_on, condition, alternative, link_from, link, links, if_stmt, begins_clause, closes_clause, clause_from, default_clause, case_clause, clause, clauses_turn, clauses, switch_stmt, begins_at, is_handled, handled, bound, parameter, finalizer, caught, handler, try_stmt, stmt_by, stmt_level, stmt, top_await_fault, top_await, whole_stmt, shebang, script_body, script, misusing, using_from, using_stmt, using_or_other, undeclared, using_head, named_head, await_or_expression, await_head, async_head, async_or_expression, head_target, begins_await_head}
+use Rattle.swc_ecma_parser_reader.specs.Reader.{no_parameter, one_parameter, getter, setter, plain_method, arrow_block, function_by, named, own_name, function_expr, expr, cover, head_cover, pattern, element, decorated_in, member, operators, right_operand, function, function_word, async_or_other, begins_label, relabels, labelled_body, labeled_stmt, other_stmt, note_with, with_stmt, await_here, function_decl, function_stmt, function_parts, function_body, misdirected, missing_initializer, variables, Opening, as_init, as_left, head_variables, head_expression, opening, head_part, misdeclared, for_parts, for_in, for_of, for_behind, for_stmt, const_stmt, let_stmt, empty, debugger, initialized, ends_declarators, missing_at, no_declarator, declarator, declarators_turn, declarators, declaration_end, stray, closes, at_end, close, directs, items_turn, items, block_from, block, braced, note_statement, no_label, stmt_end, expr_stmt, expr_stmt_at, optional_end, import_stmt_at, told, target, unbroken, break_stmt, uncontinued, continue_stmt, operand, returned, return_stmt, thrown, throw, head, while_stmt, do_while, goes_on, condition, alternative, link_from, link, links, if_stmt, begins_clause, closes_clause, clause_from, default_clause, case_clause, clause, clauses_turn, clauses, switch_stmt, begins_at, is_handled, handled, bound, parameter, finalizer, caught, handler, try_stmt, stmt_by, stmt_level, stmt, top_await_fault, top_await, whole_stmt, shebang, script_body, script, misusing, using_from, using_stmt, using_or_other, undeclared, using_head, named_head, await_or_expression, await_head, async_head, async_or_expression, head_target, begins_await_head, may_return}
 use Rattle.swc_ecma_parser_grammar.specs.Names.{name_at}
 use Rattle.swc_ecma_parser_error.specs.declared.error.Error.{Error}
 use Rattle.swc_ecma_parser_grammar.specs.language.Declarations.{is_using_declaration}
@@ -362,7 +362,7 @@ module _ (inner : Position → Reader Tree) (inner_expr : Class → Reader Tree)
   unfolding return_stmt returned operand
   return_keeps e =
       let g = behind_after b s e refl f in
-      after_return_keeps b (span_at s.at) (returned (inner_expr expression) (span_at s.at) (moved s)) (answers_then (Kept b) _ (operand (inner_expr expression) (moved s)) _
+      after_return_keeps b (may_return s.code) (span_at s.at) (returned (inner_expr expression) (span_at s.at) (moved s)) (answers_then (Kept b) _ (operand (inner_expr expression) (moved s)) _
       (answers_if (Kept b) _ (ends_at (after s.at)) _ _ (λ _. g)
       (λ _. answers_then (Kept b) _ (inner_expr expression (coded (with_in s.code) (moved s))) _ (below_expr expression b (coded (with_in s.code) (moved s)) g) (λ x t k. flagged_kept b (moved s) t g k))) (λ x t k.
       answers_then _ _ (end faults.Expected t) _ (end_keeps b t k faults.Expected) (λ _ u j. j)))

@@ -38,14 +38,14 @@ unfolding optional_end
 optional_end_keeps b s f = answers_if _ _ (sees kind.Semi s.at) _ _ (λ seen. behind_seen b s kind.Semi seen refl f) (λ _. f)
 
 -- the fault of a `return` that was refused
-pub after_return_keeps : (b : State) (start : Span) (o : Outcome Tree) → Answers (Kept b) (Lost b) o → Answers (Kept b) (Lost b) (after_return start o)
+pub after_return_keeps : (b : State) (may : Bool) (start : Span) (o : Outcome Tree) → Answers (Kept b) (Lost b) o → Answers (Kept b) (Lost b) (after_return may start o)
 unfolding misplaced
-after_return_keeps b start (Ok p) h = answers_then (Kept b) _ (misplaced start p.1) _ (told_keeps b _ p.1 h) (λ _ t k. k)
-after_return_keeps b start (Err e) h = answers_if (Kept b) (Lost b) (is_some e.1.scope.mark) _ _ (λ _. h) (λ m. by_memory m (says_out_of_memory e.0.kind) refl)
+after_return_keeps b may start (Ok p) h = answers_then (Kept b) _ (misplaced may start p.1) _ (told_keeps b _ p.1 h) (λ _ t k. k)
+after_return_keeps b may start (Err e) h = answers_if (Kept b) (Lost b) (is_some e.1.scope.mark) _ _ (λ _. h) (λ m. by_memory m (says_out_of_memory e.0.kind) refl)
   where
-    by_memory : is_some e.1.scope.mark ≡ false → (v : Bool) → says_out_of_memory e.0.kind ≡ v → Answers {A = Tree} (Kept b) (Lost b) (refused e.0 (misplaced start e.1))
-    by_memory m true g = memory_refused_keeps (Kept b) b e.0 e.1 (misplaced start e.1) g h (told_keeps e.1 _ e.1 (behind_self e.1)) (told_says _ e.1)
-    by_memory m false g = refused_keeps (Kept b) b e.0 (misplaced start e.1) (told_keeps b _ e.1 (h.0, h.1, h.2 g, leaves_stays b e.1 m h.3))
+    by_memory : is_some e.1.scope.mark ≡ false → (v : Bool) → says_out_of_memory e.0.kind ≡ v → Answers {A = Tree} (Kept b) (Lost b) (refused e.0 (misplaced may start e.1))
+    by_memory m true g = memory_refused_keeps (Kept b) b e.0 e.1 (misplaced may start e.1) g h (told_keeps e.1 _ e.1 (behind_self e.1)) (told_says _ e.1)
+    by_memory m false g = refused_keeps (Kept b) b e.0 (misplaced may start e.1) (told_keeps b _ e.1 (h.0, h.1, h.2 g, leaves_stays b e.1 m h.3))
 
 pub target_keeps : (b : State) (s : State) → NothingLost b s → Answers (Kept b) (Lost b) (target s)
 unfolding target

@@ -10,7 +10,7 @@ use Rattle.swc_ecma_parser_reader.proofs.decorators.Taking.{either_shallow}
 use Rattle.swc_ecma_parser_reader.specs.Words.{begins_async_of}
 use Rattle.swc_ecma_parser_reader.specs.Reader as reader
 use Rattle.swc_ecma_parser_reader.specs.Methods.{MethodForm, getter_form, setter_form, method_form, property_form, star}
-use Rattle.swc_ecma_parser_reader.specs.Reader.{no_parameter, one_parameter, getter, setter, plain_method, arrow_block, function_by, named, own_name, function_expr, expr, cover, head_cover, pattern, element, decorated_in, member, operators, right_operand, function, function_word, async_or_other, begins_label, relabels, labelled_body, labeled_stmt, other_stmt, note_with, with_stmt, await_here, unless_awaited, function_decl, function_stmt, function_parts, function_body, misdirected, missing_initializer, variables, Opening, Nothing, Variables, Expression, as_init, as_left, head_variables, head_expression, opening, head_part, misdeclared, for_parts, for_in, for_of, for_behind, for_stmt, const_stmt, let_stmt, empty, debugger, initialized, ends_declarators, missing_at, no_declarator, declarator, declarators_turn, declarators, declaration_end, stray, closes, at_end, close, items_turn, items, block_from, block, braced, note_statement, no_label, stmt_end, expr_stmt, expr_stmt_at, optional_end, import_stmt_at, told, target, unbroken, break_stmt, uncontinued, continue_stmt, misplaced, after_return, operand, returned, return_stmt, thrown, throw, head, while_stmt, do_while, goes_on, condition, alternative, link_from, link, links, if_stmt, begins_clause, closes_clause, clause_from, default_clause, case_clause, clause, clauses_turn, clauses, switch_stmt, begins_at, is_handled, handled, bound, parameter, finalizer, caught, handler, try_stmt, stmt_by, stmt_level, stmt, top_await_fault, top_await, whole_stmt, shebang, script_body, script, misusing, using_from, using_stmt, using_or_other, Resource, Named, undeclared, using_head, named_head, await_or_expression, await_head, async_head, unfollowed, async_or_expression, head_target, begins_await_head}
+use Rattle.swc_ecma_parser_reader.specs.Reader.{no_parameter, one_parameter, getter, setter, plain_method, arrow_block, function_by, named, own_name, function_expr, expr, cover, head_cover, pattern, element, decorated_in, member, operators, right_operand, function, function_word, async_or_other, begins_label, relabels, labelled_body, labeled_stmt, other_stmt, note_with, with_stmt, await_here, unless_awaited, function_decl, function_stmt, function_parts, function_body, misdirected, missing_initializer, variables, Opening, Nothing, Variables, Expression, as_init, as_left, head_variables, head_expression, opening, head_part, misdeclared, for_parts, for_in, for_of, for_behind, for_stmt, const_stmt, let_stmt, empty, debugger, initialized, ends_declarators, missing_at, no_declarator, declarator, declarators_turn, declarators, declaration_end, stray, closes, at_end, close, items_turn, items, block_from, block, braced, note_statement, no_label, stmt_end, expr_stmt, expr_stmt_at, optional_end, import_stmt_at, told, target, unbroken, break_stmt, uncontinued, continue_stmt, misplaced, after_return, operand, returned, return_stmt, thrown, throw, head, while_stmt, do_while, goes_on, condition, alternative, link_from, link, links, if_stmt, begins_clause, closes_clause, clause_from, default_clause, case_clause, clause, clauses_turn, clauses, switch_stmt, begins_at, is_handled, handled, bound, parameter, finalizer, caught, handler, try_stmt, stmt_by, stmt_level, stmt, top_await_fault, top_await, whole_stmt, shebang, script_body, script, misusing, using_from, using_stmt, using_or_other, Resource, Named, undeclared, using_head, named_head, await_or_expression, await_head, async_head, unfollowed, async_or_expression, head_target, begins_await_head, may_return}
 use Rattle.swc_ecma_parser_grammar.specs.Names.{name_at}
 use Rattle.swc_ecma_parser_reader.proofs.Meets.{saw, Answers, answers_then, answers_if, loop_answers, meant}
 use Rattle.swc_ecma_parser_model.specs.Tree.{Text, Tree}
@@ -95,10 +95,10 @@ module _ {T : Fault → Type 0} where
       (λ t e. cc) [] s f
 
 -- the fault of a `return` that was refused
-after_return_shallow : (T : Fault → Type 0) (m : ℕ) (start : Span) (o : Outcome Tree) → Answers (Kept T m) (Shallow T) o → Answers (Kept T m) (Shallow T) (after_return start o)
+after_return_shallow : (T : Fault → Type 0) (m : ℕ) (may : Bool) (start : Span) (o : Outcome Tree) → Answers (Kept T m) (Shallow T) o → Answers (Kept T m) (Shallow T) (after_return may start o)
 unfolding misplaced
-after_return_shallow T m start (Ok p) h = answers_then (Kept T m) _ (misplaced start p.1) _ (told_shallow m _ p.1 h) (λ _ t k. k)
-after_return_shallow T m start (Err e) h = answers_if (Kept T m) (Shallow T) (is_some e.1.scope.mark) _ _ (λ _. h) (λ _. refused_kept T (Kept T m) e.0 (misplaced start e.1) h (told_memory T _ e.1))
+after_return_shallow T m may start (Ok p) h = answers_then (Kept T m) _ (misplaced may start p.1) _ (told_shallow m _ p.1 h) (λ _ t k. k)
+after_return_shallow T m may start (Err e) h = answers_if (Kept T m) (Shallow T) (is_some e.1.scope.mark) _ _ (λ _. h) (λ _. refused_kept T (Kept T m) e.0 (misplaced may start e.1) h (told_memory T _ e.1))
 
 module _ {T : Fault → Type 0} where
   target_shallow : (m : ℕ) (s : State) → Fine T m s.at.left → Answers (Kept T m) (Shallow T) (target s)
@@ -391,7 +391,7 @@ module _ {T : Fault → Type 0} where
     unfolding return_stmt returned operand
     return_shallow e =
         let (i, h, g) = fine_taken m s.at kind.Return e (λ z. cc) f in
-        after_return_shallow T m (span_at s.at) (returned (inner_expr expression) (span_at s.at) (moved s)) (answers_then (Kept T m) _ (operand (inner_expr expression) (moved s)) _
+        after_return_shallow T m (may_return s.code) (span_at s.at) (returned (inner_expr expression) (span_at s.at) (moved s)) (answers_then (Kept T m) _ (operand (inner_expr expression) (moved s)) _
         (answers_if (Kept T i) _ (ends_at (after s.at)) _ _ (λ _. g)
         (λ _. answers_then (Kept T i) _ (inner_expr expression (coded (with_in s.code) (moved s))) _ (below_expr expression i (coded (with_in s.code) (moved s)) (omega arith) g) (λ x t k. k))) (λ x t k.
         answers_then _ _ (end faults.Expected t) _ (end_shallow i t k faults.Expected (λ z. cc)) (λ _ u j. fine_more i m u.at.left (omega arith) j)))

@@ -24,7 +24,7 @@ use Rattle.swc_ecma_parser_reader.specs.DecoratedStatements.{either_stmt}
 use Rattle.swc_ecma_parser_reader.proofs.decorators.Declared.{declared_is_bare, first_declares}
 use Rattle.swc_ecma_parser_reader.proofs.decorators.Either.{either_at}
 use Rattle.swc_ecma_parser_reader.proofs.decorators.Labels.{either_unlabelled}
-use Rattle.swc_ecma_parser_reader.specs.Reader.{decorated_in, told, named, with_stmt, note_with, await_here, unless_awaited, misdirected, function_body, function_parts, function_decl, function_stmt, expr, head_cover, pattern, member, function_word, async_or_other, items, closes, close, declarators, declaration_end, stray, link, alternative, head, clauses, target, unbroken, uncontinued, operand, braced, handler, finalizer, handled, optional_end, Opening, as_init, as_left, opening, head_part, misdeclared, labelled_body, relabels, no_label, note_statement, empty, debugger, variables, block, block_from, stmt_end, expr_stmt, expr_stmt_at, import_stmt_at, thrown, throw, while_stmt, do_while, for_parts, for_in, for_of, for_behind, for_stmt, goes_on, links, if_stmt, break_stmt, continue_stmt, returned, return_stmt, misplaced, begins_label, labeled_stmt, other_stmt, switch_stmt, try_stmt, const_stmt, let_stmt, stmt_by, stmt_level, stmt, misusing, using_from, using_stmt, using_or_other, await_using_stmt, plain_stmt}
+use Rattle.swc_ecma_parser_reader.specs.Reader.{decorated_in, told, named, with_stmt, note_with, await_here, unless_awaited, misdirected, function_body, function_parts, function_decl, function_stmt, expr, head_cover, pattern, member, function_word, async_or_other, items, closes, close, declarators, declaration_end, stray, link, alternative, head, clauses, target, unbroken, uncontinued, operand, braced, handler, finalizer, handled, optional_end, Opening, as_init, as_left, opening, head_part, misdeclared, labelled_body, relabels, no_label, note_statement, empty, debugger, variables, block, block_from, stmt_end, expr_stmt, expr_stmt_at, import_stmt_at, thrown, throw, while_stmt, do_while, for_parts, for_in, for_of, for_behind, for_stmt, goes_on, links, if_stmt, break_stmt, continue_stmt, returned, return_stmt, misplaced, begins_label, labeled_stmt, other_stmt, switch_stmt, try_stmt, const_stmt, let_stmt, stmt_by, stmt_level, stmt, misusing, using_from, using_stmt, using_or_other, await_using_stmt, plain_stmt, may_return}
 use Rattle.swc_ecma_parser_reader.proofs.Meets.{meets_then, Meets, Refuses, always, meets_if, wanted_meets, too_deep_meets, refuse_meets, meant, saw}
 use Rattle.std.specs.Prelude.{◌&&◌, ◌||◌, codes}
 use Rattle.std.proofs.lemmas.List.Recursion.{is_count_by}
@@ -122,8 +122,8 @@ module _ (inner : Position → Reader Tree) (inner_expr : Class → Reader Tree)
 
   return_plain : (s : State) → Meets Plain (return_stmt (inner_expr expression) s)
   unfolding return_stmt
-  return_plain s = after_return_meets Plain (span_at s.at) (returned (inner_expr expression) (span_at s.at) (moved s)) (returned_plain (span_at s.at) (moved s))
-      (λ x t h. always Plain (misplaced (span_at s.at) t) _ (λ _ u. h))
+  return_plain s = after_return_meets Plain (may_return s.code) (span_at s.at) (returned (inner_expr expression) (span_at s.at) (moved s)) (returned_plain (span_at s.at) (moved s))
+      (λ x t h. always Plain (misplaced (may_return s.code) (span_at s.at) t) _ (λ _ u. h))
 
   throw_plain : (s : State) → Meets Plain (throw (inner_expr expression) s)
   unfolding throw thrown

@@ -17,11 +17,11 @@ use Rattle.swc_ecma_parser_reader.specs.Notes.{no_notes, ◌⊕◌, notes_of, al
 use Rattle.swc_ecma_parser_reader.proofs.Between.{sound_below, sound_coded, Sound, SoundTree, SoundStep, no_faults, same, nil-split, sound_then, sound_more, sound_moved, sound_here, sound_as, sound_after, within_sound}
 use Rattle.swc_ecma_parser_reader.specs.State.{name, reference, below, below_label, State, Reader, moved, coded, within, fault_at, wanted, labelled, labelled_as, expect, end}
 use Rattle.swc_ecma_parser_grammar.specs.scaffold.Reads.{labeled_rule, with_rule, class_rule, function_rule, ReadsItems, SmallTargetRule, SmallReturnedRule, no_operand_rule, operand_rule, break_rule, continue_rule, return_rule, SmallStmtRule, block_rule, empty_rule, debugger_rule, if_statement_rule, SmallCaseRule, case_clause_rule, default_clause_rule, ReadsCases, switch_rule, throw_rule, try_rule, while_rule, do_while_rule, ReadsBlock, SmallCatchRule, no_catch_rule, catch_rule, catch_parameter_rule, SmallFinallyRule, no_finally_rule, finally_rule, ReadsHead, SmallIfRule, if_rule, SmallElseRule, no_else_rule, else_rule, else_if_rule}
-use Rattle.swc_ecma_parser_grammar.specs.Own.{labelled_function, duplicates}
-use Rattle.swc_ecma_parser_reader.proofs.SoundParts.{labelled_meets, relabels_sound, SoundWith, note_with_sound, using_sound, end_sound, optional_end_sound, Declarators, declarators_sound, inside_sound, variables_sound, code_stays, items_sound, and_false, unbroken_sound, uncontinued_sound, misplaced_sound, target_sound, after_return_meets, first_sound}
+use Rattle.swc_ecma_parser_grammar.specs.Own.{labelled_function, duplicates, return_faults}
+use Rattle.swc_ecma_parser_reader.proofs.SoundParts.{labelled_meets, relabels_sound, SoundWith, note_with_sound, using_sound, end_sound, optional_end_sound, Declarators, declarators_sound, inside_sound, variables_sound, code_stays, items_sound, and_false, unbroken_sound, uncontinued_sound, misplaced_sound, target_sound, after_return_meets, first_sound, SoundOwn}
 use Rattle.swc_ecma_parser_grammar.specs.language.Declarations.{is_using_declaration}
 use Rattle.swc_ecma_parser_grammar.specs.language.Items.{labelled_item, sub_statement, nested_item}
-use Rattle.swc_ecma_parser_reader.specs.Reader.{begins_label, relabels, labelled_body, labeled_stmt, other_stmt, with_stmt, note_with, function_stmt, async_or_other, function_decl, variables, const_stmt, let_stmt, expr, cover, head_cover, pattern, element, decorated_in, member, operators, right_operand, function, function_by, getter, setter, plain_method, target, unbroken, break_stmt, uncontinued, continue_stmt, misplaced, operand, returned, return_stmt, empty, debugger, declarators, closes, close, items, block_from, block, braced, expr_stmt_at, optional_end, import_stmt_at, thrown, throw, head, while_stmt, do_while, Link, goes_on, condition, alternative, link_from, link, links, if_stmt, begins_clause, closes_clause, Clauses, clause_from, default_clause, case_clause, clause, clauses_turn, clauses, switch_stmt, begins_at, is_handled, handled, bound, parameter, finalizer, caught, handler, try_stmt, stmt_by, stmt_level, stmt, using_or_other}
+use Rattle.swc_ecma_parser_reader.specs.Reader.{begins_label, relabels, labelled_body, labeled_stmt, other_stmt, with_stmt, note_with, function_stmt, async_or_other, function_decl, variables, const_stmt, let_stmt, expr, cover, head_cover, pattern, element, decorated_in, member, operators, right_operand, function, function_by, getter, setter, plain_method, target, unbroken, break_stmt, uncontinued, continue_stmt, misplaced, operand, returned, return_stmt, empty, debugger, declarators, closes, close, items, block_from, block, braced, expr_stmt_at, optional_end, import_stmt_at, thrown, throw, head, while_stmt, do_while, Link, goes_on, condition, alternative, link_from, link, links, if_stmt, begins_clause, closes_clause, Clauses, clause_from, default_clause, case_clause, clause, clauses_turn, clauses, switch_stmt, begins_at, is_handled, handled, bound, parameter, finalizer, caught, handler, try_stmt, stmt_by, stmt_level, stmt, using_or_other, may_return}
 use Rattle.swc_ecma_parser_model.specs.declared.leaves.VarDeclKind.{VarDeclKind}
 use Rattle.swc_ecma_parser_model.specs.declared.leaves.VarDeclKind.TheVariants as decl
 use Rattle.swc_ecma_parser_grammar.specs.Variables.{begins_variables, is_var}
@@ -173,8 +173,9 @@ module _ (Stmt : Code → Position → Tree → Place → Place → Type 0) (Exp
 
   return_sound : (s : State) → kind_at s.at ≡ kind.Return → Meets (SoundStmt s) (return_stmt (inner_expr expression) s)
   unfolding return_stmt spanned SoundReturned
-  return_sound s e = after_return_meets (SoundStmt s) (span_at s.at) (returned (inner_expr expression) (span_at s.at) (moved s)) (returned_sound s.at (moved s)) (λ x m (y, p, o).
-      meets_then _ (misplaced (span_at s.at) m) _ (misplaced_sound (span_at s.at) m) (λ _ t q.
+  return_sound s e = after_return_meets (SoundStmt s) (may_return s.code) (span_at s.at) (returned (inner_expr expression) (span_at s.at) (moved s)) (returned_sound s.at (moved s)) (λ x m (y, p, o).
+      meets_then _ (misplaced (may_return s.code) (span_at s.at) m) _
+      (subst (λ k. Meets (λ _ t. SoundOwn (λ k l. return_faults (may_return k) (spanned s.at m.at)) m t) (misplaced (may_return k) (span_at s.at) m)) p.code (misplaced_sound (span_at s.at) m)) (λ _ t q.
       subst (λ v. SoundStmt s v t) (sym o) (sound_after s t e refl refl (notes_nil (notes_of y))
       (λ (j, ((i, a, g), h), z). return_rule y i e a (subst (Ends i) (sym z) g) (ap (λ v. tree.return (spanned s.at v) y) (sym (z ∙ h)))) (sound_then p q))))
 

@@ -35,7 +35,7 @@ use Rattle.swc_ecma_parser_grammar.specs.Walk.{walk, env_of}
 use Rattle.swc_ecma_parser_grammar.specs.Notes.{statement_note, with_note}
 use Rattle.swc_ecma_parser_reader.specs.Notes.{no_notes, held, notes_of, all_notes_of}
 use Rattle.swc_ecma_parser_reader.specs.State.{says_out_of_memory, labelled_as, State, Reader, moved, coded, within, noted, holding_back, module_fault, fault_at, Outcome, and_then, recorded_at, recorded_in, fault, name, end}
-use Rattle.swc_ecma_parser_reader.specs.Reader.{told, target, unbroken, uncontinued, misplaced, misdeclared, after_return, relabels, missing_initializer, initialized, ends_declarators, missing_at, no_declarator, declarator, declarators_turn, declarators, declaration_end, variables, close, directs, items_turn, items, note_statement, no_label, optional_end, note_with, misdirected, misusing, using_from, using_stmt, await_using_stmt, await_using_or}
+use Rattle.swc_ecma_parser_reader.specs.Reader.{told, target, unbroken, uncontinued, misplaced, misdeclared, after_return, relabels, missing_initializer, initialized, ends_declarators, missing_at, no_declarator, declarator, declarators_turn, declarators, declaration_end, variables, close, directs, items_turn, items, note_statement, no_label, optional_end, note_with, misdirected, misusing, using_from, using_stmt, await_using_stmt, await_using_or, may_return}
 use Rattle.swc_ecma_parser_reader.proofs.Behind.{Passes}
 use Rattle.swc_ecma_parser_reader.proofs.SoundRecovered.{declaration_end_sound}
 use Rattle.swc_ecma_parser_reader.proofs.expressions.SoundSteps.{meets_as, reject_meets, refused_meets, name_sound, Takes, noted_sound, fault_sound, walks_push, notes_push}
@@ -443,9 +443,9 @@ uncontinued_sound label span s = meets_as (uncontinued label span s) (told_sound
     (λ _ t p. sound_as s t refl refl refl (λ h. h) p)
 
 pub misplaced_sound : (start : Span) (s : State)
-    → Meets (λ _ t. SoundOwn (λ k l. return_faults (k.flags.in_function || k.setting.allow_return_outside_function) (record { lo = start.lo; hi = s.at.last.hi })) s t) (misplaced start s)
+    → Meets (λ _ t. SoundOwn (λ k l. return_faults (may_return k) (record { lo = start.lo; hi = s.at.last.hi })) s t) (misplaced (may_return s.code) start s)
 unfolding misplaced SoundTold
-misplaced_sound start s = meets_as (misplaced start s) (told_sound _ (only_tabled _ _ _ refl) s) (λ _ t p. sound_as s t refl refl refl (λ h. h) p)
+misplaced_sound start s = meets_as (misplaced (may_return s.code) start s) (told_sound _ (only_tabled _ _ _ refl) s) (λ _ t p. sound_as s t refl refl refl (λ h. h) p)
 
 both_tabled : (es fs : List Fault) → AllTabled es → AllTabled fs → AllTabled (es ++ fs)
 both_tabled [] fs h g = g
@@ -526,10 +526,10 @@ target_sound s = meets_if _ (ends_at s.at) _ _ (λ e. sound_here s (no_target_ru
     sound_as s t refl refl refl (λ r. target_rule r.word i.span e r.token r.free (ap (tree.ident i.span) r.text)) p))
 
 -- what is told of a `return` that was read
-pub after_return_meets : {P : Tree → State → Type 0} (Q : Tree → State → Type 0) (start : Span) (o : Outcome Tree) → Meets P o → ((x : Tree) (t : State) → P x t → Meets Q (and_then (misplaced start t) (λ _ u. Ok (x, u))))
-    → Meets Q (after_return start o)
-after_return_meets Q start (Ok p) h g = g p.0 p.1 h
-after_return_meets Q start (Err e) h g = meets_if Q (is_some e.1.scope.mark) _ _ (λ _. tt) (λ _. refused_meets Q e.0 (misplaced start e.1))
+pub after_return_meets : {P : Tree → State → Type 0} (Q : Tree → State → Type 0) (may : Bool) (start : Span) (o : Outcome Tree) → Meets P o → ((x : Tree) (t : State) → P x t → Meets Q (and_then (misplaced may start t) (λ _ u. Ok (x, u))))
+    → Meets Q (after_return may start o)
+after_return_meets Q may start (Ok p) h g = g p.0 p.1 h
+after_return_meets Q may start (Err e) h g = meets_if Q (is_some e.1.scope.mark) _ _ (λ _. tt) (λ _. refused_meets Q e.0 (misplaced may start e.1))
 
 -- a refusal said otherwise answers nothing either
 pub labelled_meets : {A : Type 0} (P : A → State → Type 0) (o : Outcome A) → Meets P o → Meets P (labelled_as o)

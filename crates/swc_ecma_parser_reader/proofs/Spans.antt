@@ -36,7 +36,7 @@ use Rattle.swc_ecma_parser_reader.specs.State.{State, Outcome, Reader, attempted
 use Rattle.swc_ecma_parser_reader.specs.Methods.{star}
 use Rattle.swc_ecma_parser_reader.specs.Expressions.{Cover}
 use Rattle.swc_ecma_parser_reader.specs.Reader as reader
-use Rattle.swc_ecma_parser_reader.specs.Reader.{decorated_in, told, named, items, closes, close, declarators, declaration_end, stray, link, link_from, condition, alternative, head, clauses, target, unbroken, uncontinued, operand, braced, handler, finalizer, handled, optional_end, note_with, await_here, unless_awaited, Opening, as_init, as_left, opening, head_part, misdeclared, misdirected, labelled_body, relabels, no_label, note_statement, empty, debugger, variables, block, block_from, stmt_end, expr_stmt, expr_stmt_at, import_stmt_at, thrown, throw, while_stmt, with_stmt, do_while, for_parts, for_in, for_of, for_behind, for_stmt, goes_on, links, if_stmt, break_stmt, continue_stmt, returned, return_stmt, misplaced, begins_label, labeled_stmt, other_stmt, switch_stmt, try_stmt, function_word, function_body, function_parts, function_decl, function_stmt, const_stmt, let_stmt, async_or_other, stmt_by, stmt_level, stmt, top_await_fault, top_await, whole_stmt, expr, head_cover, pattern, member, misusing, using_from, using_stmt, using_or_other, await_using_stmt, plain_stmt}
+use Rattle.swc_ecma_parser_reader.specs.Reader.{decorated_in, told, named, items, closes, close, declarators, declaration_end, stray, link, link_from, condition, alternative, head, clauses, target, unbroken, uncontinued, operand, braced, handler, finalizer, handled, optional_end, note_with, await_here, unless_awaited, Opening, as_init, as_left, opening, head_part, misdeclared, misdirected, labelled_body, relabels, no_label, note_statement, empty, debugger, variables, block, block_from, stmt_end, expr_stmt, expr_stmt_at, import_stmt_at, thrown, throw, while_stmt, with_stmt, do_while, for_parts, for_in, for_of, for_behind, for_stmt, goes_on, links, if_stmt, break_stmt, continue_stmt, returned, return_stmt, misplaced, begins_label, labeled_stmt, other_stmt, switch_stmt, try_stmt, function_word, function_body, function_parts, function_decl, function_stmt, const_stmt, let_stmt, async_or_other, stmt_by, stmt_level, stmt, top_await_fault, top_await, whole_stmt, expr, head_cover, pattern, member, misusing, using_from, using_stmt, using_or_other, await_using_stmt, plain_stmt, may_return}
 use Rattle.swc_ecma_parser_reader.specs.DecoratedStatements.{begins_declared, stmt_behind}
 use Rattle.swc_ecma_parser_reader.specs.Decorators.{Leading, leading}
 use Rattle.swc_ecma_parser_reader.specs.Entry.{last_span, are_errors, TakesSome, TakesErrors, Taken, is_stray, errors_behind, dropped_behind, StandsAt, IsBehind}
@@ -337,8 +337,8 @@ module _ (inner : Position → Reader Tree) (inner_expr : Class → Reader Tree)
 
     return_ends : (s : State) → Meets (Ends s.at) (return_stmt (inner_expr expression) s)
     unfolding return_stmt misplaced
-    return_ends s = after_return_meets {P = Returned s.at} (Ends s.at) (span_at s.at) (returned (inner_expr expression) (span_at s.at) (moved s)) (returned_ends s)
-        (λ x t (h, k). meets_then _ (misplaced (span_at s.at) t) _ (told_errs _ t) (λ _ u z. inr (inl (t.at, h, k, z))))
+    return_ends s = after_return_meets {P = Returned s.at} (Ends s.at) (may_return s.code) (span_at s.at) (returned (inner_expr expression) (span_at s.at) (moved s)) (returned_ends s)
+        (λ x t (h, k). meets_then _ (misplaced (may_return s.code) (span_at s.at) t) _ (told_errs _ t) (λ _ u z. inr (inl (t.at, h, k, z))))
 
     labelled_body_keeps : (text : Text) (b s : State) → NothingLost b s → Answers (Kept b) (Lost b) (labelled_body inner text s)
     unfolding labelled_body

@@ -15,7 +15,7 @@ use Rattle.swc_ecma_parser_grammar.specs.language.Goals.{Class}
 use Rattle.swc_ecma_parser_reader.specs.Methods.{FunctionForm, parameter_form}
 use Rattle.swc_ecma_parser_reader.specs.Operands.{Cover, close, covered, ident_expr, continued}
 use Rattle.swc_ecma_parser_reader.specs.Arrows.{parameter_or, arrow_from}
-use Rattle.swc_ecma_parser_reader.specs.State.{Reader, ◌>>=◌, ◌>>◌, pure, span_here, since, skip, moved, wanted, expect, Step, More, Done, loop}
+use Rattle.swc_ecma_parser_reader.specs.State.{Reader, ◌>>=◌, ◌>>◌, pure, span_here, since, skip, moved, refuse, expect, Step, More, Done, loop}
 
 -- `async` and a name on its line
 unfoldable pub begins_async_arrow : Context → Place → Bool
@@ -104,13 +104,13 @@ module _ (inner : Class → Reader Tree) (cover : Reader Cover) where
 -- ---- with the parameters and blocks of arrow functions
 
 module _ (inner : Class → Reader Tree) (function : FunctionForm → Reader Tree) where
-  -- no expression but an arrow function has a name on the line of `async`
+  -- no expression but an arrow function has a name on the line of `async`: `=>` is wanted behind it
   unfoldable pub async_named_arrow : Reader Tree
   async_named_arrow = do
     start ← span_here
     skip
     p ← function parameter_form
-    λ s. if sees kind.Arrow s.at then arrow_from inner function true start (p ∷ []) s else wanted faults.Unexpected s
+    λ s. if sees kind.Arrow s.at then arrow_from inner function true start (p ∷ []) s else refuse faults.Expected s
 
   module _ (cover : Reader Cover) where
     -- as parameters before `=>`, else as a call, with what goes on with it

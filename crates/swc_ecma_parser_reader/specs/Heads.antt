@@ -8,7 +8,7 @@ use Rattle.swc_ecma_parser_grammar.specs.Looks.{sees}
 use Rattle.swc_ecma_parser_grammar.specs.language.Goals.{Class}
 use Rattle.swc_ecma_parser_reader.specs.Methods.{FunctionForm, parameter_form}
 use Rattle.swc_ecma_parser_reader.specs.Arrows.{arrow_from}
-use Rattle.swc_ecma_parser_reader.specs.State.{Reader, ◌>>=◌, pure, span_here, wanted, ◌>>◌}
+use Rattle.swc_ecma_parser_reader.specs.State.{Reader, ◌>>=◌, pure, span_here, refuse}
 use Rattle.swc_ecma_parser_reader.specs.Expressions.{Cover, done, close, cover_expr, sequence_from}
 
 module _ (inner : Class → Reader Tree) (covers : Reader Cover) (function : FunctionForm → Reader Tree) where
@@ -27,9 +27,9 @@ module _ (inner : Class → Reader Tree) (covers : Reader Cover) (function : Fun
 
   -- ---- the same, from behind `async` on
 
-  -- no expression but an arrow function has a name on the line of `async`
+  -- no expression but an arrow function has a name on the line of `async`: `=>` is wanted behind it
   unfoldable pub async_arrow_from : Span → Tree → Reader Tree
-  async_arrow_from start p = λ s. if sees kind.Arrow s.at then arrow_from inner function true start (p ∷ []) s else wanted faults.Unexpected s
+  async_arrow_from start p = λ s. if sees kind.Arrow s.at then arrow_from inner function true start (p ∷ []) s else refuse faults.Expected s
 
   unfoldable pub head_behind_async : Span → Reader Cover
   head_behind_async start = do

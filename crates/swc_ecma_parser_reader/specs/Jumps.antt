@@ -1,5 +1,5 @@
 -- What is told one behind another, and the reader of statements that leave what is around them: ECMA-262, sections 14.8 to 14.10.
-use Rattle.std.specs.Prelude.{◌||◌, if◌then◌else◌, List, [], ◌∷◌, is_some, Ok, Err}
+use Rattle.std.specs.Prelude.{Bool, ◌||◌, if◌then◌else◌, List, [], ◌∷◌, is_some, Ok, Err}
 use Rattle.swc_ecma_parser_common.specs.declared.span.Span.{Span}
 use Rattle.swc_ecma_parser_error.specs.Kind as faults
 use Rattle.swc_ecma_parser_error.specs.Kind.{Fault}
@@ -7,6 +7,7 @@ use Rattle.swc_ecma_parser_model.specs.Tree as tree
 use Rattle.swc_ecma_parser_model.specs.Tree.{Tree}
 use Rattle.swc_ecma_parser_grammar.specs.language.Contexts.{with_in}
 use Rattle.swc_ecma_parser_grammar.specs.Ends.{ends_at}
+use Rattle.swc_ecma_parser_grammar.specs.Names.{Code}
 use Rattle.swc_ecma_parser_grammar.specs.Own.{break_faults, continue_faults, return_faults}
 use Rattle.swc_ecma_parser_reader.specs.State.{Outcome, Reader, ◌>>=◌, ◌>>◌, pure, span_here, since, skip, within, fault, refused, name, end}
 
@@ -52,14 +53,18 @@ continue_stmt = do
   uncontinued label span
   pure (tree.continue span label)
 
--- no function stands around `return`, and the setting asks for one
-unfoldable pub misplaced : Span → Reader (Unit {0})
-misplaced start = λ s. told (return_faults (s.code.flags.in_function || s.code.setting.allow_return_outside_function) (record { lo = start.lo; hi = s.at.last.hi })) s
+-- whether a `return` may stand in this code: a function stands around it, or the setting asks for none
+abbrev pub may_return : Code → Bool
+may_return k = k.flags.in_function || k.setting.allow_return_outside_function
+
+-- what is told of one that may stand where it does, or may not
+unfoldable pub misplaced : (may : Bool) → Span → Reader (Unit {0})
+misplaced may start = λ s. told (return_faults may (record { lo = start.lo; hi = s.at.last.hi })) s
 
 -- This is told of a `return` that is refused too, up to what was read, unless the state is marked.
-abbrev pub after_return : Span → Outcome Tree → Outcome Tree
-after_return start (Ok p) = (misplaced start >> pure p.0) p.1
-after_return start (Err e) = if is_some e.1.scope.mark then Err e else refused e.0 (misplaced start e.1)
+abbrev pub after_return : (may : Bool) → Span → Outcome Tree → Outcome Tree
+after_return may start (Ok p) = (misplaced may start >> pure p.0) p.1
+after_return may start (Err e) = if is_some e.1.scope.mark then Err e else refused e.0 (misplaced may start e.1)
 
 module _ (expr : Reader Tree) where
   -- what `return` answers: nothing where the statement can end
@@ -74,8 +79,9 @@ module _ (expr : Reader Tree) where
     span ← since start
     pure (tree.return span x)
 
+  -- Whether it may stand here is asked of the code around it, and not of that in which it is refused.
   unfoldable pub return_stmt : Reader Tree
   return_stmt = do
     start ← span_here
     skip
-    λ s. after_return start (returned start s)
+    λ s. after_return (may_return s.code) start (returned start s)

@@ -466,14 +466,23 @@ module _ (inner : Class → Reader Tree) (cover : Reader Cover) where
       span ← since start
       pure (whole_of (tree.object span) found)
 
-  unfoldable pub paren : Reader Tree
-  paren = do
-    start ← span_here
-    skip
+  -- `()` is no expression: what stands behind it is refused
+  unfoldable pub empty_paren : Reader Tree
+  empty_paren = skip >> wanted faults.Unexpected
+
+  -- from behind `(` on
+  unfoldable pub filled_paren : Span → Reader Tree
+  filled_paren start = do
     e ← inside expression
     expect kind.RParen
     span ← since start
     pure (tree.paren span e)
+
+  unfoldable pub paren : Reader Tree
+  paren = do
+    start ← span_here
+    skip
+    λ s. if sees kind.RParen s.at then empty_paren s else filled_paren start s
 
   -- ---- left-hand-side expressions: section 13.3
 

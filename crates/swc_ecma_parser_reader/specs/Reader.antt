@@ -33,7 +33,7 @@ unfoldable pub use Rattle.swc_ecma_parser_reader.specs.Bodies.{closes, at_end, c
 use Rattle.swc_ecma_parser_reader.specs.Decorators.{decorated}
 use Rattle.swc_ecma_parser_reader.specs.DecoratedStatements.{either_stmt}
 use Rattle.swc_ecma_parser_reader.specs.Members.{member_level, class_expr, class_stmt}
-unfoldable pub use Rattle.swc_ecma_parser_reader.specs.Jumps.{told, target, unbroken, break_stmt, uncontinued, continue_stmt, misplaced, after_return, operand, returned, return_stmt}
+unfoldable pub use Rattle.swc_ecma_parser_reader.specs.Jumps.{told, target, unbroken, break_stmt, uncontinued, continue_stmt, may_return, misplaced, after_return, operand, returned, return_stmt}
 unfoldable pub use Rattle.swc_ecma_parser_reader.specs.Recovery.{any_token, behind_any, end_turn, up_to_end, no_end, declaration_end, is_sign, lacks_end, operators_on, stmt_end}
 unfoldable pub use Rattle.swc_ecma_parser_reader.specs.Using.{misusing, using_from, using_stmt, await_using_stmt, await_using_or}
 use Rattle.swc_ecma_parser_reader.specs.Patterns.{pattern_level, element_level, parameter_list}

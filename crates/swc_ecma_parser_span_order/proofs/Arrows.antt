@@ -190,7 +190,7 @@ module _ (inner : Class → Reader Tree) (cover : Reader Cover) (below : (class 
     unfolding async_named_arrow
     async_named_straight s f = meets_then _ (function parameter_form (moved s)) _ (reads (function parameter_form) below_function.parameters {m = far (after s.at)} (moved s) (onward (behind f))) (λ p t h.
         meets_if _ (sees kind.Arrow t.at) _ _ (λ _. arrow_from_reads (far (after s.at)) (span_at s.at) f.begins true (p ∷ []) t (record { straight = both h.straight refl; place = h.place }))
-        (λ _. wanted_meets _ faults.Unexpected t))
+        (λ _. refuse_meets _ faults.Expected t))
 
     rest_part_reads : (n : ℕ) (found : List Cover) (s : State) → Ahead n s.at → AllCover found → Meets (λ g t. PartsRead n g t.at) (rest_part inner function found s)
     unfolding rest_part

@@ -27,7 +27,7 @@ use Rattle.swc_ecma_parser_grammar.specs.language.Contexts.{may_await, with_in}
 use Rattle.swc_ecma_parser_grammar.specs.language.Continues.{continues_conditional}
 use Rattle.swc_ecma_parser_grammar.specs.language.Goals.{Class, expression, assignment, unary, callee}
 use Rattle.swc_ecma_parser_grammar.specs.language.Operators.{assign_operator, groups_left, mixes, is_unary}
-use Rattle.swc_ecma_parser_reader.specs.Expressions.{Cover, Covers, literal_of, literal_in, taken, literal, word_property, is_word_at, key_or, literal_key, shorthand_name, shorthand, dotted, ident_expr, this, meta_fault, import_meta, bare_new, closed_left, simple, update_behind, behind_operand, postfix_at, await_allowed, right_class, operator_at, left_operand, unmixed, unassigned, unheaded, heads_arrow, no_covers, unmarked, close, target_or, target, goes_on, inside, brackets, access, spread_element, plain_element, element, arguments_turn, arguments, covered, spread_item, plain_item, item, array_turn, elements, array, computed_key, key, key_value, initialized, initialized_name, initialized_key, bare_key, behind_key, spread_property, method, behind_words, keyed_property, property, object_turn, properties, object, paren, accessed, called, left_turn, left_from, super_call, super_property, super_access, behind_super, super_head, constructed, new_head, import_call, import_head, prefixed, update_before, await_expr, operated, binary_by, binary_turn, binary_from, conditional, assigned_to, assigned, assigned_or, behind_operators, postfixed, continued, closed, assigned_pattern, behind_literal}
+use Rattle.swc_ecma_parser_reader.specs.Expressions.{Cover, Covers, literal_of, literal_in, taken, literal, word_property, is_word_at, key_or, literal_key, shorthand_name, shorthand, dotted, ident_expr, this, meta_fault, import_meta, bare_new, closed_left, simple, update_behind, behind_operand, postfix_at, await_allowed, right_class, operator_at, left_operand, unmixed, unassigned, unheaded, heads_arrow, no_covers, unmarked, close, target_or, target, goes_on, inside, brackets, access, spread_element, plain_element, element, arguments_turn, arguments, covered, spread_item, plain_item, item, array_turn, elements, array, computed_key, key, key_value, initialized, initialized_name, initialized_key, bare_key, behind_key, spread_property, method, behind_words, keyed_property, property, object_turn, properties, object, paren, accessed, called, left_turn, left_from, super_call, super_property, super_access, behind_super, super_head, constructed, new_head, import_call, import_head, prefixed, update_before, await_expr, operated, binary_by, binary_turn, binary_from, conditional, assigned_to, assigned, assigned_or, behind_operators, postfixed, continued, closed, assigned_pattern, behind_literal, empty_paren, filled_paren}
 use Rattle.swc_ecma_parser_span_order.specs.Forward.{is_forward, forward}
 use Rattle.swc_ecma_parser_reader.specs.Methods.{MethodForm, FunctionForm, expression_form, class_form, property_form, parameter_form, block_form, modifies, begins_async_method, star, starred, method_words, is_bare}
 use Rattle.swc_ecma_parser_reader.specs.State.{State, Reader, moved, coded, module_found, fault, fault_at, expect, reference, as_name, loop}
@@ -375,9 +375,10 @@ module _ (inner : Class → Reader Tree) (cover : Reader Cover) (below : (class 
         node (span_at s.at) _ f.begins h.place (λ e. both e h.straight) refl)
 
   pub paren_straight : Straight (paren inner cover)
-  unfolding paren
-  paren_straight s f = meets_then _ (inside inner cover expression (moved s)) _ (inside_reads expression {m = far (after s.at)} (moved s) (onward (behind f))) (λ x t h.
-      meets_then _ (expect kind.RParen t) _ (expect_past _ kind.RParen t h.place) (λ _ u g. node (span_at s.at) _ f.begins g (λ e. both e h.straight) refl))
+  unfolding paren empty_paren filled_paren
+  paren_straight s f = meets_if _ (sees kind.RParen (after s.at)) _ _ (λ _. wanted_meets _ faults.Unexpected (moved (moved s)))
+      (λ _. meets_then _ (inside inner cover expression (moved s)) _ (inside_reads expression {m = far (after s.at)} (moved s) (onward (behind f))) (λ x t h.
+      meets_then _ (expect kind.RParen t) _ (expect_past _ kind.RParen t h.place) (λ _ u g. node (span_at s.at) _ f.begins g (λ e. both e h.straight) refl)))
 
   -- ---- left-hand-side expressions
 

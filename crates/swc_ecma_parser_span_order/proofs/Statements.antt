@@ -21,7 +21,7 @@ use Rattle.swc_ecma_parser_grammar.specs.language.Goals.{Class, expression, left
 use Rattle.swc_ecma_parser_grammar.specs.language.Items.{sub_statement, labelled_item, nested_item}
 use Rattle.swc_ecma_parser_reader.specs.Expressions.{Cover}
 use Rattle.swc_ecma_parser_span_order.specs.Forward.{forward}
-use Rattle.swc_ecma_parser_reader.specs.Reader.{target, unbroken, break_stmt, uncontinued, continue_stmt, misplaced, operand, returned, return_stmt, lacks_end, operators_on, stmt_end, empty, debugger, declarators, variables, note_with, note_statement, no_label, expr_stmt, expr_stmt_at, optional_end, import_stmt_at, thrown, throw, head, while_stmt, with_stmt, do_while, Link, goes_on, condition, alternative, link_from, link, links, if_stmt, begins_label, relabels, labelled_body, labeled_stmt, other_stmt, begins_clause, closes_clause, clause_from, default_clause, case_clause, clause, clauses_turn, clauses, switch_stmt, begins_at, is_handled, handled, bound, parameter, finalizer, caught, handler, try_stmt, stray, items, braced, function_decl, function_stmt, const_stmt, let_stmt, using_or_other, async_or_other, stmt_by, stmt_level}
+use Rattle.swc_ecma_parser_reader.specs.Reader.{target, unbroken, break_stmt, uncontinued, continue_stmt, may_return, misplaced, operand, returned, return_stmt, lacks_end, operators_on, stmt_end, empty, debugger, declarators, variables, note_with, note_statement, no_label, expr_stmt, expr_stmt_at, optional_end, import_stmt_at, thrown, throw, head, while_stmt, with_stmt, do_while, Link, goes_on, condition, alternative, link_from, link, links, if_stmt, begins_label, relabels, labelled_body, labeled_stmt, other_stmt, begins_clause, closes_clause, clause_from, default_clause, case_clause, clause, clauses_turn, clauses, switch_stmt, begins_at, is_handled, handled, bound, parameter, finalizer, caught, handler, try_stmt, stray, items, braced, function_decl, function_stmt, const_stmt, let_stmt, using_or_other, async_or_other, stmt_by, stmt_level}
 use Rattle.swc_ecma_parser_reader.specs.State.{State, Outcome, Reader, attempted, moved, coded, noted, holding_back, module_fault, below, below_label, within, fault, fault_at, wanted, labelled, labelled_as, reference, name, expect, end}
 use Rattle.swc_ecma_parser_reader.proofs.Behind.{Kept, Lost, behind_self}
 use Rattle.swc_ecma_parser_reader.proofs.Keeps.{stray_keeps}
@@ -140,10 +140,10 @@ module _ (expr : Reader Tree) (below : Straight expr) where
 
   return_straight : Straight (return_stmt expr)
   unfolding return_stmt returned misplaced
-  return_straight s f = let m = far (after s.at) in after_return_meets _ (span_at s.at) (returned expr (span_at s.at) (moved s))
+  return_straight s f = let m = far (after s.at) in after_return_meets _ (may_return s.code) (span_at s.at) (returned expr (span_at s.at) (moved s))
       (meets_then (Read m) (operand expr (moved s)) _ (operand_reads m (moved s) (behind f)) (λ x t h.
       meets_then _ (end faults.Expected t) _ (end_past m faults.Expected t h.place) (λ _ u g. node (span_at s.at) (tree.return _ x) f.begins g (λ e. both e h.straight) refl)))
-      (λ x t h. meets_then _ (misplaced (span_at s.at) t) _ (told_past m _ t h.place) (λ _ u k. moved_on h k))
+      (λ x t h. meets_then _ (misplaced (may_return s.code) (span_at s.at) t) _ (told_past m _ t h.place) (λ _ u k. moved_on h k))
 
   throw_straight : Straight (throw expr)
   unfolding throw thrown spanned

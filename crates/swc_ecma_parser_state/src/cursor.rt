@@ -326,6 +326,10 @@ impl<O: Origin, I: Tokens> Cursor for Call<O, I> {
         Call::refuse_as(self, kind)
     }
 
+    fn refuse(&mut self, wanted: Wanted) -> Error {
+        Call::refuse(self, wanted)
+    }
+
     #[tactic(auto, using(crate::proofs::Primitives::deep_error, crate::proofs::Primitives::deep_end, crate::proofs::Primitives::deep_plain))]
     fn too_deep(&mut self) -> Error {
         if self.is_at_end() {
@@ -358,7 +362,7 @@ impl<O: Origin, I: Tokens> Cursor for Call<O, I> {
     #[tactic(auto, unfolding(swc_ecma_parser_reader::specs::State::expect))]
     fn expect(&mut self, kind: TokenKind, spelling: &'static str) -> PResult<()> {
         if !self.sees(kind) {
-            return Err(self.refuse(Wanted::Token(spelling)));
+            return Err(Call::refuse(self, Wanted::Token(spelling)));
         }
         self.skip()
     }
@@ -366,7 +370,7 @@ impl<O: Origin, I: Tokens> Cursor for Call<O, I> {
     #[tactic(auto, unfolding(swc_ecma_parser_reader::specs::State::expect_word))]
     fn expect_word(&mut self, text: &'static str) -> PResult<()> {
         if !self.word_at(text) {
-            return Err(self.refuse(Wanted::Token(text)));
+            return Err(Call::refuse(self, Wanted::Token(text)));
         }
         self.skip()
     }
@@ -379,7 +383,7 @@ impl<O: Origin, I: Tokens> Cursor for Call<O, I> {
         if self.can_end() {
             return Ok(());
         }
-        Err(self.refuse(wanted))
+        Err(Call::refuse(self, wanted))
     }
 
     #[tactic(auto, using(crate::proofs::Taken::name_clean))]

@@ -180,7 +180,9 @@ impl<O: Origin, I: Tokens> Call<O, I> {
 
     /// The parser's own refusal of what stands here. An error token is read and recorded.
     pub(crate) fn refuse(&mut self, wanted: Wanted) -> Error
-        ensures { kind_of result.kind ≢ kinds.OutOfMemory
+        ensures tree { kind_of result.kind ≢ kinds.OutOfMemory
+            → reader.refuse {A = Tree} (wanted_kind wanted) self.old ≡ Err (fault_of result, self.new) }
+        ensures unit { kind_of result.kind ≢ kinds.OutOfMemory
             → reader.refuse {A = Unit {0}} (wanted_kind wanted) self.old ≡ Err (fault_of result, self.new) }
     {
         match self.missing(wanted) {

@@ -20,12 +20,19 @@ use swc_ecma_parser_shared::steps::{grown, since};
 use swc_ecma_parser_token::TokenKind;
 use swc_ecma_parser_trees::{BuildsControl, MakerOf, Trees};
 
-/// Records that no function stands around a `return`, up to what was read last; a setting asks for none.
-#[tactic(auto, unfolding(swc_ecma_parser_reader::specs::Reader::misplaced))]
-fn misplaced<P: Cursor>(p: &mut P, start: Span) -> PResult<()>
-    ensures { Gives (rules.misplaced start (P.seen p.old)) result (P.seen p.new) }
+/// Whether a `return` may stand here: a function stands around it, or the setting asks for none.
+fn may_return<P: Cursor>(p: &P) -> bool
+    ensures { result ≡ rules.may_return (P.seen p.now).code }
 {
-    if !p.flags().in_function && !p.allow_return_outside_function() {
+    p.flags().in_function || p.allow_return_outside_function()
+}
+
+/// Records that a `return` stands where it may not, up to what was read last.
+#[tactic(auto, unfolding(swc_ecma_parser_reader::specs::Reader::misplaced))]
+fn misplaced<P: Cursor>(p: &mut P, may_return: bool, start: Span) -> PResult<()>
+    ensures { Gives (rules.misplaced may_return start (P.seen p.old)) result (P.seen p.new) }
+{
+    if !may_return {
         let span = since(p, start);
         p.fault(SyntaxError::ReturnNotAllowed, span)?;
     }
@@ -33,16 +40,16 @@ fn misplaced<P: Cursor>(p: &mut P, start: Span) -> PResult<()>
 }
 
 /// The refusal of what stands behind `return`, with the fault of its own recorded. One for want of memory or depth stays as it is.
-fn refused<P: Cursor>(p: &mut P, start: Span, error: Error) -> Error
+fn refused<P: Cursor>(p: &mut P, may_return: bool, start: Span, error: Error) -> Error
     ensures memory { kind_of result.kind ≢ kinds.OutOfMemory → kind_of error.kind
         ≢ kinds.OutOfMemory }
     ensures gives { kind_of result.kind ≢ kinds.OutOfMemory
-        → rules.after_return start (Err (fault_of error, P.seen p.old)) ≡ Err (fault_of result, P.seen p.new) }
+        → rules.after_return may_return start (Err (fault_of error, P.seen p.old)) ≡ Err (fault_of result, P.seen p.new) }
 {
     if matches!(error.kind, SyntaxError::OutOfMemory) || p.is_marked() {
         return error;
     }
-    match misplaced(p, start) {
+    match misplaced(p, may_return, start) {
         Ok(()) => error,
         Err(error) => error,
     }
@@ -111,12 +118,13 @@ pub fn return_stmt<
 {
     let start = p.span();
     p.skip()?;
+    let may_return = may_return(p);
     match returned(g, t, p, start) {
         Ok(stmt) => {
-            misplaced(p, start)?;
+            misplaced(p, may_return, start)?;
             Ok(stmt)
         }
-        Err(error) => Err(refused(p, start, error)),
+        Err(error) => Err(refused(p, may_return, start, error)),
     }
 }
 

@@ -31,7 +31,7 @@ use Rattle.swc_ecma_parser_grammar.proofs.Tests.{and_yes, and_no}
 use Rattle.swc_ecma_parser_reader.specs.Notes.{Notes, ◌⊕◌, notes_of}
 use Rattle.swc_ecma_parser_reader.specs.State.{and_then, ◌>>=◌, Scope, State, Reader, name}
 use Rattle.swc_ecma_parser_reader.specs.Methods.{FunctionForm, expression_form, class_form}
-use Rattle.swc_ecma_parser_reader.specs.Expressions.{Cover, close, literal_of, literal, ident_expr, this, bare_new, access, arguments, array, property, object, paren, marked_primary, primary, accessed, called, left_turn, left_from, super_call, super_access, behind_super, super_head, constructed, new_head, import_call, meta_fault, import_meta, import_head, left_head, left, named_expr}
+use Rattle.swc_ecma_parser_reader.specs.Expressions.{Cover, close, literal_of, literal, ident_expr, this, bare_new, access, arguments, array, property, object, paren, marked_primary, primary, accessed, called, left_turn, left_from, super_call, super_access, behind_super, super_head, constructed, new_head, import_call, meta_fault, import_meta, import_head, left_head, left, named_expr, filled_paren}
 use Rattle.swc_ecma_parser_reader.proofs.Notes.{or_nil, or_true, or_assoc}
 use Rattle.swc_ecma_parser_reader.proofs.Answered.{st, Reads, Calm, ReadsCalm, ReadsAs}
 use Rattle.swc_ecma_parser_reader.proofs.Calm.{calm_first}
@@ -39,6 +39,7 @@ use Rattle.swc_ecma_parser_reader.proofs.Errors.{is_error}
 use Rattle.swc_ecma_parser_reader.proofs.Steps.{loop_more, loop_done}
 use Rattle.swc_ecma_parser_reader.proofs.expressions.Falls.{access_falls, arguments_fall}
 use Rattle.swc_ecma_parser_reader.proofs.expressions.Loops.{shorter_by}
+use Rattle.swc_ecma_parser_reader.proofs.expressions.Groups.{expression_opens}
 use Rattle.swc_ecma_parser_reader.proofs.expressions.CompleteParts.{expect_reads, reference_reads, literal_reads, AsExpr, IsRead, IsFunctionRead, inside_reads, access_reads, access_calm, access_seen, super_property_reads, arguments_read}
 use Rattle.swc_ecma_parser_reader.proofs.expressions.CompleteCovers.{array_reads, object_reads}
 use Rattle.swc_ecma_parser_reader.proofs.expressions.CompleteKinds.{supported_as, seen, named, null_unnamed, true_unnamed, false_unnamed, paren_here, array_here, object_here, this_here, function_here, class_here, primary_first, primary_seen, named_word}
@@ -98,9 +99,10 @@ module _ (In : Goal → Type 0) (inner : Class → Reader Tree) (cover : Reader 
 
   paren_reads : (e : Tree) (m : Place) (k : Code) (x : Tree) (c d : Place) → In (expr_goal expression (with_in k) e (after c) m) → supported_in k.flags.module e ≡ true → kind_at m ≡ kind.RParen → d ≡ after m
       → x ≡ tree.paren (spanned c d) e → Reads (paren inner cover) k x c d
-  unfolding paren spanned
+  unfolding paren filled_paren spanned
   paren_reads e m k x c d r s g i j w f h =
-      rw (inside_reads In inner cover given expression k e (after c) m r s w f h (inr (ap is_error g)), expect_reads kind.RParen m k w (f ++ walk (env_of k w.labels) e) (h ⊕ notes_of e) g, j, i) refl
+      let o : sees kind.RParen (after c) ≡ false = expression_opens inner cover given.tied given.parts (st (after c) (with_in k) w f h) e _ (given.reads expression (with_in k) e (after c) m r s w f h (inr (ap is_error g))) in
+      rw (o, inside_reads In inner cover given expression k e (after c) m r s w f h (inr (ap is_error g)), expect_reads kind.RParen m k w (f ++ walk (env_of k w.labels) e) (h ⊕ notes_of e) g, j, i) refl
 
   name_primary : (text : Text) (sp : Span) (k : Code) (x : Tree) (c d : Place) (r : ReadsName k text sp c d) → is_name k.flags (word_text r.word) ≡ true → is_async_function c ≡ false
       → x ≡ tree.ident sp text → Reads (primary inner cover function) k x c d

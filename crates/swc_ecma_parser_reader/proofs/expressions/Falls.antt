@@ -33,7 +33,7 @@ use Rattle.swc_ecma_parser_grammar.specs.language.Operators.{unary_operator, upd
 use Rattle.swc_ecma_parser_grammar.specs.language.Continues.{continues_conditional}
 use Rattle.swc_ecma_parser_reader.specs.State.{State, Outcome, Reader, and_then, moved, module_found, coded, within, enclosed, unlabelled, reject, reject_in, reject_at, fault, fault_at, expect, loop, as_name, reference}
 use Rattle.swc_ecma_parser_reader.specs.Methods.{MethodForm, FunctionForm, expression_form, class_form, property_form, parameter_form, block_form, modifies, begins_async_method, star, starred, method_words, is_bare}
-use Rattle.swc_ecma_parser_reader.specs.Expressions.{Cover, Covers, no_covers, with_cover, unmarked, close, target_or, target, goes_on, literal, literal_in, taken, any_word, word_in, word_by, touching_word, private_name, word_property, is_word_at, key_or, literal_key, shorthand_name, shorthand, dotted, ident_expr, this, bare_new, closed_left, simple, update_behind, behind_operand, postfix_at, right_class, operator_at, left_operand, unmixed, unassigned, unheaded, heads_arrow, begins_async_call, inside, brackets, access, spread_element, plain_element, element, behind_comma, behind_argument, arguments_turn, arguments, covered, spread_item, plain_item, item, behind_item, array_turn, elements, array, computed_key, key, key_value, initialized, initialized_name, initialized_key, bare_key, behind_key, method, behind_words, keyed_property, spread_property, property, behind_property, object_turn, properties, object, paren, marked_primary, literal_or, primary, accessed, called, left_turn, left_from, super_call, super_property, super_access, behind_super, super_head, constructed, new_head, import_call, meta_fault, import_meta, import_head, left_head, left, left_expr, prefixed, update_before, await_allowed, await_expr, postfix, updated, unary_by, unary_expr, operated, binary_by, binary_turn, binary_from, binary_expr, conditional, assigned_to, assigned, assigned_or, behind_operators, operators_expr, plain_expr, postfixed, continued, closed, assigned_pattern, behind_literal, open_literal, done_expr, cover_expr, assignment_expr, sequence_turn, sequence_from, expression_expr, expr_level, named_expr}
+use Rattle.swc_ecma_parser_reader.specs.Expressions.{Cover, Covers, no_covers, with_cover, unmarked, close, target_or, target, goes_on, literal, literal_in, taken, any_word, word_in, word_by, touching_word, private_name, word_property, is_word_at, key_or, literal_key, shorthand_name, shorthand, dotted, ident_expr, this, bare_new, closed_left, simple, update_behind, behind_operand, postfix_at, right_class, operator_at, left_operand, unmixed, unassigned, unheaded, heads_arrow, begins_async_call, inside, brackets, access, spread_element, plain_element, element, behind_comma, behind_argument, arguments_turn, arguments, covered, spread_item, plain_item, item, behind_item, array_turn, elements, array, computed_key, key, key_value, initialized, initialized_name, initialized_key, bare_key, behind_key, method, behind_words, keyed_property, spread_property, property, behind_property, object_turn, properties, object, paren, marked_primary, literal_or, primary, accessed, called, left_turn, left_from, super_call, super_property, super_access, behind_super, super_head, constructed, new_head, import_call, meta_fault, import_meta, import_head, left_head, left, left_expr, prefixed, update_before, await_allowed, await_expr, postfix, updated, unary_by, unary_expr, operated, binary_by, binary_turn, binary_from, binary_expr, conditional, assigned_to, assigned, assigned_or, behind_operators, operators_expr, plain_expr, postfixed, continued, closed, assigned_pattern, behind_literal, open_literal, done_expr, cover_expr, assignment_expr, sequence_turn, sequence_from, expression_expr, expr_level, named_expr, filled_paren, empty_paren}
 use Rattle.swc_ecma_parser_reader.specs.Jumps.{told}
 use Rattle.swc_ecma_parser_reader.specs.Arrows.{begins_named_arrow, Group, behind_part, closed_parts, may_stand_alone, closed_group, parameter_or, parameter, parameters_of, arrow_body, arrow_from, named_arrow, rest_part, part_turn, group_parts, group, behind_group, grouped}
 use Rattle.swc_ecma_parser_reader.specs.AsyncArrows.{Argument, closed_arguments, closed_argument, argument_pattern, argument_parameter, argument_parameters, async_called, spread_argument, plain_argument, argument, either_turn, either_arguments, begins_async_arrow, async_named_arrow, behind_async, async_grouped}
@@ -404,10 +404,15 @@ module _ (inner : Class → Reader Tree) (cover : Reader Cover) (h : (class : Cl
     unfolding object properties
     object_falls s e = falls_last 1 (length s.at.left) (properties inner cover function s) _ (falls_past s _ e (loop_falls (object_turn inner cover function) object_turn_falls no_covers (moved s)))
 
+  filled_paren_falls : (start : Span) (s : State) → Falls 1 (length s.at.left) (filled_paren inner cover start s)
+  unfolding filled_paren
+  filled_paren_falls start s = falls_next (length s.at.left) (inside inner cover expression s) _ (inside_falls expression s) (λ e t.
+      falls_last 0 (length t.at.left) (expect kind.RParen t) _ (expect_falls kind.RParen t))
+
   paren_falls : (s : State) → Falls 1 (length s.at.left) (paren inner cover s)
-  unfolding paren
-  paren_falls s = falls_moved 1 s _ (falls_next (length (after s.at).left) (inside inner cover expression (moved s)) _ (inside_falls expression (moved s)) (λ e t.
-      falls_last 0 (length t.at.left) (expect kind.RParen t) _ (expect_falls kind.RParen t)))
+  unfolding paren empty_paren
+  paren_falls s = falls_moved 1 s _ (falls_if 1 (length (after s.at).left) (sees kind.RParen (after s.at)) _ _ (wanted_falls Tree 1 (length (after s.at).left) faults.Unexpected (moved (moved s)))
+      (filled_paren_falls (span_at s.at) (moved s)))
 
   pub accessed_falls : (start : Span) (x : Tree) (s : State) → Falls 1 (length s.at.left) (accessed inner cover start x s)
   unfolding accessed
@@ -693,7 +698,7 @@ module _ (inner : Class → Reader Tree) (cover : Reader Cover) (h : (class : Cl
     async_named_falls : (s : State) → Falls 1 (length s.at.left) (async_named_arrow inner function s)
     unfolding async_named_arrow
     async_named_falls s = falls_moved 1 s _ (falls_next (length (after s.at).left) (function parameter_form (moved s)) _ (i.parameters (moved s)) (λ p t.
-        falls_if 0 (length t.at.left) (sees kind.Arrow t.at) _ _ (arrow_from_falls true (span_at s.at) (p ∷ []) t) (wanted_falls Tree 0 (length t.at.left) faults.Unexpected t)))
+        falls_if 0 (length t.at.left) (sees kind.Arrow t.at) _ _ (arrow_from_falls true (span_at s.at) (p ∷ []) t) (refuse_falls Tree 0 (length t.at.left) faults.Expected t)))
 
     behind_async_falls : (start : Span) (x : Tree) (found : List Argument) (s : State) → Falls 0 (length s.at.left) (behind_async inner function cover start x found s)
     unfolding async_called

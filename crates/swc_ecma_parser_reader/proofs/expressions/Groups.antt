@@ -2,6 +2,7 @@
 use Rattle.std.proofs.Common.{◌≡◌, ◌<◌, ◌⊎◌, inl, inr, Bool, true, false, List, [], ◌∷◌, ◌++◌, length, Option, Some, None, Ok, refl, sym, ◌∙◌, ap, subst, arith}
 use Rattle.std.specs.Prelude.{not, is_some, if◌then◌else◌}
 use Rattle.swc_ecma_parser_common.specs.declared.span.Span.{Span}
+use Rattle.swc_ecma_parser_error.specs.Kind as faults
 use Rattle.swc_ecma_parser_token.specs.declared.kind.TokenKind.{TokenKind}
 use Rattle.swc_ecma_parser_token.specs.declared.kind.TokenKind.TheVariants as kind
 use Rattle.swc_ecma_parser_input.specs.Place.{Place, after}
@@ -13,10 +14,10 @@ use Rattle.swc_ecma_parser_grammar.specs.Follows.{continues_left_side}
 use Rattle.swc_ecma_parser_grammar.specs.language.Contexts.{with_in}
 use Rattle.swc_ecma_parser_grammar.specs.language.Goals.{Class, expression, assignment}
 use Rattle.swc_ecma_parser_grammar.proofs.Tests.{and_yes, and_no}
-use Rattle.swc_ecma_parser_reader.specs.State.{State, Outcome, Reader, and_then, ◌>>=◌, ◌>>◌, pure, span_here, since, skip, moved, coded, flagged, within, expect, Step, More, Done, loop}
+use Rattle.swc_ecma_parser_reader.specs.State.{State, Outcome, Reader, and_then, ◌>>=◌, ◌>>◌, pure, span_here, since, skip, moved, coded, flagged, within, expect, Step, More, Done, loop, wanted}
 use Rattle.swc_ecma_parser_reader.specs.Methods.{FunctionForm, parameter_form}
 use Rattle.swc_ecma_parser_reader.specs.Words.{is_head, heads_arrow}
-use Rattle.swc_ecma_parser_reader.specs.Operands.{Cover, operator_at, unheaded, close, inside, covered, paren, behind_operators, continued}
+use Rattle.swc_ecma_parser_reader.specs.Operands.{Cover, operator_at, unheaded, close, inside, covered, paren, behind_operators, continued, empty_paren, filled_paren}
 use Rattle.swc_ecma_parser_reader.specs.Arrows.{Parts, Group, ended, group_of, closed_parts, parted, has_parts, may_stand_alone, closed_group, parameters_of, arrow_from, behind_part, rest_part, part_turn, group_parts, group, grouped}
 use Rattle.swc_ecma_parser_reader.specs.Expressions.{operators_expr}
 use Rattle.swc_ecma_parser_reader.proofs.Steps.{then_ok, chosen, loop_more, loop_done}
@@ -309,6 +310,12 @@ module _ (cover : Reader Cover) (b : State) where
   sequence_is : (x : Tree) (t : State) → sequenced_by cover b ≡ Ok (x, t) → Parted x t
   sequence_is x t e = met Parted (sequenced_by cover b) x t sequence_parts e
 
+-- an expression does not begin with `)`
+pub expression_opens : (inner : Class → Reader Tree) (cover : Reader Cover) → IsTied inner cover → ReadsParts cover → (s : State) (x : Tree) (t : State) → inner expression s ≡ Ok (x, t) → sees kind.RParen s.at ≡ false
+expression_opens inner cover tied parts s x t e =
+    let o = (sequence_is cover s x t (sym (tied.whole s) ∙ e)).ended in
+    first_begun cover parts s o.before o.m o.begun (parts.begins o.m o.v t o.reads).0
+
 -- ---- in parentheses
 
 -- The code inside differs in `in` alone: from the state outside the same state is come to.
@@ -457,8 +464,10 @@ module _ (inner : Class → Reader Tree) (function : FunctionForm → Reader Tre
 
   paren_reads : (vs : List Cover) (u : State) → Ended cover inside_state vs u → Unmarked vs → sees kind.RParen u.at ≡ true
       → paren inner cover s ≡ Ok (in_parens (span_at s.at) (group_to vs u) (behind_close u), behind_close u)
-  unfolding paren inside expect
-  paren_reads vs u o h c = rw (tied.whole inside_state, sequence_reads cover reads_parts inside_state vs u o h (close_apart u.at c), c) refl
+  unfolding paren filled_paren inside expect
+  paren_reads vs u o h c =
+      let i : sees kind.RParen (after s.at) ≡ false = first_begun cover reads_parts inside_state o.before o.m o.begun (reads_parts.begins o.m o.v u o.reads).0 in
+      rw (i, tied.whole inside_state, sequence_reads cover reads_parts inside_state vs u o h (close_apart u.at c), c) refl
 
   -- a group that is closed is what stands in parentheses
   pub group_paren : (g : Group) (m : State) (e : Tree) (t : State) → group inner function cover s ≡ Ok (g, m) → closed_group (span_at s.at) g m ≡ Ok (e, t)
@@ -480,9 +489,9 @@ module _ (inner : Class → Reader Tree) (function : FunctionForm → Reader Tre
     pub alone : StandsAlone g
     pub is : in_parens (span_at s.at) g t ≡ e
 
-  pub paren_group : (e : Tree) (t : State) → paren inner cover s ≡ Ok (e, t) → AsClosed e t
-  unfolding paren inside
-  paren_group e t r =
+  filled_group : (e : Tree) (t : State) → filled_paren inner cover (span_at s.at) (moved s) ≡ Ok (e, t) → AsClosed e t
+  unfolding filled_paren inside
+  filled_group e t r =
       let (x, n, within_parens, more) = then_ok (inside inner cover expression (moved s)) _ e t r in
       let (y, u, q, l) = then_ok (inner expression inside_state) _ x n within_parens in
       let (j, at) = same_answer y x (flagged s.code u) n l in
@@ -501,6 +510,13 @@ module _ (inner : Class → Reader Tree) (function : FunctionForm → Reader Tre
         alone = h;
         is = form;
       }
+
+  pub paren_group : (e : Tree) (t : State) → paren inner cover s ≡ Ok (e, t) → AsClosed e t
+  unfolding paren empty_paren
+  paren_group e t r = elim (chosen (sees kind.RParen (after s.at)) _ _ _ r) [
+    | inl h ↦ absurd (met (λ _ _. ⊥) (wanted faults.Unexpected (moved (moved s))) e t (wanted_meets _ faults.Unexpected (moved (moved s))) h.1)
+    | inr h ↦ filled_group e t h.1
+  ]
 
   -- ---- what stands before `=>` is no expression
 

@@ -31,7 +31,7 @@ use Rattle.swc_ecma_parser_grammar.specs.language.Operators.{unary_operator, upd
 use Rattle.swc_ecma_parser_grammar.specs.language.Continues.{continues_conditional}
 use Rattle.swc_ecma_parser_reader.specs.State.{State, Reader, and_then, ◌>>=◌, moved, noted, module_found, coded, within, enclosed, unlabelled, wanted, fault_at, fault, expect, loop, as_name, reference}
 use Rattle.swc_ecma_parser_reader.specs.Methods.{MethodForm, FunctionForm, expression_form, class_form, property_form, parameter_form, block_form, modifies, begins_async_method, star, starred, method_words, is_bare}
-use Rattle.swc_ecma_parser_reader.specs.Expressions.{Cover, no_covers, unmarked, close, target_or, target, goes_on, literal, literal_in, taken, any_word, word_in, word_by, touching_word, private_name, word_property, is_word_at, key_or, literal_key, shorthand_name, shorthand, dotted, ident_expr, this, bare_new, closed_left, simple, update_behind, behind_operand, postfix_at, right_class, read_operator, operator_at, left_operand, unmixed, unassigned, unassignable, unheaded, heads_arrow, begins_async_call, inside, brackets, access, spread_element, plain_element, element, arguments_turn, arguments, covered, spread_item, plain_item, item, array_turn, elements, array, computed_key, key, key_value, initialized, initialized_name, initialized_key, bare_key, behind_key, method, behind_words, keyed_property, spread_property, property, object_turn, properties, object, paren, marked_primary, literal_or, primary, accessed, called, left_turn, left_from, super_call, super_property, super_access, behind_super, super_head, constructed, new_head, import_call, meta_fault, import_meta, import_head, left_head, left, left_expr, prefixed, update_before, await_expr, postfix, updated, unary_by, unary_expr, operated, binary_by, binary_turn, binary_from, binary_expr, conditional, assigned_to, assigned, assigned_or, behind_operators, operators_expr, plain_expr, postfixed, continued, closed, assigned_pattern, behind_literal, open_literal, done_expr, cover_expr, assignment_expr, sequence_turn, sequence_from, expression_expr, expr_level, named_expr}
+use Rattle.swc_ecma_parser_reader.specs.Expressions.{Cover, no_covers, unmarked, close, target_or, target, goes_on, literal, literal_in, taken, any_word, word_in, word_by, touching_word, private_name, word_property, is_word_at, key_or, literal_key, shorthand_name, shorthand, dotted, ident_expr, this, bare_new, closed_left, simple, update_behind, behind_operand, postfix_at, right_class, read_operator, operator_at, left_operand, unmixed, unassigned, unassignable, unheaded, heads_arrow, begins_async_call, inside, brackets, access, spread_element, plain_element, element, arguments_turn, arguments, covered, spread_item, plain_item, item, array_turn, elements, array, computed_key, key, key_value, initialized, initialized_name, initialized_key, bare_key, behind_key, method, behind_words, keyed_property, spread_property, property, object_turn, properties, object, paren, marked_primary, literal_or, primary, accessed, called, left_turn, left_from, super_call, super_property, super_access, behind_super, super_head, constructed, new_head, import_call, meta_fault, import_meta, import_head, left_head, left, left_expr, prefixed, update_before, await_expr, postfix, updated, unary_by, unary_expr, operated, binary_by, binary_turn, binary_from, binary_expr, conditional, assigned_to, assigned, assigned_or, behind_operators, operators_expr, plain_expr, postfixed, continued, closed, assigned_pattern, behind_literal, open_literal, done_expr, cover_expr, assignment_expr, sequence_turn, sequence_from, expression_expr, expr_level, named_expr, filled_paren, empty_paren}
 use Rattle.swc_ecma_parser_reader.specs.Jumps.{told}
 use Rattle.swc_ecma_parser_reader.specs.Arrows.{begins_named_arrow, Group, behind_part, closed_parts, may_stand_alone, closed_group, parameter, parameter_or, parameters_of, arrow_body, arrow_from, named_arrow, rest_part, part_turn, group_parts, group, behind_group, grouped}
 use Rattle.swc_ecma_parser_reader.specs.AsyncArrows.{Argument, closed_arguments, closed_argument, argument_pattern, argument_parameter, argument_parameters, async_called, spread_argument, plain_argument, argument, either_turn, either_arguments, begins_async_arrow, async_named_arrow, behind_async, async_grouped}
@@ -411,12 +411,17 @@ module _ (inner : Class → Reader Tree) (cover : Reader Cover) (below : (class 
       unfolding object
       object_keeps s e f = answers_then _ _ (properties inner cover function s) _ (properties_keeps s e f) (λ xs t g. g)
 
+    filled_paren_keeps : (start : Span) (s : State) → NothingLost b s → Answers (Kept b) (Lost b) (filled_paren inner cover start s)
+    unfolding filled_paren
+    filled_paren_keeps start s f = answers_then _ _ (inside inner cover expression s) _ (inside_keeps expression b s f) (λ x t k.
+        answers_then _ _ (expect kind.RParen t) _ (expect_keeps b t k kind.RParen refl) (λ _ u j. j))
+
     paren_keeps : (s : State) → kind_at s.at ≡ kind.LParen → NothingLost b s → Answers (Kept b) (Lost b) (paren inner cover s)
-    unfolding paren
+    unfolding paren empty_paren
     paren_keeps s e f =
         let g = behind_after b s e refl f in
-        answers_then _ _ (inside inner cover expression (moved s)) _ (inside_keeps expression b (moved s) g) (λ x t k.
-        answers_then _ _ (expect kind.RParen t) _ (expect_keeps b t k kind.RParen refl) (λ _ u j. j))
+        answers_if _ _ (sees kind.RParen (after s.at)) _ _ (λ h. unexpected_keeps b (moved (moved s)) (behind_seen b (moved s) kind.RParen h refl g) _)
+        (λ _. filled_paren_keeps (span_at s.at) (moved s) g)
 
     -- ---- left-hand sides
 
@@ -717,7 +722,7 @@ module _ (inner : Class → Reader Tree) (cover : Reader Cover) (below : (class 
       async_named_keeps : (s : State) → begins_async_arrow s.code.flags s.at ≡ true → NothingLost b s → Answers (Kept b) (Lost b) (async_named_arrow inner function s)
       unfolding async_named_arrow
       async_named_keeps s e f = answers_then _ _ (function parameter_form (moved s)) _ (below_function.passes parameter_form b (moved s) tt (behind_after b s (async_arrow_kind s.code.flags s.at e) refl f)) (λ p t g.
-          answers_if _ _ (sees kind.Arrow t.at) _ _ (λ e. arrow_from_keeps true (span_at s.at) (p ∷ []) t (saw t.at kind.Arrow e) g) (λ _. unexpected_keeps b t g _))
+          answers_if _ _ (sees kind.Arrow t.at) _ _ (λ e. arrow_from_keeps true (span_at s.at) (p ∷ []) t (saw t.at kind.Arrow e) g) (λ _. refuse_keeps _ faults.Expected b t g))
 
       behind_async_keeps : (start : Span) (x : Tree) (found : List Argument) (s : State) → NothingLost b s → Answers (Kept b) (Lost b) (behind_async inner function cover start x found s)
       unfolding async_called

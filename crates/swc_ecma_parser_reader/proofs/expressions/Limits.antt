@@ -26,7 +26,7 @@ use Rattle.swc_ecma_parser_grammar.specs.language.Goals.{Class, expression, assi
 use Rattle.swc_ecma_parser_grammar.specs.language.Operators.{unary_operator, update_operator, binary_operator, assign_operator}
 use Rattle.swc_ecma_parser_reader.specs.State.{State, Reader, and_then, ◌>>=◌, moved, noted, module_found, coded, within, enclosed, unlabelled, fault_at, fault, expect, loop, as_name}
 use Rattle.swc_ecma_parser_reader.specs.Methods.{MethodForm, FunctionForm, expression_form, class_form, property_form, parameter_form, block_form, modifies, begins_async_method, star, starred, method_words, is_bare}
-use Rattle.swc_ecma_parser_reader.specs.Expressions.{Cover, no_covers, close, target, goes_on, literal, any_word, word_property, is_word_at, shorthand, ident_expr, bare_new, simple, behind_operand, postfix_at, right_class, read_operator, operator_at, left_operand, unmixed, unassigned, unassignable, begins_async_call, inside, brackets, access, spread_element, plain_element, element, arguments_turn, arguments, covered, spread_item, plain_item, item, array_turn, elements, array, computed_key, key, key_value, initialized, initialized_name, initialized_key, bare_key, behind_key, method, behind_words, keyed_property, spread_property, property, object_turn, properties, object, paren, marked_primary, literal_or, primary, accessed, called, left_turn, left_from, super_call, super_property, super_access, behind_super, super_head, constructed, new_head, import_call, meta_fault, import_meta, import_head, left_head, left, left_expr, prefixed, update_before, await_expr, postfix, updated, unary_by, unary_expr, operated, binary_by, binary_turn, binary_from, binary_expr, conditional, assigned_to, assigned, assigned_or, behind_operators, operators_expr, plain_expr, postfixed, continued, closed, assigned_pattern, behind_literal, open_literal, done_expr, cover_expr, assignment_expr, sequence_turn, sequence_from, expression_expr, expr_level, named_expr}
+use Rattle.swc_ecma_parser_reader.specs.Expressions.{Cover, no_covers, close, target, goes_on, literal, any_word, word_property, is_word_at, shorthand, ident_expr, bare_new, simple, behind_operand, postfix_at, right_class, read_operator, operator_at, left_operand, unmixed, unassigned, unassignable, begins_async_call, inside, brackets, access, spread_element, plain_element, element, arguments_turn, arguments, covered, spread_item, plain_item, item, array_turn, elements, array, computed_key, key, key_value, initialized, initialized_name, initialized_key, bare_key, behind_key, method, behind_words, keyed_property, spread_property, property, object_turn, properties, object, paren, marked_primary, literal_or, primary, accessed, called, left_turn, left_from, super_call, super_property, super_access, behind_super, super_head, constructed, new_head, import_call, meta_fault, import_meta, import_head, left_head, left, left_expr, prefixed, update_before, await_expr, postfix, updated, unary_by, unary_expr, operated, binary_by, binary_turn, binary_from, binary_expr, conditional, assigned_to, assigned, assigned_or, behind_operators, operators_expr, plain_expr, postfixed, continued, closed, assigned_pattern, behind_literal, open_literal, done_expr, cover_expr, assignment_expr, sequence_turn, sequence_from, expression_expr, expr_level, named_expr, filled_paren, empty_paren}
 use Rattle.swc_ecma_parser_reader.specs.Jumps.{told}
 use Rattle.swc_ecma_parser_reader.specs.AsyncArrows.{Argument, closed_arguments, argument_parameters, async_called, spread_argument, plain_argument, argument, either_turn, either_arguments, begins_async_arrow, async_named_arrow, behind_async, async_grouped}
 use Rattle.swc_ecma_parser_reader.specs.Arrows.{begins_named_arrow, Group, closed_group, parameters_of, arrow_body, arrow_from, named_arrow, rest_part, part_turn, group_parts, group, behind_group, grouped}
@@ -254,11 +254,12 @@ module _ {T : Fault → Type 0} where
         object_shallow s e f = answers_then _ _ (properties inner cover function s) _ (properties_shallow s e f) (λ xs t g. g)
 
       paren_shallow : (s : State) → kind_at s.at ≡ kind.LParen → Fine T m s.at.left → Answers (Kept T m) (Shallow T) (paren inner cover s)
-      unfolding paren
+      unfolding paren empty_paren filled_paren
       paren_shallow s e f =
           let (i, h, g) = fine_taken m s.at kind.LParen e (λ z. cc) f in
-          answers_then _ _ (inside inner cover expression (moved s)) _ (inside_shallow expression i (moved s) (omega arith) g) (λ x t k.
-          answers_then _ _ (expect kind.RParen t) _ (expect_shallow i t k kind.RParen) (λ _ u j. fine_more i m u.at.left (omega arith) j))
+          answers_if _ _ (sees kind.RParen (after s.at)) _ _ (λ _. unexpected_shallow i (moved (moved s)) (fine_after i (after s.at) g) _)
+          (λ _. answers_then _ _ (inside inner cover expression (moved s)) _ (inside_shallow expression i (moved s) (omega arith) g) (λ x t k.
+          answers_then _ _ (expect kind.RParen t) _ (expect_shallow i t k kind.RParen) (λ _ u j. fine_more i m u.at.left (omega arith) j)))
 
       -- ---- left-hand sides
 
@@ -546,7 +547,7 @@ module _ {T : Fault → Type 0} where
             let named = (and_parts (not (breaks_at (after s.at))) (name_at s.code.flags (after s.at)) (and_parts (word_at (codes "async") s.at) _ e).1).1 in
             answers_then _ _ (function parameter_form (moved s)) _ (below_function.names m (moved s) enough named (fine_after m s.at f)) (λ p t (i, h, g).
             answers_if _ _ (sees kind.Arrow t.at) _ _ (λ _. kept_more T i m (arrow_from inner function true (span_at s.at) (p ∷ []) t) (omega arith)
-            (arrow_from_shallow function below_function true (span_at s.at) (p ∷ []) i t (omega arith) g)) (λ _. unexpected_shallow i t g _))
+            (arrow_from_shallow function below_function true (span_at s.at) (p ∷ []) i t (omega arith) g)) (λ _. refuse_shallow _ faults.Expected (λ e. cc) i t g))
 
         behind_async_shallow : (start : Span) (x : Tree) (found : List Argument) (s : State) → Taken T m found s → Answers (Kept T m) (Shallow T) (behind_async inner function cover start x found s)
         unfolding async_called

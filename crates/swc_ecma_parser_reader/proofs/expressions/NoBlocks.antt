@@ -16,6 +16,7 @@ use Rattle.swc_ecma_parser_model.specs.declared.operators.AssignOp.TheVariants a
 use Rattle.swc_ecma_parser_model.specs.Tree.{Tree, listed}
 use Rattle.swc_ecma_parser_model.specs.Kinds.{is_block}
 use Rattle.swc_ecma_parser_model.specs.Forms.{is_simple_target, has_plain_params}
+use Rattle.swc_ecma_parser_input.specs.Place.{after}
 use Rattle.swc_ecma_parser_grammar.specs.Looks.{kind_at, breaks_at, sees, span_at}
 use Rattle.swc_ecma_parser_grammar.specs.Names.{name_at}
 use Rattle.swc_ecma_parser_grammar.specs.Follows.{word_at, is_async_function}
@@ -28,7 +29,7 @@ use Rattle.swc_ecma_parser_grammar.specs.language.Continues.{continues_condition
 use Rattle.swc_ecma_parser_grammar.specs.language.Operators.{unary_operator, update_operator, assign_operator, mixes}
 use Rattle.swc_ecma_parser_reader.specs.Arrows.{Group, begins_named_arrow, may_stand_alone, closed_parts, closed_group, parameters_of, arrow_body, arrow_from, named_arrow, group, grouped}
 use Rattle.swc_ecma_parser_reader.specs.AsyncArrows.{Argument, begins_async_arrow, closed_arguments, argument_parameters, async_called, either_arguments, async_named_arrow, async_grouped}
-use Rattle.swc_ecma_parser_reader.specs.Expressions.{Cover, begins_async_call, heads_arrow, literal_of, literal_in, taken, literal, ident_expr, this, meta_fault, import_meta, bare_new, simple, update_behind, behind_operand, postfix_at, await_allowed, right_class, operator_at, left_operand, unmixed, unassigned, unheaded, unmarked, close, target, goes_on, inside, access, arguments, elements, array, properties, object, paren, accessed, called, left_turn, left_from, super_call, super_property, super_access, behind_super, super_head, constructed, new_head, import_call, import_head, prefixed, update_before, await_expr, operated, binary_by, binary_turn, binary_from, conditional, assigned_to, assigned, assigned_or, behind_operators, postfixed, continued, closed, assigned_pattern, behind_literal, open_literal, marked_primary, literal_or, named_expr, primary, left_head, left, postfix, updated, unary_by, unary_expr, binary_expr, operators_expr, plain_expr, done_expr, cover_expr, assignment_expr, expr_level}
+use Rattle.swc_ecma_parser_reader.specs.Expressions.{Cover, begins_async_call, heads_arrow, literal_of, literal_in, taken, literal, ident_expr, this, meta_fault, import_meta, bare_new, simple, update_behind, behind_operand, postfix_at, await_allowed, right_class, operator_at, left_operand, unmixed, unassigned, unheaded, unmarked, close, target, goes_on, inside, access, arguments, elements, array, properties, object, paren, accessed, called, left_turn, left_from, super_call, super_property, super_access, behind_super, super_head, constructed, new_head, import_call, import_head, prefixed, update_before, await_expr, operated, binary_by, binary_turn, binary_from, conditional, assigned_to, assigned, assigned_or, behind_operators, postfixed, continued, closed, assigned_pattern, behind_literal, open_literal, marked_primary, literal_or, named_expr, primary, left_head, left, postfix, updated, unary_by, unary_expr, binary_expr, operators_expr, plain_expr, done_expr, cover_expr, assignment_expr, expr_level, filled_paren, empty_paren}
 use Rattle.swc_ecma_parser_reader.specs.Jumps.{told}
 use Rattle.swc_ecma_parser_reader.specs.Members.{class_name, class_parts, unnamed_class, class_expr}
 use Rattle.swc_ecma_parser_reader.specs.Methods.{FunctionForm, expression_form, class_form, parameter_form, star}
@@ -175,8 +176,9 @@ module _ (inner : Class → Reader Tree) (cover : Reader Cover) where
   array_plain s = always _ (elements inner cover s) _ (λ _ _. refl)
 
   paren_plain : (s : State) → Meets NoBlock (paren inner cover s)
-  unfolding paren
-  paren_plain s = always _ (inside inner cover expression (moved s)) _ (λ _ t. always _ (expect kind.RParen t) _ (λ _ _. refl))
+  unfolding paren empty_paren filled_paren
+  paren_plain s = meets_if _ (sees kind.RParen (after s.at)) _ _ (λ _. wanted_meets _ faults.Unexpected (moved (moved s)))
+      (λ _. always _ (inside inner cover expression (moved s)) _ (λ _ t. always _ (expect kind.RParen t) _ (λ _ _. refl)))
 
   super_plain : (calls : Bool) (s : State) → Meets NoBlock (super_head inner cover calls s)
   unfolding super_head behind_super super_call super_access
@@ -276,7 +278,7 @@ module _ (inner : Class → Reader Tree) (cover : Reader Cover) where
     async_named_plain : (s : State) → Meets NoBlock (async_named_arrow inner function s)
     unfolding async_named_arrow
     async_named_plain s = always _ (function parameter_form (moved s)) _
-        (λ p t. meets_if _ (sees kind.Arrow t.at) _ _ (λ _. arrow_plain true (span_at s.at) (p ∷ []) t) (λ _. wanted_meets _ faults.Unexpected t))
+        (λ p t. meets_if _ (sees kind.Arrow t.at) _ _ (λ _. arrow_plain true (span_at s.at) (p ∷ []) t) (λ _. refuse_meets _ faults.Expected t))
 
     async_grouped_plain : (s : State) → Meets NoBlock (async_grouped inner function cover s)
     unfolding async_grouped

@@ -27,7 +27,7 @@ use Rattle.swc_ecma_parser_reader.specs.Methods.{FunctionForm, parameter_form}
 use Rattle.swc_ecma_parser_reader.specs.Arrows.{begins_named_arrow, arrow_body, arrow_from, named_arrow}
 use Rattle.swc_ecma_parser_reader.specs.AsyncArrows.{begins_async_arrow, async_named_arrow}
 use Rattle.swc_ecma_parser_reader.proofs.Notes.{or_nil, notes_nil}
-use Rattle.swc_ecma_parser_reader.proofs.Meets.{Meets, meets_then, meets_if, wanted_meets, refuse_meets, saw}
+use Rattle.swc_ecma_parser_reader.proofs.Meets.{Meets, meets_then, meets_if, refuse_meets, saw}
 use Rattle.swc_ecma_parser_reader.proofs.Between.{Sound, SoundTree, same, sound_as, sound_after, sound_under, sound_enclosed}
 use Rattle.swc_ecma_parser_reader.proofs.SoundParts.{meets_both, misdirected_sound}
 use Rattle.swc_ecma_parser_grammar.proofs.StatementBegins.{word_place}
@@ -109,4 +109,4 @@ module _ (n : ℕ) (inner : Class → Reader Tree) (sound : (class : Class) (s :
       (λ a. arrow_from_sound true s (p ∷ []) t
       (sound_after s t (word_place (codes "async") s.at w) refl (sym (append-nil (walk (env_of s.code s.scope.labels) p))) (sym (notes_nil (notes_of p)))
       (λ r. (after s.at, async_word refl w refl l, name_head p r.0 f refl, and_both _ true r.1 refl)) q) (saw t.at kind.Arrow a))
-      (λ _. wanted_meets _ faults.Unexpected t))
+      (λ _. refuse_meets _ faults.Expected t))

@@ -38,7 +38,7 @@ use Rattle.swc_ecma_parser_grammar.proofs.Tests.{or_no, or_none, and_yes, and_bo
 use Rattle.swc_ecma_parser_reader.specs.Notes.{notes_of, all_notes_of}
 use Rattle.swc_ecma_parser_reader.specs.State.{State, Outcome, Reader, and_then, moved, module_found, fault, fault_at, expect, loop, reference}
 use Rattle.swc_ecma_parser_reader.specs.Methods.{MethodForm, FunctionForm, expression_form, class_form, property_form, parameter_form, block_form}
-use Rattle.swc_ecma_parser_reader.specs.Expressions.{Cover, literal_of, literal_in, taken, literal, ident_expr, this, super_property, bare_new, closed_left, unmarked, close, dotted, inside, brackets, access, spread_element, plain_element, element, behind_argument, arguments_turn, arguments, array, object, paren, marked_primary, literal_or, primary, accessed, called, left_turn, left_from, super_call, super_access, behind_super, super_head, constructed, new_head, import_call, meta_fault, import_meta, import_head, left_head, left, left_expr, any_word, word_property, named_expr}
+use Rattle.swc_ecma_parser_reader.specs.Expressions.{Cover, literal_of, literal_in, taken, literal, ident_expr, this, super_property, bare_new, closed_left, unmarked, close, dotted, inside, brackets, access, spread_element, plain_element, element, behind_argument, arguments_turn, arguments, array, object, paren, marked_primary, literal_or, primary, accessed, called, left_turn, left_from, super_call, super_access, behind_super, super_head, constructed, new_head, import_call, meta_fault, import_meta, import_head, left_head, left, left_expr, any_word, word_property, named_expr, filled_paren, empty_paren}
 use Rattle.swc_ecma_parser_reader.proofs.Notes.{or_true, notes_nil}
 use Rattle.swc_ecma_parser_reader.proofs.Meets.{Meets, Refuses, meets_then, meets_if, wanted_meets, Turned, loop_answers, saw}
 use Rattle.swc_ecma_parser_reader.specs.Entry.{error_tokens}
@@ -338,14 +338,15 @@ module _ (n : ℕ) (inner : Class → Reader Tree) (cover : Reader Cover) (sound
     object_left e = literal_left (object inner cover function s) (object_sound n inner cover sound covers function functions.methods s e)
 
     paren_sound : kind_at s.at ≡ kind.LParen → Meets (SoundLeft calls s) (paren inner cover s)
-    unfolding paren spanned same_kind
-    paren_sound e = meets_then _ (inside inner cover expression (moved s)) _ (inside_sound n inner cover sound covers expression (moved s)) (λ x m p.
+    unfolding paren empty_paren filled_paren spanned same_kind
+    paren_sound e = meets_if _ (sees kind.RParen (after s.at)) _ _ (λ _. wanted_meets _ faults.Unexpected (moved (moved s)))
+        (λ _. meets_then _ (inside inner cover expression (moved s)) _ (inside_sound n inner cover sound covers expression (moved s)) (λ x m p.
         meets_then _ (expect kind.RParen m) _ (expect_sound kind.RParen m refl) (λ _ t q.
         sound_as s t refl refl refl (λ (a, b). record {
           rule = primary_rule (paren_rule x m.at e a.0 b.0 b.1 refl);
           supports = a.1;
           is_called = λ _. refl;
-        }) (stepped (moved_back e refl p) q)))
+        }) (stepped (moved_back e refl p) q))))
 
     function_left : (e : begins_function s.at ≡ true) → Meets (SoundLeft calls s) (function expression_form s)
     function_left e = meets_as (function expression_form s) (functions.expressions s e) (λ x t p. sound_as s t refl refl refl (λ r. record {
