@@ -281,7 +281,7 @@ pub(crate) fn export_rest<P: Cursor, T: BuildsStatements + BuildsExport + Builds
     if is_name_from(p) {
         return name_from::<P, T>(t, p, depth, start);
     }
-    Err(p.wanted(Wanted::Expression))
+    Err(p.refuse(Wanted::Token("{")))
 }
 
 /// An export that is no default, from behind its word on.

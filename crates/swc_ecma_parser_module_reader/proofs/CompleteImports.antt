@@ -43,13 +43,13 @@ use Rattle.swc_ecma_parser_reader.proofs.Answered as answered
 use Rattle.swc_ecma_parser_reader.proofs.Answered.{st}
 use Rattle.swc_ecma_parser_reader.proofs.CompleteParts.{ends_read}
 use Rattle.swc_ecma_parser_reader.proofs.Takes.{moves, takes_one}
-use Rattle.swc_ecma_parser_reader.proofs.expressions.CompleteKinds.{seen, token_first}
-use Rattle.swc_ecma_parser_module_reader.specs.Imports.{other_name, import_specifier, binding_name, import_namespace, bindings, more_bindings, default_binding, import_clause, imported, import_from, phase_of, import_phased, is_phase_word, import_decl, str, source}
+use Rattle.swc_ecma_parser_reader.proofs.expressions.CompleteKinds.{seen, token_first, named_word}
+use Rattle.swc_ecma_parser_module_reader.specs.Imports.{other_name, import_specifier, binding_name, import_namespace, bindings, more_bindings, default_binding, import_clause, imported, import_from, phase_of, import_phased, is_phase_word, import_decl, str, source, begins_bindings, begins_clause, import_unphased}
 use Rattle.swc_ecma_parser_module_reader.specs.Modules.{begins_import}
 use Rattle.swc_ecma_parser_module_reader.specs.Supported.{supported_item}
 use Rattle.swc_ecma_parser_module_reader.proofs.CompleteShared.{string_seen, str_reads, expect_word_reads, source_reads, any_word_reads, module_name_reads, name_reads, IsGiven, attributes_read, specifiers_read}
 use Rattle.swc_ecma_parser_module_reader.proofs.ModuleCode.{IsModule, in_module_same, module_env}
-use Rattle.swc_ecma_parser_grammar.proofs.Naming.{clean_is_name}
+use Rattle.swc_ecma_parser_grammar.proofs.Naming.{clean_is_name, name_is_name}
 
 -- ---- one token
 
@@ -209,8 +209,8 @@ module _ (k : Code) (o : IsModule k) where
       rw r.opens (specifiers_read (ImportSpecifierRule k) import_specifier k specifier_reads specifier_goes specifier_takes xs c d w f h r)
 
   -- `*` or `{` begins them
-  bindings_seen : (xs : List Tree) (c d : Place) → BindingsRule k xs c d → ((sees kind.Mul c || sees kind.LBrace c) ≡ true) × (sees kind.Str c ≡ false) × ((text : Text) → word_at text c ≡ false)
-  unfolding same_kind
+  bindings_seen : (xs : List Tree) (c d : Place) → BindingsRule k xs c d → (begins_bindings c ≡ true) × (sees kind.Str c ≡ false) × ((text : Text) → word_at text c ≡ false)
+  unfolding same_kind begins_bindings
   bindings_seen xs c d (namespace_rule text s a b r e) = (rw a refl, rw a refl, λ text. no_word_by text c (rw a refl))
     where
       no_word_by : (text : Text) (c : Place) → same_kind (kind_at c) kind.Mul ≡ true → word_at text c ≡ false
@@ -231,11 +231,11 @@ module _ (k : Code) (o : IsModule k) where
   -- behind them stands `from`
   more_bindings_read : (xs : List Tree) (c d : Place) (w : Scope) (f : List Fault) (h : Notes) → MoreBindingsRule k xs c d → word_at (codes "from") d ≡ true
       → more_bindings (st c k w f h) ≡ Ok (xs, st d k w f h)
-  unfolding more_bindings
+  unfolding more_bindings begins_bindings
   more_bindings_read xs c d w f h (no_more_rule a e) g = rw ((at_word (codes "from") c (rw a at g)).4, a, e) refl
-  more_bindings_read xs c d w f h (comma_rule a b e) g = rw (seen c kind.Comma a, (rw b at g), b, e) refl
+  more_bindings_read xs c d w f h (comma_rule a b e) g = let v = at_word (codes "from") (after c) (rw b at g) in rw (seen c kind.Comma a, v.1, v.2, b, e) refl
   more_bindings_read xs c d w f h (more_rule a r) g =
-      rw (seen c kind.Comma a, (bindings_seen xs (after c) d r).2 (codes "from")) (bindings_read xs (after c) d w f h r)
+      rw (seen c kind.Comma a, (bindings_seen xs (after c) d r).0) (bindings_read xs (after c) d w f h r)
 
   default_binding_reads : (text : Text) (s : Span) (ys : List Tree) (m d : Place) (w : Scope) (f : List Fault) (h : Notes) → MoreBindingsRule k ys m d → word_at (codes "from") d ≡ true
       → default_binding (record { span = s; sym = text }) (st m k w f h) ≡ Ok (tree.import_default s (tree.ident s text) ∷ ys, st d k w f h)
@@ -243,7 +243,7 @@ module _ (k : Code) (o : IsModule k) where
   default_binding_reads text s ys m d w f h r g = rw (more_bindings_read ys m d w f h r g) refl
 
   clause_reads : (xs : List Tree) (c d : Place) (w : Scope) (f : List Fault) (h : Notes) → ImportClauseRule k xs c d → word_at (codes "from") d ≡ true → import_clause (st c k w f h) ≡ Ok (xs, st d k w f h)
-  unfolding import_clause
+  unfolding import_clause begins_bindings
   clause_reads xs c d w f h (bindings_rule r) g = rw (bindings_seen xs c d r).0 (bindings_read xs c d w f h r)
   clause_reads xs c d w f h (default_binding_rule text s ys m r more e) g =
       let n = word_kinds r.reads_word in
@@ -253,6 +253,14 @@ module _ (k : Code) (o : IsModule k) where
   clause_seen : (xs : List Tree) (c d : Place) → ImportClauseRule k xs c d → sees kind.Str c ≡ false
   clause_seen xs c d (bindings_rule r) = (bindings_seen xs c d r).1
   clause_seen xs c d (default_binding_rule text s ys m r more e) = (word_kinds r.reads_word).0
+
+  -- a clause begins as one
+  clause_opens : (xs : List Tree) (c d : Place) → ImportClauseRule k xs c d → begins_clause k c ≡ true
+  unfolding begins_clause begins_bindings
+  clause_opens xs c d (bindings_rule r) = rw (bindings_seen xs c d r).0 refl
+  clause_opens xs c d (default_binding_rule text s ys m r more e) =
+      let n = word_kinds r.reads_word in
+      rw (n.1, n.2, named_word r.word s c m (outside_functions k) r.reads_word (name_is_name (outside_functions k) text s c m r)) refl
 
   -- ---- an import
 
@@ -327,10 +335,11 @@ module _ (k : Code) (o : IsModule k) where
   evaluated : (n : ℕ) (xs : List Tree) (src attributes : Tree) (c l m i d : Place) → begins_phase (codes "source") k (after c) || begins_phase (codes "defer") k (after c) ≡ false
       → ImportClauseRule k xs (after c) l → FromRule src l m → AttributesRule (Reads n) k attributes m i → IsGiven attributes → Ends i d → (w : Scope) (f : List Fault) (h : Notes)
       → (b : Bool) → is_phase_word (after c) ≡ b
-      → (if b then import_phased (object_alone n) (span_at c) (st (after c) k w f h) else import_from (object_alone n) (span_at c) phase.Evaluation (st (after c) k w f h))
+      → (if b then import_phased (object_alone n) (span_at c) (st (after c) k w f h) else import_unphased (object_alone n) (span_at c) (st (after c) k w f h))
       ≡ Ok (tree.import (spanned c d) (listed xs) src attributes phase.Evaluation, st d k w (f ++ walk (env_of k w.labels) attributes) (h ⊕ notes_of attributes))
+  unfolding import_unphased
   evaluated n xs src attributes c l m i d b r s t e g w f h true q = unphased_reads n c w f h xs src attributes (after c) l m i d q b r s t e g
-  evaluated n xs src attributes c l m i d b r s t e g w f h false q = from_reads n c w f h phase.Evaluation xs src attributes (after c) l m i d r s t e g
+  evaluated n xs src attributes c l m i d b r s t e g w f h false q = rw (clause_opens xs (after c) l r) (from_reads n c w f h phase.Evaluation xs src attributes (after c) l m i d r s t e g)
 
   -- what is answered, said of the import
   answered_as : (d : Place) (w : Scope) (f : List Fault) (h : Notes) (r : Outcome Tree) (x given y : Tree) → Carries x given → x ≡ y

@@ -43,7 +43,7 @@ use Rattle.swc_ecma_parser_reader.proofs.decorators.Leading.{leading_falls, misp
 use Rattle.swc_ecma_parser_reader.proofs.Falls.{decorated_in_falls}
 use Rattle.swc_ecma_parser_reader.proofs.expressions.Falls.{reject_falls, falls_when, any_word_falls, star_falls, told_falls, no_end}
 use Rattle.swc_ecma_parser_reader.proofs.expressions.Loops.{shorter_by}
-use Rattle.swc_ecma_parser_module_reader.specs.Imports.{str_or, str, source, module_name, attributes, specifiers_turn, specifiers, same_name, other_name, import_specifier, binding_name, import_namespace, bindings, more_bindings, default_binding, import_clause, imported, import_from, phase_of, import_phased, is_phase_word, import_decl}
+use Rattle.swc_ecma_parser_module_reader.specs.Imports.{str_or, str, source, module_name, attributes, specifiers_turn, specifiers, same_name, other_name, import_specifier, binding_name, import_namespace, bindings, more_bindings, default_binding, import_clause, imported, import_from, phase_of, import_phased, is_phase_word, import_decl, begins_bindings, begins_clause, import_unphased}
 use Rattle.swc_ecma_parser_module_reader.specs.Exports.{renamed_export, plain_export, export_specifier, export_namespace, names_from, own_names, export_names, more_names, namespace_names, export_all, export_star, is_namespace_next, behind_default, is_name_from, name_from, is_default_from, default_from, default_name, default_function, default_expr, begins_default_function, exported_function, exported_class, default_rest, export_default, exported, export_rest, export_named}
 use Rattle.swc_ecma_parser_module_reader.specs.Decorated.{none_before, begins_decorators, no_leading, later_alone, later, decorating, by_default, named_with, default_with, behind_export, behind_default_word, export_from, export_with, export_item}
 use Rattle.swc_ecma_parser_module_reader.specs.Modules.{begins_import, import_in, export_in, import_behind, export_behind, module_item}
@@ -178,7 +178,7 @@ bindings_fall s = falls_if 0 (length s.at.left) (sees kind.Mul s.at) _ _ (import
 more_bindings_fall : (s : State) → Falls 0 (length s.at.left) (more_bindings s)
 unfolding more_bindings
 more_bindings_fall s = falls_if 0 (length s.at.left) (sees kind.Comma s.at) _ _
-    (falls_moved 0 s _ (falls_if 0 (length (after s.at).left) (word_at (codes "from") (after s.at)) _ _ (omega arith) (bindings_fall (moved s)))) (omega arith)
+    (falls_moved 0 s _ (falls_if 0 (length (after s.at).left) (begins_bindings (after s.at)) _ _ (bindings_fall (moved s)) (omega arith))) (omega arith)
 
 default_binding_falls : (i : Ident) (s : State) → Falls 0 (length s.at.left) (default_binding i s)
 unfolding default_binding
@@ -186,7 +186,7 @@ default_binding_falls i s = falls_last 0 (length s.at.left) (more_bindings s) _ 
 
 import_clause_falls : (s : State) → Falls 0 (length s.at.left) (import_clause s)
 unfolding import_clause
-import_clause_falls s = falls_if 0 (length s.at.left) (sees kind.Mul s.at || sees kind.LBrace s.at) _ _ (bindings_fall s)
+import_clause_falls s = falls_if 0 (length s.at.left) (begins_bindings s.at) _ _ (bindings_fall s)
     (falls_then 0 0 (length s.at.left) (binding_name s) _ (binding_falls s) (λ i t. default_binding_falls i t))
 
 module _ (object : Reader Tree) (takes : (s : State) → Falls 0 (length s.at.left) (object s)) where
@@ -208,10 +208,14 @@ module _ (object : Reader Tree) (takes : (s : State) → Falls 0 (length s.at.le
       falls_if 0 (length t.at.left) (follows_phase t.code t.at) _ _ (import_from_falls start (phase_of i.sym) t)
       (falls_then 0 0 (length t.at.left) (default_binding i t) _ (default_binding_falls i t) (λ xs u. imported_falls start phase.Evaluation xs source source_falls u)))
 
+  import_unphased_falls : (start : Span) (s : State) → Falls 0 (length s.at.left) (import_unphased object start s)
+  unfolding import_unphased
+  import_unphased_falls start s = falls_if 0 (length s.at.left) (begins_clause s.code s.at) _ _ (import_from_falls start phase.Evaluation s) (refuse_falls Tree 0 (length s.at.left) faults.Expected s)
+
   pub import_decl_falls : (s : State) → kind_at s.at ≢ kind.End → Falls 1 (length s.at.left) (import_decl object s)
   unfolding import_decl
   import_decl_falls s e = falls_past s _ e (falls_if 0 (length (after s.at).left) (sees kind.Str (after s.at)) _ _ (imported_falls (span_at s.at) phase.Evaluation [] str str_less (moved s))
-      (falls_if 0 (length (after s.at).left) (is_phase_word (after s.at)) _ _ (import_phased_falls (span_at s.at) (moved s)) (import_from_falls (span_at s.at) phase.Evaluation (moved s))))
+      (falls_if 0 (length (after s.at).left) (is_phase_word (after s.at)) _ _ (import_phased_falls (span_at s.at) (moved s)) (import_unphased_falls (span_at s.at) (moved s))))
 
 -- ---- exports
 
@@ -344,7 +348,7 @@ module _ (n : ℕ) where
       (falls_when 0 m (sees kind.Var t.at) _ _ (λ h. exported_falls start (variables (expr n) (pattern n) decl.Var) t (var_is_stmt n t h)) (λ _.
       falls_when 0 m (sees kind.Const t.at) _ _ (λ h. exported_falls start (variables (expr n) (pattern n) decl.Const) t (const_is_stmt n t h)) (λ _.
       falls_when 0 m (is_let_declaration t.at) _ _ (λ h. exported_falls start (variables (expr n) (pattern n) decl.Let) t (let_is_stmt n t h)) (λ _.
-      falls_if 0 m (is_name_from t.code t.at) _ _ (name_from_falls (object_alone n) object_less start t) (wanted_falls Tree 0 m faults.Unexpected t))))))
+      falls_if 0 m (is_name_from t.code t.at) _ _ (name_from_falls (object_alone n) object_less start t) (refuse_falls Tree 0 m faults.Expected t))))))
 
   pub export_named_falls : (start : Span) (t : State) → Falls 0 (length t.at.left) (export_named (stmt n nested_item) (expr n) (pattern n) (parameters n) (member n) (object_alone n) start t)
   unfolding export_named

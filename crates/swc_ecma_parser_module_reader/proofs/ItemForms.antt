@@ -31,11 +31,11 @@ use Rattle.swc_ecma_parser_reader.specs.Reader as reader
 use Rattle.swc_ecma_parser_reader.specs.Reader.{expr, pattern, member, stmt, object_alone, variables, function_decl, function_parts, function_word}
 use Rattle.swc_ecma_parser_reader.specs.State.{State, Reader, moved, within, name, end}
 use Rattle.swc_ecma_parser_reader.specs.Words.{any_word}
-use Rattle.swc_ecma_parser_reader.proofs.Meets.{Meets, always, meets_then, meets_if, wanted_meets, too_deep_meets}
+use Rattle.swc_ecma_parser_reader.proofs.Meets.{Meets, always, meets_then, meets_if, too_deep_meets, refuse_meets}
 use Rattle.swc_ecma_parser_reader.proofs.expressions.SoundSteps.{meets_as, reject_meets}
 use Rattle.swc_ecma_parser_module_reader.specs.Exports.{export_specifier, export_namespace, names_from, own_names, export_names, more_names, namespace_names, export_all, export_star, is_namespace_next, behind_default, is_name_from, name_from, is_default_from, default_from, default_name, default_function, default_expr, begins_default_function, exported_function, exported_class, default_rest, export_default, exported, export_rest, export_named}
 use Rattle.swc_ecma_parser_module_reader.specs.Decorated.{with_decorators, none_before, begins_decorators, no_leading, later_alone, later, decorating, by_default, named_with, default_with, behind_export, behind_default_word, export_from, export_item}
-use Rattle.swc_ecma_parser_module_reader.specs.Imports.{source, str, attributes, specifiers, default_binding, import_clause, imported, import_from, phase_of, import_phased, is_phase_word, import_decl}
+use Rattle.swc_ecma_parser_module_reader.specs.Imports.{source, str, attributes, specifiers, default_binding, import_clause, imported, import_from, phase_of, import_phased, is_phase_word, import_decl, begins_clause, import_unphased}
 use Rattle.swc_ecma_parser_module_reader.specs.Modules.{begins_import, import_in, export_in, module_item}
 use Rattle.swc_ecma_parser_module_reader.specs.Programs.{begins_module}
 use Rattle.swc_ecma_parser_module_reader.proofs.DecoratedForms.{IsName, absent_name, Takes, IsFunction, fn_expr_takes, behind_walk}
@@ -64,10 +64,14 @@ module _ (object : Reader Tree) where
   import_phased_form start s = always _ (any_word s) _ (λ i t. meets_if _ (follows_phase t.code t.at) _ _ (λ _. import_from_form start (phase_of i.sym) t)
       (λ _. always _ (default_binding i t) _ (λ xs u. imported_form start phase.Evaluation xs source u)))
 
+  import_unphased_form : (start : Span) (s : State) → Meets Declared (import_unphased object start s)
+  unfolding import_unphased
+  import_unphased_form start s = meets_if _ (begins_clause s.code s.at) _ _ (λ _. import_from_form start phase.Evaluation s) (λ _. refuse_meets _ faults.Expected s)
+
   import_form : (s : State) → Meets Declared (import_decl object s)
   unfolding import_decl
   import_form s = meets_if _ (sees kind.Str (after s.at)) _ _ (λ _. imported_form (span_at s.at) phase.Evaluation [] str (moved s))
-      (λ _. meets_if _ (is_phase_word (after s.at)) _ _ (λ _. import_phased_form (span_at s.at) (moved s)) (λ _. import_from_form (span_at s.at) phase.Evaluation (moved s)))
+      (λ _. meets_if _ (is_phase_word (after s.at)) _ _ (λ _. import_phased_form (span_at s.at) (moved s)) (λ _. import_unphased_form (span_at s.at) (moved s)))
 
 -- ---- names that are exported
 
@@ -195,7 +199,7 @@ module _ (n : ℕ) where
       p.1)))
       (λ _. meets_if _ (is_let_declaration b.at) _ _
       (λ h. exported_form w (variables (expr n) (pattern n) decl.Let) b (meets_as (variables (expr n) (pattern n) decl.Let b) (variables_sound n decl.Let b h) (λ x t p. p.1)))
-      (λ _. meets_if _ (is_name_from b.code b.at) _ _ (λ _. name_from_form (object_alone n) w b) (λ _. wanted_meets _ faults.Unexpected b))))))
+      (λ _. meets_if _ (is_name_from b.code b.at) _ _ (λ _. name_from_form (object_alone n) w b) (λ _. refuse_meets _ faults.Expected b))))))
 
   export_named_form : (start : Span) (s : State) → Meets Declared (export_named inner (expr n) (pattern n) params (member n) (object_alone n) start s)
   unfolding export_named

@@ -48,7 +48,7 @@ use Rattle.swc_ecma_parser_reader.proofs.Words.{begins_function, async_begins, f
 use Rattle.swc_ecma_parser_reader.proofs.decorators.Keeps.{misplaced_stays}
 use Rattle.swc_ecma_parser_reader.proofs.decorators.Leading.{leading_keeps, misplaced_keeps}
 use Rattle.swc_ecma_parser_reader.proofs.Keeps.{decorated_in_keeps}
-use Rattle.swc_ecma_parser_module_reader.specs.Imports.{str_or, str, source, module_name, attributes, specifiers_turn, specifiers, same_name, other_name, import_specifier, binding_name, import_namespace, bindings, more_bindings, default_binding, import_clause, imported, import_from, phase_of, import_phased, is_phase_word, import_decl}
+use Rattle.swc_ecma_parser_module_reader.specs.Imports.{str_or, str, source, module_name, attributes, specifiers_turn, specifiers, same_name, other_name, import_specifier, binding_name, import_namespace, bindings, more_bindings, default_binding, import_clause, imported, import_from, phase_of, import_phased, is_phase_word, import_decl, begins_bindings, begins_clause, import_unphased}
 use Rattle.swc_ecma_parser_module_reader.specs.Exports.{renamed_export, plain_export, export_specifier, export_namespace, names_from, own_names, export_names, more_names, namespace_names, export_all, export_star, is_namespace_next, behind_default, is_name_from, name_from, is_default_from, default_from, default_name, default_function, default_expr, begins_default_function, exported_function, exported_class, default_rest, export_default, exported, export_rest, export_named}
 use Rattle.swc_ecma_parser_module_reader.specs.Decorated.{none_before, begins_decorators, no_leading, later_alone, later, decorating, by_default, named_with, default_with, behind_export, behind_default_word, export_from, export_with, export_item}
 use Rattle.swc_ecma_parser_module_reader.specs.Modules.{begins_import, import_in, export_in, import_behind, export_behind, module_item, module_code, module_body, module_whole}
@@ -136,7 +136,7 @@ bindings_keep b s f = answers_if _ _ (sees kind.Mul s.at) _ _ (λ e. import_name
 more_bindings_keep : Passes more_bindings
 unfolding more_bindings
 more_bindings_keep b s f = answers_if _ _ (sees kind.Comma s.at) _ _ (λ seen. let g = behind_seen b s kind.Comma seen refl f in
-    answers_if _ _ (word_at (codes "from") (after s.at)) _ _ (λ _. g) (λ _. bindings_keep b (moved s) g)) (λ _. f)
+    answers_if _ _ (begins_bindings (after s.at)) _ _ (λ _. bindings_keep b (moved s) g) (λ _. g)) (λ _. f)
 
 default_binding_keeps : (i : Ident) → Passes (default_binding i)
 unfolding default_binding
@@ -144,7 +144,7 @@ default_binding_keeps i b s f = answers_then (Kept b) _ (more_bindings s) _ (mor
 
 import_clause_keeps : Passes import_clause
 unfolding import_clause
-import_clause_keeps b s f = answers_if _ _ (sees kind.Mul s.at || sees kind.LBrace s.at) _ _ (λ _. bindings_keep b s f)
+import_clause_keeps b s f = answers_if _ _ (begins_bindings s.at) _ _ (λ _. bindings_keep b s f)
     (λ _. answers_then (Kept b) _ (binding_name s) _ (binding_keeps b s f) (λ i t g. default_binding_keeps i b t g))
 
 module _ (object : Reader Tree) (inner : Passes object) where
@@ -164,11 +164,15 @@ module _ (object : Reader Tree) (inner : Passes object) where
       answers_if _ _ (follows_phase t.code t.at) _ _ (λ _. import_from_keeps start (phase_of i.sym) b t g)
       (λ _. answers_then (Kept b) _ (default_binding i t) _ (default_binding_keeps i b t g) (λ xs u h. imported_keeps start phase.Evaluation xs source source_keeps b u h)))
 
+  import_unphased_keeps : (start : Span) → Passes (import_unphased object start)
+  unfolding import_unphased
+  import_unphased_keeps start b s f = answers_if _ _ (begins_clause s.code s.at) _ _ (λ _. import_from_keeps start phase.Evaluation b s f) (λ _. refuse_keeps _ faults.Expected b s f)
+
   pub import_decl_keeps : (b s : State) → kind_at s.at ≡ kind.Import → NothingLost b s → Answers (Kept b) (Lost b) (import_decl object s)
   unfolding import_decl
   import_decl_keeps b s e f = let t = moved s in let g = behind_after b s e refl f in
       answers_if _ _ (sees kind.Str t.at) _ _ (λ _. imported_keeps (span_at s.at) phase.Evaluation [] str str_keeps b t g)
-      (λ _. answers_if _ _ (is_phase_word t.at) _ _ (λ _. import_phased_keeps (span_at s.at) b t g) (λ _. import_from_keeps (span_at s.at) phase.Evaluation b t g))
+      (λ _. answers_if _ _ (is_phase_word t.at) _ _ (λ _. import_phased_keeps (span_at s.at) b t g) (λ _. import_unphased_keeps (span_at s.at) b t g))
 
 -- ---- exports
 
@@ -308,7 +312,7 @@ module _ (n : ℕ) where
       answers_if _ _ (sees kind.Const t.at) _ _ (λ h. exported_keeps start (variables (expr n) (pattern n) decl.Const) b t (const_is_stmt n t h) g) (λ _.
       answers_if _ _ (is_let_declaration t.at) _ _ (λ h. exported_keeps start (variables (expr n) (pattern n) decl.Let) b t (let_is_stmt n t h) g) (λ _.
       answers_if _ _ (is_name_from t.code t.at) _ _ (λ _. name_from_keeps (object_alone n) (object_alone_keeps n) start b t g) (λ _.
-      wanted_keeps _ faults.Unexpected b t g))))))
+      refuse_keeps _ faults.Expected b t g))))))
 
   export_named_keeps : (start : Span) → Passes (export_named (stmt n nested_item) (expr n) (pattern n) (parameters n) (member n) (object_alone n) start)
   unfolding export_named

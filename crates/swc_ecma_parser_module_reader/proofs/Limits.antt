@@ -39,7 +39,7 @@ use Rattle.swc_ecma_parser_reader.proofs.Words.{async_kind, async_parts}
 use Rattle.swc_ecma_parser_reader.proofs.decorators.Leading.{leading_shallow, misplaced_shallow}
 use Rattle.swc_ecma_parser_reader.proofs.Limits.{decorated_in_shallow}
 use Rattle.swc_ecma_parser_reader.proofs.expressions.LimitSteps.{reject_shallow, told_shallow, literal_shallow, any_word_shallow, unexpected_shallow, kept_more}
-use Rattle.swc_ecma_parser_module_reader.specs.Imports.{str_or, str, source, module_name, attributes, specifiers_turn, specifiers, same_name, other_name, import_specifier, binding_name, import_namespace, bindings, more_bindings, default_binding, import_clause, imported, import_from, phase_of, import_phased, is_phase_word, import_decl}
+use Rattle.swc_ecma_parser_module_reader.specs.Imports.{str_or, str, source, module_name, attributes, specifiers_turn, specifiers, same_name, other_name, import_specifier, binding_name, import_namespace, bindings, more_bindings, default_binding, import_clause, imported, import_from, phase_of, import_phased, is_phase_word, import_decl, begins_bindings, begins_clause, import_unphased}
 use Rattle.swc_ecma_parser_module_reader.specs.Exports.{renamed_export, plain_export, export_specifier, export_namespace, names_from, own_names, export_names, more_names, namespace_names, export_all, export_star, is_namespace_next, behind_default, is_name_from, name_from, is_default_from, default_from, default_name, default_function, default_expr, begins_default_function, exported_function, exported_class, default_rest, export_default, exported, export_rest, export_named}
 use Rattle.swc_ecma_parser_module_reader.specs.Decorated.{none_before, begins_decorators, no_leading, later_alone, later, decorating, by_default, named_with, default_with, behind_export, behind_default_word, export_from, export_with, export_item}
 use Rattle.swc_ecma_parser_module_reader.specs.Modules.{begins_import, import_in, export_in, import_behind, export_behind, item_behind, module_item, module_code, module_body, module_whole}
@@ -127,7 +127,7 @@ module _ {T : Fault → Type 0} where
   more_bindings_flat : Flat T more_bindings
   unfolding more_bindings
   more_bindings_flat m s f = answers_if _ _ (sees kind.Comma s.at) _ _ (λ _. let g = fine_after m s.at f in
-      answers_if _ _ (word_at (codes "from") (after s.at)) _ _ (λ _. g) (λ _. bindings_flat m (moved s) g)) (λ _. f)
+      answers_if _ _ (begins_bindings (after s.at)) _ _ (λ _. bindings_flat m (moved s) g) (λ _. g)) (λ _. f)
 
   default_binding_flat : (i : Ident) → Flat T (default_binding i)
   unfolding default_binding
@@ -135,7 +135,7 @@ module _ {T : Fault → Type 0} where
 
   import_clause_flat : Flat T import_clause
   unfolding import_clause
-  import_clause_flat m s f = answers_if _ _ (sees kind.Mul s.at || sees kind.LBrace s.at) _ _ (λ _. bindings_flat m s f)
+  import_clause_flat m s f = answers_if _ _ (begins_bindings s.at) _ _ (λ _. bindings_flat m s f)
       (λ _. answers_then (Kept T m) _ (binding_name s) _ (binding_flat m s f) (λ i t g. default_binding_flat i m t g))
 
   module _ (object : Reader Tree) (n : ℕ) (inner : Levels T n object) where
@@ -155,11 +155,15 @@ module _ {T : Fault → Type 0} where
         answers_if _ _ (follows_phase t.code t.at) _ _ (λ _. import_from_levels start (phase_of i.sym) m t l g)
         (λ _. answers_then (Kept T m) _ (default_binding i t) _ (default_binding_flat i m t g) (λ xs u h. imported_levels start phase.Evaluation xs source source_flat m u l h)))
 
+    import_unphased_levels : (start : Span) → Levels T n (import_unphased object start)
+    unfolding import_unphased
+    import_unphased_levels start m s l f = answers_if _ _ (begins_clause s.code s.at) _ _ (λ _. import_from_levels start phase.Evaluation m s l f) (λ _. refuse_shallow _ faults.Expected (λ z. cc) m s f)
+
     import_decl_levels : Levels T n (import_decl object)
     unfolding import_decl
     import_decl_levels m s l f = let t = moved s in let g = fine_after m s.at f in
         answers_if _ _ (sees kind.Str t.at) _ _ (λ _. imported_levels (span_at s.at) phase.Evaluation [] str str_flat m t l g)
-        (λ _. answers_if _ _ (is_phase_word t.at) _ _ (λ _. import_phased_levels (span_at s.at) m t l g) (λ _. import_from_levels (span_at s.at) phase.Evaluation m t l g))
+        (λ _. answers_if _ _ (is_phase_word t.at) _ _ (λ _. import_phased_levels (span_at s.at) m t l g) (λ _. import_unphased_levels (span_at s.at) m t l g))
 
   -- ---- exports
 
@@ -312,7 +316,7 @@ module _ {T : Fault → Type 0} where
           answers_if _ _ (sees kind.Const t.at) _ _ (λ h. declared_shallow (variables (expr n) (pattern n) decl.Const) (const_is_stmt n t h)) (λ _.
           answers_if _ _ (is_let_declaration t.at) _ _ (λ h. declared_shallow (variables (expr n) (pattern n) decl.Let) (let_is_stmt n t h)) (λ _.
           answers_if _ _ (is_name_from t.code t.at) _ _ (λ _. name_from_levels (object_alone n) n (object_alone_shallow n) start m t (omega arith) g) (λ _.
-          unexpected_shallow m t g _))))))
+          refuse_shallow _ faults.Expected (λ z. cc) m t g))))))
 
       export_named_shallow : Answers (Kept T m) (Shallow T) (export_named (stmt n nested_item) (expr n) (pattern n) (parameters n) (member n) (object_alone n) start t)
       unfolding export_named

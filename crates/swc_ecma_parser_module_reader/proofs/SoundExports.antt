@@ -35,7 +35,7 @@ use Rattle.swc_ecma_parser_reader.specs.Notes.{notes_of}
 use Rattle.swc_ecma_parser_reader.specs.State.{State, Reader, moved, within, end}
 use Rattle.swc_ecma_parser_reader.specs.Reader as reader
 use Rattle.swc_ecma_parser_reader.specs.Reader.{expr, pattern, member, stmt, variables, function_decl, object_alone}
-use Rattle.swc_ecma_parser_reader.proofs.Meets.{Meets, meets_then, meets_if, wanted_meets, saw}
+use Rattle.swc_ecma_parser_reader.proofs.Meets.{Meets, meets_then, meets_if, saw, refuse_meets}
 use Rattle.swc_ecma_parser_reader.proofs.Between.{Sound, SoundStep, same, sound_as, sound_more, sound_moved, sound_here}
 use Rattle.swc_ecma_parser_reader.proofs.SoundParts.{end_sound, inside_sound}
 use Rattle.swc_ecma_parser_reader.proofs.Sound.{expr_sound, pattern_sound}
@@ -191,7 +191,7 @@ module _ (n : ℕ) (s : State) (o : IsModule s.code) (start : Span) where
       (λ _. meets_if _ (sees kind.Var u.at) _ _ (λ h. exported_variables_sound u w (variables (expr n) (pattern n) decl.Var) (variables_sound n decl.Var u h))
       (λ _. meets_if _ (sees kind.Const u.at) _ _ (λ h. exported_variables_sound u w (variables (expr n) (pattern n) decl.Const) (variables_sound n decl.Const u h))
       (λ _. meets_if _ (is_let_declaration u.at) _ _ (λ h. exported_variables_sound u w (variables (expr n) (pattern n) decl.Let) (variables_sound n decl.Let u h))
-      (λ _. meets_if _ (is_name_from u.code u.at) _ _ (λ h. name_from_sound n s o start u w h) (λ _. wanted_meets _ faults.Unexpected u))))))
+      (λ _. meets_if _ (is_name_from u.code u.at) _ _ (λ h. name_from_sound n s o start u w h) (λ _. refuse_meets _ faults.Expected u))))))
 
   -- the look-ahead of an expression
   may_begin : (k : Code) (c : Place) → begins_default_function c ≡ false → is_default_from k c ≡ false → sees kind.Class c ≡ false → may_begin_default k c ≡ true

@@ -34,13 +34,13 @@ use Rattle.swc_ecma_parser_grammar.proofs.Tests.{and_both, and_no, no_and, or_no
 use Rattle.swc_ecma_parser_reader.specs.Notes.{no_notes, ◌⊕◌, notes_of}
 use Rattle.swc_ecma_parser_reader.specs.State.{State, Reader, moved, coded, fault_at, within, name, expect_word, end}
 use Rattle.swc_ecma_parser_reader.specs.Words.{any_word}
-use Rattle.swc_ecma_parser_reader.proofs.Meets.{Meets, meets_then, meets_if, wanted_meets, saw}
+use Rattle.swc_ecma_parser_reader.proofs.Meets.{Meets, meets_then, meets_if, wanted_meets, saw, refuse_meets}
 use Rattle.swc_ecma_parser_reader.proofs.Between.{Sound, SoundTree, SoundStep, same, sound_then, sound_moved, sound_here, sound_as, sound_after, within_sound}
 use Rattle.swc_ecma_parser_reader.proofs.SoundParts.{end_sound}
 use Rattle.swc_ecma_parser_reader.proofs.expressions.SoundSteps.{meets_as, paired, stepped, reject_meets, other, FreeWord, name_sound, any_word_sound}
 use Rattle.swc_ecma_parser_reader.proofs.expressions.SoundLefts.{word_stands}
 use Rattle.swc_ecma_parser_reader.proofs.expressions.SoundCovers.{ident_key, free_name}
-use Rattle.swc_ecma_parser_module_reader.specs.Imports.{same_name, other_name, import_specifier, binding_name, import_namespace, bindings, more_bindings, default_binding, import_clause, imported, import_from, phase_of, import_phased, is_phase_word, import_decl, str, source, module_name, attributes, specifiers}
+use Rattle.swc_ecma_parser_module_reader.specs.Imports.{same_name, other_name, import_specifier, binding_name, import_namespace, bindings, more_bindings, default_binding, import_clause, imported, import_from, phase_of, import_phased, is_phase_word, import_decl, str, source, module_name, attributes, specifiers, begins_bindings, begins_clause, import_unphased}
 use Rattle.swc_ecma_parser_module_reader.specs.Supported.{supported_item}
 use Rattle.swc_ecma_parser_module_reader.proofs.ModuleCode.{IsModule, in_module_same, module_env}
 use Rattle.swc_ecma_parser_module_reader.proofs.SoundShared.{IsLeaf, AreLeaves, no_leaves, SoundLeaf, word_name, expect_word_sound, str_sound, source_sound, module_name_sound, IsGiven, ReadsObject, attributes_sound, specifiers_sound}
@@ -145,9 +145,10 @@ bindings_sound s = meets_if _ (sees kind.Mul s.at) _ _ (λ e. import_namespace_s
     (λ _. meets_as (specifiers import_specifier s) (braced_sound s) (λ xs t (p, l). (sound_as s t refl refl refl (λ r. named_bindings_rule r) p, l)))
 
 -- behind a default
-behind_comma_sound : (s : State) → kind_at s.at ≡ kind.Comma → Meets (λ xs t. SoundTrees MoreBindingsRule s xs t) (if word_at (codes "from") (after s.at) then Ok ([], moved s) else bindings (moved s))
-behind_comma_sound s e = meets_if _ (word_at (codes "from") (after s.at)) _ _ (λ _. (sound_moved s e refl (comma_rule e refl refl), no_leaves))
+behind_comma_sound : (s : State) → kind_at s.at ≡ kind.Comma → Meets (λ xs t. SoundTrees MoreBindingsRule s xs t) (if begins_bindings (after s.at) then bindings (moved s) else Ok ([], moved s))
+behind_comma_sound s e = meets_if _ (begins_bindings (after s.at)) _ _
     (λ _. meets_as (bindings (moved s)) (bindings_sound (moved s)) (λ xs t (p, l). (sound_after s t e refl refl refl (λ r. more_rule e r) p, l)))
+    (λ _. (sound_moved s e refl (comma_rule e refl refl), no_leaves))
 
 more_bindings_sound : (s : State) → Meets (λ xs t. SoundTrees MoreBindingsRule s xs t) (more_bindings s)
 unfolding more_bindings
@@ -165,7 +166,7 @@ module _ (Q : Code → Place → Type 0) where
 
 import_clause_sound : (s : State) → Meets (λ xs t. SoundTrees ImportClauseRule s xs t) (import_clause s)
 unfolding import_clause
-import_clause_sound s = meets_if _ (sees kind.Mul s.at || sees kind.LBrace s.at) _ _
+import_clause_sound s = meets_if _ (begins_bindings s.at) _ _
     (λ _. meets_as (bindings s) (bindings_sound s) (λ xs t (p, l). (sound_as s t refl refl refl (λ r. bindings_rule r) p, l)))
     (λ _. meets_then _ (binding_name s) _ (binding_name_sound s) (λ i m p. meets_as (default_binding i m)
     (default_sound (λ k c. Unit {0}) s i m (sound_as s m refl refl refl (λ r. (r, tt)) p)) (λ xs t (q, l). (sound_as s t refl refl refl (λ r. r.1) q, l))))
@@ -280,10 +281,14 @@ module _ (In : Goal → Type 0) (object : Reader Tree) (objects : (s : State) �
       h,
     ))
 
+    unphased_sound : is_phase_word (after s.at) ≡ false → Meets (SoundImport s) (import_unphased object (span_at s.at) (moved s))
+    unfolding import_unphased
+    unphased_sound h = meets_if _ (begins_clause s.code (after s.at)) _ _ (λ _. phased_sound phase.Evaluation (moved s) (sound_here (moved s) (no_phase_word s.code (after s.at) h)))
+        (λ _. refuse_meets _ faults.Expected (moved s))
+
     decl_sound : Meets (SoundImport s) (import_decl object s)
     unfolding import_decl
-    decl_sound = meets_if _ (sees kind.Str (after s.at)) _ _ (λ _. bare_sound) (λ _. meets_if _ (is_phase_word (after s.at)) _ _ import_phased_sound
-        (λ h. phased_sound phase.Evaluation (moved s) (sound_here (moved s) (no_phase_word s.code (after s.at) h))))
+    decl_sound = meets_if _ (sees kind.Str (after s.at)) _ _ (λ _. bare_sound) (λ _. meets_if _ (is_phase_word (after s.at)) _ _ import_phased_sound unphased_sound)
 
 pub import_sound : (In : Goal → Type 0) (object : Reader Tree) → ((s : State) → Meets (λ x t. SoundTree (ReadsObject In) s x t) (object s)) → (s : State) → IsModule s.code → kind_at s.at ≡ kind.Import
     → Meets (λ x t. Sound same (λ k l. walk (env_of k l) x) (notes_of x) (λ k c d. ImportRule In (in_module k) x c d × (supported_item x ≡ true) × (notes x ≡ [])) s t × (is_module_decl x ≡ true))

@@ -24,7 +24,7 @@ use Rattle.swc_ecma_parser_reader.specs.State.{State, Reader, moved, coded, with
 use Rattle.swc_ecma_parser_reader.specs.Methods.{star}
 use Rattle.swc_ecma_parser_reader.specs.Expressions.{Cover}
 use Rattle.swc_ecma_parser_reader.specs.Reader as reader
-use Rattle.swc_ecma_parser_reader.specs.Reader.{decorated_in, declarators, items, closes, close, no_label, note_statement, optional_end, head, note_with, as_init, as_left, head_part, misdeclared, await_here, opening, link, alternative, target, unbroken, uncontinued, operand, misplaced, clauses, braced, handler, finalizer, handled, labelled_body, relabels, function_word, named, top_await, goes_on, Opening, begins_label, unless_awaited, empty, debugger, variables, block, block_from, stmt_end, expr_stmt, expr_stmt_at, import_stmt_at, thrown, throw, while_stmt, with_stmt, do_while, for_parts, for_in, for_of, for_behind, for_stmt, links, if_stmt, break_stmt, continue_stmt, returned, return_stmt, labeled_stmt, other_stmt, switch_stmt, try_stmt, function_parts, function_decl, function_stmt, const_stmt, let_stmt, async_or_other, stmt_by, stmt_level, stmt, whole_stmt, expr, head_cover, pattern, member, misusing, using_from, using_stmt, using_or_other, await_using_stmt, plain_stmt, declaration_end, stray}
+use Rattle.swc_ecma_parser_reader.specs.Reader.{decorated_in, declarators, items, closes, close, no_label, note_statement, optional_end, head, note_with, as_init, as_left, head_part, misdeclared, await_here, opening, link, alternative, target, unbroken, uncontinued, operand, may_return, misplaced, clauses, braced, handler, finalizer, handled, labelled_body, relabels, function_word, named, top_await, goes_on, Opening, begins_label, unless_awaited, empty, debugger, variables, block, block_from, stmt_end, expr_stmt, expr_stmt_at, import_stmt_at, thrown, throw, while_stmt, with_stmt, do_while, for_parts, for_in, for_of, for_behind, for_stmt, links, if_stmt, break_stmt, continue_stmt, returned, return_stmt, labeled_stmt, other_stmt, switch_stmt, try_stmt, function_parts, function_decl, function_stmt, const_stmt, let_stmt, async_or_other, stmt_by, stmt_level, stmt, whole_stmt, expr, head_cover, pattern, member, misusing, using_from, using_stmt, using_or_other, await_using_stmt, plain_stmt, declaration_end, stray}
 use Rattle.swc_ecma_parser_reader.proofs.Meets.{Meets, always, meets_then, meets_if, wanted_meets, too_deep_meets, refuse_meets}
 use Rattle.swc_ecma_parser_reader.proofs.SoundParts.{after_return_meets}
 use Rattle.swc_ecma_parser_reader.proofs.expressions.SoundSteps.{reject_meets}
@@ -138,8 +138,8 @@ module _ (inner : Position → Reader Tree) (inner_expr : Class → Reader Tree)
 
   return_form : (p : Reader Tree) (s : State) → Meets IsStatement (return_stmt p s)
   unfolding return_stmt
-  return_form p s = after_return_meets _ (span_at s.at) (returned p (span_at s.at) (moved s)) (returned_form p (span_at s.at) (moved s)) (λ x t h.
-      always _ (misplaced (span_at s.at) t) _ (λ _ u. h))
+  return_form p s = after_return_meets _ (may_return s.code) (span_at s.at) (returned p (span_at s.at) (moved s)) (returned_form p (span_at s.at) (moved s)) (λ x t h.
+      always _ (misplaced (may_return s.code) (span_at s.at) t) _ (λ _ u. h))
 
   switch_form : (p q : Reader Tree) (s : State) → Meets IsStatement (switch_stmt p q s)
   unfolding switch_stmt

@@ -18,7 +18,7 @@ use Rattle.swc_ecma_parser_reader.specs.Jumps.{told}
 use Rattle.swc_ecma_parser_reader.specs.Members.{class_decl, class_expr}
 use Rattle.swc_ecma_parser_reader.specs.Methods.{star}
 use Rattle.swc_ecma_parser_reader.specs.Reader.{variables, function_decl, function_parts, function_word, named}
-use Rattle.swc_ecma_parser_reader.specs.State.{Reader, ◌>>=◌, ◌>>◌, pure, span_here, since, skip, within, wanted, name, expect_word, end}
+use Rattle.swc_ecma_parser_reader.specs.State.{Reader, ◌>>=◌, ◌>>◌, pure, span_here, since, skip, within, refuse, name, expect_word, end}
 use Rattle.swc_ecma_parser_module_reader.specs.Imports.{source, module_name, attributes, specifiers}
 
 -- ---- names that are exported; a reader of their own reads the attributes of another module
@@ -187,7 +187,7 @@ module _ (stmt : Reader Tree) (expr : Class → Reader Tree) (pat : Reader Tree)
     span ← since start
     pure (tree.export_decl span x)
 
-  -- what is neither a class nor a function, from behind `export` on
+  -- what is neither a class nor a function, from behind `export` on; where none of its forms begins, `{` is wanted
   unfoldable pub export_rest : (object : Reader Tree) → Span → Reader Tree
   export_rest object start = λ s.
       if sees kind.LBrace s.at then export_names object start [] s
@@ -196,7 +196,7 @@ module _ (stmt : Reader Tree) (expr : Class → Reader Tree) (pat : Reader Tree)
       else if sees kind.Const s.at then exported start (variables expr pat decl.Const) s
       else if is_let_declaration s.at then exported start (variables expr pat decl.Let) s
       else if is_name_from s.code s.at then name_from object start s
-      else wanted faults.Unexpected s
+      else refuse faults.Expected s
 
   -- no default, from behind `export` on
   unfoldable pub export_named : (object : Reader Tree) → Span → Reader Tree

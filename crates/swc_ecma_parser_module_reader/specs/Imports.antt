@@ -11,14 +11,14 @@ use Rattle.swc_ecma_parser_model.specs.declared.leaves.ImportPhase.TheVariants a
 use Rattle.swc_ecma_parser_model.specs.Tree as tree
 use Rattle.swc_ecma_parser_model.specs.Tree.{Tree, Text, listed}
 use Rattle.swc_ecma_parser_grammar.specs.Looks.{sees}
-use Rattle.swc_ecma_parser_grammar.specs.Names.{is_name}
+use Rattle.swc_ecma_parser_grammar.specs.Names.{Code, is_name, identifier_at}
 use Rattle.swc_ecma_parser_grammar.specs.Follows.{word_at}
 use Rattle.swc_ecma_parser_grammar.specs.language.Contexts.{outside_functions}
 use Rattle.swc_ecma_parser_grammar.specs.language.Imports.{follows_phase}
 use Rattle.swc_ecma_parser_grammar.specs.language.ModuleParts.{begins_attributes}
 use Rattle.swc_ecma_parser_reader.specs.Operands.{literal, word_property}
 use Rattle.swc_ecma_parser_reader.specs.Words.{any_word}
-use Rattle.swc_ecma_parser_reader.specs.State.{Reader, ◌>>=◌, ◌>>◌, pure, span_here, since, skip, moved, within, fault_at, wanted, reject, name, expect, expect_word, end, Step, More, Done, loop}
+use Rattle.swc_ecma_parser_reader.specs.State.{Reader, ◌>>=◌, ◌>>◌, pure, span_here, since, skip, moved, within, fault_at, wanted, refuse, reject, name, expect, expect_word, end, Step, More, Done, loop}
 
 -- ---- what imports and exports share
 
@@ -99,11 +99,15 @@ import_namespace = do
 unfoldable pub bindings : Reader (List Tree)
 bindings = λ s. if sees kind.Mul s.at then import_namespace s else specifiers import_specifier s
 
+-- all names, or names in braces
+unfoldable pub begins_bindings : Place → Bool
+begins_bindings c = sees kind.Mul c || sees kind.LBrace c
+
 -- behind a default binding; a comma may stand there with nothing behind it
 unfoldable pub more_bindings : Reader (List Tree)
 more_bindings = λ s. if sees kind.Comma s.at then (do
   skip
-  λ t. if word_at (codes "from") t.at then Ok ([], t) else bindings t) s else Ok ([], s)
+  λ t. if begins_bindings t.at then bindings t else Ok ([], t)) s else Ok ([], s)
 
 -- from behind its name on
 unfoldable pub default_binding : Ident → Reader (List Tree)
@@ -112,7 +116,7 @@ default_binding i = do
   pure (tree.import_default i.span (tree.ident i.span i.sym) ∷ xs)
 
 unfoldable pub import_clause : Reader (List Tree)
-import_clause = λ s. if sees kind.Mul s.at || sees kind.LBrace s.at then bindings s else (binding_name >>= default_binding) s
+import_clause = λ s. if begins_bindings s.at then bindings s else (binding_name >>= default_binding) s
 
 -- ---- an import, whose attributes a reader of their own reads
 
@@ -146,6 +150,14 @@ import_phased object start = do
 unfoldable pub is_phase_word : Place → Bool
 is_phase_word c = word_at (codes "source") c || word_at (codes "defer") c
 
+-- whether what is imported begins here: a name for the default, all names, or names in braces
+unfoldable pub begins_clause : Code → Place → Bool
+begins_clause k c = begins_bindings c || identifier_at (outside_functions k).flags c
+
+-- an import in no phase, from behind its word on; where nothing that is imported begins, `from` is wanted
+unfoldable pub import_unphased : (object : Reader Tree) → Span → Reader Tree
+import_unphased object start = λ s. if begins_clause s.code s.at then import_from object start phase.Evaluation s else refuse faults.Expected s
+
 unfoldable pub import_decl : (object : Reader Tree) → Reader Tree
 import_decl object = do
   start ← span_here
@@ -153,4 +165,4 @@ import_decl object = do
   λ s.
       if sees kind.Str s.at then imported object start phase.Evaluation [] str s
       else if is_phase_word s.at then import_phased object start s
-      else import_from object start phase.Evaluation s
+      else import_unphased object start s

@@ -25,7 +25,7 @@ use Rattle.swc_ecma_parser_reader.specs.Methods.{star}
 use Rattle.swc_ecma_parser_reader.specs.Reader.{variables, function_decl, function_parts, function_word, named}
 use Rattle.swc_ecma_parser_reader.specs.State.{State, Reader, moved, within, name, expect_word, end}
 use Rattle.swc_ecma_parser_reader.proofs.Behind.{Passes}
-use Rattle.swc_ecma_parser_reader.proofs.Meets.{Meets, meets_then, meets_if, wanted_meets}
+use Rattle.swc_ecma_parser_reader.proofs.Meets.{Meets, meets_then, meets_if, wanted_meets, refuse_meets}
 use Rattle.swc_ecma_parser_reader.proofs.expressions.SoundSteps.{reject_meets, meets_as}
 use Rattle.swc_ecma_parser_span_order.proofs.Classes.{StraightPart, class_decl_straight, class_expr_straight}
 use Rattle.swc_ecma_parser_span_order.proofs.Decorators.{leading_past, misplaced_past}
@@ -176,7 +176,7 @@ module _ (stmt : Reader Tree) (expr : Class → Reader Tree) (pat : Reader Tree)
         (λ _. meets_if _ (sees kind.Var s.at) _ _ (λ _. exported_reads (variables expr pat decl.Var) (variables_straight expr pat below below_pat passes decl.Var) s h)
         (λ _. meets_if _ (sees kind.Const s.at) _ _ (λ _. exported_reads (variables expr pat decl.Const) (variables_straight expr pat below below_pat passes decl.Const) s h)
         (λ _. meets_if _ (is_let_declaration s.at) _ _ (λ _. exported_reads (variables expr pat decl.Let) (variables_straight expr pat below below_pat passes decl.Let) s h)
-        (λ _. meets_if _ (is_name_from s.code s.at) _ _ (λ _. name_from_reads object below_object m start b s h) (λ _. wanted_meets _ faults.Unexpected s))))))
+        (λ _. meets_if _ (is_name_from s.code s.at) _ _ (λ _. name_from_reads object below_object m start b s h) (λ _. refuse_meets _ faults.Expected s))))))
 
     export_named_reads : (s : State) → Past m s.at → Meets (Read m) (export_named stmt expr pat params member object start s)
     unfolding export_named

@@ -19,13 +19,13 @@ use Rattle.swc_ecma_parser_grammar.specs.language.ModuleParts.{begins_attributes
 use Rattle.swc_ecma_parser_reader.specs.Operands.{literal}
 use Rattle.swc_ecma_parser_reader.specs.State.{State, Reader, moved, coded, name, expect, expect_word, end, loop}
 use Rattle.swc_ecma_parser_reader.specs.Words.{any_word}
-use Rattle.swc_ecma_parser_reader.proofs.Meets.{Meets, Refuses, meets_then, meets_if, wanted_meets, loop_answers}
+use Rattle.swc_ecma_parser_reader.proofs.Meets.{Meets, Refuses, meets_then, meets_if, wanted_meets, loop_answers, refuse_meets}
 use Rattle.swc_ecma_parser_reader.proofs.expressions.SoundSteps.{reject_meets}
 use Rattle.swc_ecma_parser_span_order.proofs.Operands.{ReadIf, literal_reads, word_straight}
 use Rattle.swc_ecma_parser_span_order.proofs.Places.{far, Past, Ahead, Read, ReadPart, ReadMany, ReadName, Straight, Whole, both, onward, next, behind, node, reads, reads_part, past_less, named_less}
 use Rattle.swc_ecma_parser_span_order.proofs.Steps.{expect_past, expect_word_past, end_past, any_word_past, name_ahead}
 use Rattle.swc_ecma_parser_span_order.proofs.Trees.{one_more}
-use Rattle.swc_ecma_parser_module_reader.specs.Imports.{str_or, str, source, module_name, attributes, specifiers_turn, specifiers, same_name, other_name, import_specifier, binding_name, import_namespace, bindings, more_bindings, default_binding, import_clause, imported, import_from, phase_of, import_phased, is_phase_word, import_decl}
+use Rattle.swc_ecma_parser_module_reader.specs.Imports.{str_or, str, source, module_name, attributes, specifiers_turn, specifiers, same_name, other_name, import_specifier, binding_name, import_namespace, bindings, more_bindings, default_binding, import_clause, imported, import_from, phase_of, import_phased, is_phase_word, import_decl, begins_bindings, begins_clause, import_unphased}
 
 -- ---- what imports and exports share
 
@@ -93,7 +93,7 @@ bindings_read m s h = meets_if _ (sees kind.Mul s.at) _ _ (λ _. namespace_reads
 
 more_bindings_read : (m : ℕ) (s : State) → Past m s.at → Meets (ReadMany m) (more_bindings s)
 unfolding more_bindings
-more_bindings_read m s h = meets_if _ (sees kind.Comma s.at) _ _ (λ _. meets_if _ (word_at (codes "from") (after s.at)) _ _ (λ _. record { straight = refl; place = next h }) (λ _. bindings_read m (moved s) (next h)))
+more_bindings_read m s h = meets_if _ (sees kind.Comma s.at) _ _ (λ _. meets_if _ (begins_bindings (after s.at)) _ _ (λ _. bindings_read m (moved s) (next h)) (λ _. record { straight = refl; place = next h }))
     (λ _. record { straight = refl; place = h })
 
 default_binding_reads : (m : ℕ) (i : Ident) (s : State) → ReadName m i s → Meets (ReadMany m) (default_binding i s)
@@ -102,7 +102,7 @@ default_binding_reads m i s h = meets_then _ (more_bindings s) _ (more_bindings_
 
 import_clause_reads : (m : ℕ) (s : State) → Past m s.at → Meets (ReadMany m) (import_clause s)
 unfolding import_clause
-import_clause_reads m s h = meets_if _ (sees kind.Mul s.at || sees kind.LBrace s.at) _ _ (λ _. bindings_read m s h)
+import_clause_reads m s h = meets_if _ (begins_bindings s.at) _ _ (λ _. bindings_read m s h)
     (λ _. meets_then _ (binding_name s) _ (binding_reads m s (onward h)) (λ i t g. default_binding_reads m i t g))
 
 module _ (object : Reader Tree) (below : Straight object) where
@@ -124,8 +124,12 @@ module _ (object : Reader Tree) (below : Straight object) where
         meets_if _ (follows_phase t.code t.at) _ _ (λ _. import_from_reads (phase_of i.sym) t n)
         (λ _. meets_then _ (default_binding i t) _ (default_binding_reads m i t (named_less (onward h).ahead g)) (λ xs u k. imported_reads phase.Evaluation xs source (λ v j. source_reads m v j) u k)))
 
+    import_unphased_reads : (s : State) → Past m s.at → Meets (Read m) (import_unphased object start s)
+    unfolding import_unphased
+    import_unphased_reads s h = meets_if _ (begins_clause s.code s.at) _ _ (λ _. import_from_reads phase.Evaluation s h) (λ _. refuse_meets _ faults.Expected s)
+
   pub import_straight : Straight (import_decl object)
   unfolding import_decl
   import_straight s f = let m = far (after s.at) in meets_if _ (sees kind.Str (after s.at)) _ _
       (λ _. imported_reads m (span_at s.at) f.begins phase.Evaluation [] str (λ t h. reads str str_straight t (onward h)) (moved s) (record { straight = refl; place = behind f }))
-      (λ _. meets_if _ (is_phase_word (after s.at)) _ _ (λ _. import_phased_reads m (span_at s.at) f.begins (moved s) (behind f)) (λ _. import_from_reads m (span_at s.at) f.begins phase.Evaluation (moved s) (behind f)))
+      (λ _. meets_if _ (is_phase_word (after s.at)) _ _ (λ _. import_phased_reads m (span_at s.at) f.begins (moved s) (behind f)) (λ _. import_unphased_reads m (span_at s.at) f.begins (moved s) (behind f)))

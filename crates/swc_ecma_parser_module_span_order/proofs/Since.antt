@@ -24,11 +24,11 @@ use Rattle.swc_ecma_parser_reader.specs.Members.{class_decl, class_expr}
 use Rattle.swc_ecma_parser_reader.specs.Reader.{variables, function_decl}
 use Rattle.swc_ecma_parser_reader.specs.State.{State, Reader, moved, within, name, end}
 use Rattle.swc_ecma_parser_reader.specs.Words.{any_word}
-use Rattle.swc_ecma_parser_reader.proofs.Meets.{Meets, always, meets_if, wanted_meets}
+use Rattle.swc_ecma_parser_reader.proofs.Meets.{Meets, always, meets_if, wanted_meets, refuse_meets}
 use Rattle.swc_ecma_parser_reader.proofs.expressions.SoundSteps.{reject_meets}
 use Rattle.swc_ecma_parser_module_reader.specs.Decorated.{begins_decorators, no_leading, later, decorating, by_default, named_with, default_with, behind_export, behind_default_word, export_from, export_with, export_item}
 use Rattle.swc_ecma_parser_module_reader.specs.Exports.{export_specifier, export_namespace, names_from, own_names, export_names, more_names, namespace_names, export_all, export_star, is_namespace_next, behind_default, is_name_from, name_from, is_default_from, default_from, default_function, default_expr, begins_default_function, exported_function, exported_class, default_rest, export_default, exported, export_rest, export_named}
-use Rattle.swc_ecma_parser_module_reader.specs.Imports.{str, source, attributes, specifiers, import_clause, default_binding, imported, import_from, phase_of, import_phased, is_phase_word, import_decl}
+use Rattle.swc_ecma_parser_module_reader.specs.Imports.{str, source, attributes, specifiers, import_clause, default_binding, imported, import_from, phase_of, import_phased, is_phase_word, import_decl, begins_bindings, begins_clause, import_unphased}
 
 abbrev pub Since : Span → Tree → State → Type 0
 Since start x t = span_of x ≡ record { lo = start.lo; hi = t.at.last.hi }
@@ -105,7 +105,7 @@ module _ (stmt : Reader Tree) (expr : Class → Reader Tree) (pat : Reader Tree)
         (λ _. meets_if _ (sees kind.Var s.at) _ _ (λ _. exported_since (variables expr pat decl.Var) s)
         (λ _. meets_if _ (sees kind.Const s.at) _ _ (λ _. exported_since (variables expr pat decl.Const) s)
         (λ _. meets_if _ (is_let_declaration s.at) _ _ (λ _. exported_since (variables expr pat decl.Let) s)
-        (λ _. meets_if _ (is_name_from s.code s.at) _ _ (λ _. name_from_since object start s) (λ _. wanted_meets _ faults.Unexpected s))))))
+        (λ _. meets_if _ (is_name_from s.code s.at) _ _ (λ _. name_from_since object start s) (λ _. refuse_meets _ faults.Expected s))))))
 
     export_named_since : (s : State) → Meets (Since start) (export_named stmt expr pat params member object start s)
     unfolding export_named
@@ -163,7 +163,11 @@ module _ (object : Reader Tree) where
     import_phased_since s = always _ (any_word s) _ (λ i t. meets_if _ (follows_phase t.code t.at) _ _ (λ _. import_from_since (phase_of i.sym) t)
         (λ _. always _ (default_binding i t) _ (λ xs u. imported_since phase.Evaluation xs source u)))
 
+    import_unphased_since : (s : State) → Meets (Since start) (import_unphased object start s)
+    unfolding import_unphased
+    import_unphased_since s = meets_if _ (begins_clause s.code s.at) _ _ (λ _. import_from_since phase.Evaluation s) (λ _. refuse_meets _ faults.Expected s)
+
   pub import_since : (s : State) → Meets (Since (span_at s.at)) (import_decl object s)
   unfolding import_decl
   import_since s = meets_if _ (sees kind.Str (after s.at)) _ _ (λ _. imported_since (span_at s.at) phase.Evaluation [] str (moved s))
-      (λ _. meets_if _ (is_phase_word (after s.at)) _ _ (λ _. import_phased_since (span_at s.at) (moved s)) (λ _. import_from_since (span_at s.at) phase.Evaluation (moved s)))
+      (λ _. meets_if _ (is_phase_word (after s.at)) _ _ (λ _. import_phased_since (span_at s.at) (moved s)) (λ _. import_unphased_since (span_at s.at) (moved s)))

@@ -149,6 +149,14 @@ fn bindings<P: Cursor, T: BuildsImport>(
     Ok(found)
 }
 
+/// Whether all names, or names in braces, are imported from here on.
+#[tactic(auto, unfolding(swc_ecma_parser_module_reader::specs::Imports::begins_bindings))]
+fn begins_bindings<P: Cursor>(p: &P) -> bool
+    ensures { result ≡ imports.begins_bindings (P.seen p.now).at }
+{
+    p.sees(TokenKind::Mul) || p.sees(TokenKind::LBrace)
+}
+
 /// What stands behind a default binding; a comma may stand there with nothing behind it.
 #[tactic(auto, unfolding(swc_ecma_parser_module_reader::specs::Imports::more_bindings))]
 fn more_bindings<P: Cursor, T: BuildsImport>(
@@ -162,10 +170,10 @@ fn more_bindings<P: Cursor, T: BuildsImport>(
         return Ok(Vec::new(t.alloc));
     }
     p.skip()?;
-    if p.word_at("from") {
-        return Ok(Vec::new(t.alloc));
+    if begins_bindings(p) {
+        return bindings::<P, T>(t, p);
     }
-    bindings::<P, T>(t, p)
+    Ok(Vec::new(t.alloc))
 }
 
 /// One before the others.
@@ -207,7 +215,7 @@ fn import_clause<P: Cursor, T: BuildsImport>(
     ensures { GivesAs (λ found. map T.import_specifier_of found.items)
         (imports.import_clause (P.seen p.old)) result (P.seen p.new) }
 {
-    if p.sees(TokenKind::Mul) || p.sees(TokenKind::LBrace) {
+    if begins_bindings(p) {
         return bindings::<P, T>(t, p);
     }
     let local = binding_name(p)?;
@@ -305,6 +313,40 @@ fn is_phase_word<P: Cursor>(p: &P) -> bool
     p.word_at("source") || p.word_at("defer")
 }
 
+/// Whether what is imported begins here: a name for the default, all names, or names in braces.
+#[tactic(auto, unfolding(swc_ecma_parser_module_reader::specs::Imports::begins_clause))]
+fn begins_clause<P: Cursor>(p: &mut P) -> bool
+    ensures clause { result ≡ imports.begins_clause (P.seen p.old).code (P.seen p.old).at }
+    ensures state { P.seen p.new ≡ P.seen p.old }
+{
+    if begins_bindings(p) {
+        return true;
+    }
+    let outer = p.flags();
+    p.set_flags(outside_functions(outer));
+    let begins = p.identifier_at();
+    p.set_flags(outer);
+    begins
+}
+
+/// An import in no phase, from behind its word on. Where nothing that is imported begins, `from` is wanted.
+#[tactic(auto, unfolding(swc_ecma_parser_module_reader::specs::Imports::import_unphased))]
+fn import_unphased<P: Cursor, T: BuildsStatements + BuildsImport>(
+    t: &MakerOf<T>,
+    p: &mut P,
+    depth: usize,
+    start: Span,
+) -> PResult<T::Item>
+    ensures { GivesAs T.item_of
+        (imports.import_unphased (rules.object_alone depth) start (P.seen p.old)) result
+        (P.seen p.new) }
+{
+    if !begins_clause(p) {
+        return Err(p.refuse(Wanted::Token("from")));
+    }
+    import_from::<P, T>(t, p, depth, start, ImportPhase::Evaluation)
+}
+
 /// An import, whose attributes may take so many levels.
 #[tactic(auto, unfolding(swc_ecma_parser_module_reader::specs::Imports::import_decl, swc_ecma_parser_module_reader::specs::Imports::imported))]
 pub fn import_decl<P: Cursor, T: BuildsStatements + BuildsImport>(
@@ -325,5 +367,5 @@ pub fn import_decl<P: Cursor, T: BuildsStatements + BuildsImport>(
     if is_phase_word(p) {
         return import_phased::<P, T>(t, p, depth, start);
     }
-    import_from::<P, T>(t, p, depth, start, ImportPhase::Evaluation)
+    import_unphased::<P, T>(t, p, depth, start)
 }
