@@ -315,7 +315,7 @@ fn modules(rt: HostRuntime) -> Result<(), Fail> {
             "export { if }",
             "Module 0..13\n  ExportNamed 0..13\nfault 9..11 ExportExpectFrom\n||1",
         ),
-        ("export a", "refused 7..8 Unexpected\n||2"),
+        ("export a", "refused 7..8 Expected\n||2"),
     ];
     for (text, wanted) in rows {
         let found = outcome_of(rt.alloc(), "module", text)?;
@@ -345,7 +345,7 @@ fn programs(rt: HostRuntime) -> Result<(), Fail> {
         ("break", "Script 0..5\n  Break 0..5\nfault 0..5 TS1105\n||1"),
         (
             "with (a) b; export c",
-            "fault 0..4 WithInStrict\nrefused 19..20 Unexpected\n||2",
+            "fault 0..4 WithInStrict\nrefused 19..20 Expected\n||2",
         ),
         ("{ import 'a' }", "refused 2..8 ImportExportInScript\n||2"),
     ];

@@ -29,10 +29,10 @@ fn may_return<P: Cursor>(p: &P) -> bool
 
 /// Records that a `return` stands where it may not, up to what was read last.
 #[tactic(auto, unfolding(swc_ecma_parser_reader::specs::Reader::misplaced))]
-fn misplaced<P: Cursor>(p: &mut P, may_return: bool, start: Span) -> PResult<()>
-    ensures { Gives (rules.misplaced may_return start (P.seen p.old)) result (P.seen p.new) }
+fn misplaced<P: Cursor>(p: &mut P, is_allowed: bool, start: Span) -> PResult<()>
+    ensures { Gives (rules.misplaced is_allowed start (P.seen p.old)) result (P.seen p.new) }
 {
-    if !may_return {
+    if !is_allowed {
         let span = since(p, start);
         p.fault(SyntaxError::ReturnNotAllowed, span)?;
     }
@@ -40,16 +40,16 @@ fn misplaced<P: Cursor>(p: &mut P, may_return: bool, start: Span) -> PResult<()>
 }
 
 /// The refusal of what stands behind `return`, with the fault of its own recorded. One for want of memory or depth stays as it is.
-fn refused<P: Cursor>(p: &mut P, may_return: bool, start: Span, error: Error) -> Error
+fn refused<P: Cursor>(p: &mut P, is_allowed: bool, start: Span, error: Error) -> Error
     ensures memory { kind_of result.kind ≢ kinds.OutOfMemory → kind_of error.kind
         ≢ kinds.OutOfMemory }
     ensures gives { kind_of result.kind ≢ kinds.OutOfMemory
-        → rules.after_return may_return start (Err (fault_of error, P.seen p.old)) ≡ Err (fault_of result, P.seen p.new) }
+        → rules.after_return is_allowed start (Err (fault_of error, P.seen p.old)) ≡ Err (fault_of result, P.seen p.new) }
 {
     if matches!(error.kind, SyntaxError::OutOfMemory) || p.is_marked() {
         return error;
     }
-    match misplaced(p, may_return, start) {
+    match misplaced(p, is_allowed, start) {
         Ok(()) => error,
         Err(error) => error,
     }
@@ -118,13 +118,13 @@ pub fn return_stmt<
 {
     let start = p.span();
     p.skip()?;
-    let may_return = may_return(p);
+    let is_allowed = may_return(p);
     match returned(g, t, p, start) {
         Ok(stmt) => {
-            misplaced(p, may_return, start)?;
+            misplaced(p, is_allowed, start)?;
             Ok(stmt)
         }
-        Err(error) => Err(refused(p, may_return, start, error)),
+        Err(error) => Err(refused(p, is_allowed, start, error)),
     }
 }
 
