@@ -30,7 +30,7 @@ use swc_ecma_parser_trees::{BuildsFunction, BuildsPattern, MakerOf, Trees};
 
 /// The body of an arrow function.
 #[derive(Drop)]
-enum ArrowBody<B, E> {
+pub enum ArrowBody<B, E> {
     /// Statements in braces.
     Block(FunctionBody<B>),
     /// What it answers.
@@ -117,7 +117,7 @@ fn arrow_expr<
 
 /// A block, or an expression that does not begin as one.
 #[tactic(auto, unfolding(swc_ecma_parser_reader::specs::Arrows::arrow_body))]
-fn arrow_body<
+pub fn arrow_body<
     P: Cursor,
     T: BuildsFunction,
     S: Fn(&MakerOf<T>, &mut P, usize, Position) -> PResult<T::Stmt>,
@@ -148,7 +148,7 @@ fn arrow_body<
 }
 
 /// The directive of a body that says it is strict.
-fn strict_directive<B, E>(body: &ArrowBody<B, E>) -> Option<Span>
+pub fn strict_directive<B, E>(body: &ArrowBody<B, E>) -> Option<Span>
     ensures { result ≡ directive_of body.now }
 {
     match body {

@@ -11,7 +11,7 @@ use swc_ecma_parser_functions::function::Manner;
 use swc_ecma_parser_grammar::Position;
 use swc_ecma_parser_shared::cover::{Cover, Reading};
 use swc_ecma_parser_shared::grammar::{Grammar, Part};
-use swc_ecma_parser_trees::{MakerOf, Trees};
+use swc_ecma_parser_trees::{BuildsFunction, MakerOf, Trees};
 
 /// A source from which the body of a function of the tree `T` can be read as a `B`.
 pub trait FnBodyParser<T: Trees, B>: Cursor {
@@ -44,4 +44,20 @@ pub trait FnBodyParser<T: Trees, B>: Cursor {
             (directed_body is_simple_parameter_list
             (body g.now.depth manner.is_async manner.is_generator) (Self.seen self.old)) result
             (Self.seen self.new) };
+}
+
+/// What the body of an arrow function of the tree `T` can become.
+pub trait FromArrowBody<T: BuildsFunction> {
+    ghost use Rattle.swc_ecma_parser_model.specs.Tree.{Tree};
+
+    /// The tree that it stands for.
+    ghost arrow_body: { Self → Tree };
+
+    /// Statements in braces.
+    fn from_block(block: T::Block) -> Self
+        ensures { arrow_body result ≡ T.block_of block };
+
+    /// An expression.
+    fn from_expr(expr: T::Expr) -> Self
+        ensures { arrow_body result ≡ T.expr_of expr };
 }
