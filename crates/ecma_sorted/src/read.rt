@@ -52,7 +52,9 @@ fn parts_from<O: Origin, I: Tokens>(
     limit: usize,
 ) -> (State<I>, PResult<Vec<Part>>)
     requires { O.start ≡ state }
-    ensures { GivesAs (λ found. map view_part found.items) (rules.items (rules.whole_stmt limit top_item) rules.at_end true (begun (seen state))) result.1 (seen result.0) }
+    ensures { GivesAs (λ found. map view_part found.items)
+        (rules.items (rules.whole_stmt limit top_item) rules.at_end true (begun (seen state)))
+        result.1 (seen result.0) }
 {
     let mut call = state.begin::<O>();
     let maker: MakerOf<Ast> = Maker::new(alloc);
@@ -74,7 +76,9 @@ pub fn parts<I: Tokens>(
     state: State<I>,
     limit: usize,
 ) -> (State<I>, PResult<Vec<Part>>)
-    ensures { GivesAs (λ found. map view_part found.items) (rules.items (rules.whole_stmt limit top_item) rules.at_end true (begun (seen state))) result.1 (seen result.0) }
+    ensures { GivesAs (λ found. map view_part found.items)
+        (rules.items (rules.whole_stmt limit top_item) rules.at_end true (begun (seen state)))
+        result.1 (seen result.0) }
 {
     parts_from::<Brand, I>(alloc, state, limit)
 }

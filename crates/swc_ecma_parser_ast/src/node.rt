@@ -353,7 +353,8 @@ impl ExprBox<Node> {
 
     /// The expression; none only of a handle that no function of this crate makes.
     pub fn get(&self) -> Option<&Expr<Node>>
-        ensures { MatchOption result (is_expr self.now.node.tree ≡ false) (λ e. view_expr e.now ≡ self.now.node.tree) }
+        ensures { MatchOption result (is_expr self.now.node.tree ≡ false)
+            (λ e. view_expr e.now ≡ self.now.node.tree) }
     {
         match &self.node.inner {
             Any::Expr(e) => Some(e),
@@ -363,7 +364,8 @@ impl ExprBox<Node> {
 
     /// The expression itself, in place of the handle.
     pub fn into_inner(self) -> Option<Expr<Node>>
-        ensures { MatchOption result (is_expr self.node.tree ≡ false) (λ e. view_expr e ≡ self.node.tree) }
+        ensures { MatchOption result (is_expr self.node.tree ≡ false)
+            (λ e. view_expr e ≡ self.node.tree) }
     {
         let ExprBox { node } = self;
         match node.into_any() {
@@ -391,8 +393,10 @@ impl PatBox<Node> {
 
     /// The pattern; none only of a handle that no function of this crate makes.
     pub fn get(&self) -> Option<&Pat<Node>>
-        ensures view { MatchOption result (is_pat self.now.node.tree ≡ false) (λ e. view_pat e.now ≡ self.now.node.tree) }
-        ensures other { let t = self.now.node.tree in IfNone result ((is_expr t || is_stmt t || is_list t) ≡ true) }
+        ensures view { MatchOption result (is_pat self.now.node.tree ≡ false)
+            (λ e. view_pat e.now ≡ self.now.node.tree) }
+        ensures other { let t = self.now.node.tree in IfNone result
+            ((is_expr t || is_stmt t || is_list t) ≡ true) }
     {
         match &self.node.inner {
             Any::Pat(e) => Some(e),
@@ -402,7 +406,8 @@ impl PatBox<Node> {
 
     /// The pattern itself, in place of the handle.
     pub fn into_inner(self) -> Option<Pat<Node>>
-        ensures { MatchOption result (is_pat self.node.tree ≡ false) (λ e. view_pat e ≡ self.node.tree) }
+        ensures { MatchOption result (is_pat self.node.tree ≡ false)
+            (λ e. view_pat e ≡ self.node.tree) }
     {
         let PatBox { node } = self;
         match node.into_any() {
@@ -428,7 +433,8 @@ impl StmtBox<Node> {
 
     /// The statement; none only of a handle that no function of this crate makes.
     pub fn get(&self) -> Option<&Stmt<Node>>
-        ensures { MatchOption result (is_stmt self.now.node.tree ≡ false) (λ e. view_stmt e.now ≡ self.now.node.tree) }
+        ensures { MatchOption result (is_stmt self.now.node.tree ≡ false)
+            (λ e. view_stmt e.now ≡ self.now.node.tree) }
     {
         match &self.node.inner {
             Any::Stmt(e) => Some(e),
@@ -438,7 +444,8 @@ impl StmtBox<Node> {
 
     /// The statement itself, in place of the handle.
     pub fn into_inner(self) -> Option<Stmt<Node>>
-        ensures { MatchOption result (is_stmt self.node.tree ≡ false) (λ e. view_stmt e ≡ self.node.tree) }
+        ensures { MatchOption result (is_stmt self.node.tree ≡ false)
+            (λ e. view_stmt e ≡ self.node.tree) }
     {
         let StmtBox { node } = self;
         match node.into_any() {
@@ -464,7 +471,8 @@ impl StmtList<Node> {
 
     /// The statements; none only of a handle that no function of this crate makes.
     pub fn get(&self) -> Option<&Vec<Stmt<Node>>>
-        ensures { MatchOption result (is_list self.now.node.tree ≡ false) (λ xs. listed (map view_stmt xs.now.items) ≡ self.now.node.tree) }
+        ensures { MatchOption result (is_list self.now.node.tree ≡ false)
+            (λ xs. listed (map view_stmt xs.now.items) ≡ self.now.node.tree) }
     {
         match &self.node.inner {
             Any::Stmts(xs) => Some(xs),
@@ -474,7 +482,8 @@ impl StmtList<Node> {
 
     /// The statements themselves, in place of the handle.
     pub fn into_inner(self) -> Option<Vec<Stmt<Node>>>
-        ensures { MatchOption result (is_list self.node.tree ≡ false) (λ xs. listed (map view_stmt xs.items) ≡ self.node.tree) }
+        ensures { MatchOption result (is_list self.node.tree ≡ false)
+            (λ xs. listed (map view_stmt xs.items) ≡ self.node.tree) }
     {
         let StmtList { node } = self;
         match node.into_any() {

@@ -125,8 +125,10 @@ pub trait Cursor {
 
     /// A copy of what stands around, so that it can stand around again behind what is dropped.
     fn copy_around(&mut self) -> PResult<Around>
-        ensures labels { IfOk result (λ around. around.labels.items ≡ (seen self.old).scope.labels) }
-        ensures found { IfOk result (λ around. around.found_module_item ≡ (seen self.old).notes.found_module_item) }
+        ensures labels { IfOk result
+            (λ around. around.labels.items ≡ (seen self.old).scope.labels) }
+        ensures found { IfOk result
+            (λ around. around.found_module_item ≡ (seen self.old).notes.found_module_item) }
         ensures state { IfOk result (λ around. seen self.new ≡ seen self.old) }
         ensures err { IfErr result IsOutOfMemory };
 

@@ -173,7 +173,8 @@ fn is_nullish(op: BinaryOp) -> bool
 
 /// Whether one of two operators is `??` and the other `||` or `&&`, which do not stand beside each other: section 13.13.
 pub fn mixes(outer: BinaryOp, inner: BinaryOp) -> bool
-    ensures { result ≡ (operators.is_nullish outer && operators.is_logical inner) || (operators.is_logical outer && operators.is_nullish inner) }
+    ensures { result ≡ (operators.is_nullish outer && operators.is_logical inner)
+        || (operators.is_logical outer && operators.is_nullish inner) }
 {
     is_nullish(outer) && is_logical(inner) || is_logical(outer) && is_nullish(inner)
 }

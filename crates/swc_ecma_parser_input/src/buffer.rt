@@ -51,8 +51,12 @@ impl<I: Tokens> Buffer<I> {
     /// Draws the first two tokens. Where memory runs out for one of them, an error token of kind `OutOfMemory` stands in
     /// its place.
     pub fn new(input: I) -> Buffer<I>
-        ensures kept { result ≡ record (buffered.opened (I.seen input)) { place = place.outset (I.seen input).start result.place.left } }
-        ensures left { place.lacks_memory (first result.place.left) ≡ false → place.lacks_memory (second result.place.left) ≡ false → result ≡ buffered.opened (I.seen input) }
+        ensures kept { result
+            ≡ record (buffered.opened (I.seen input))
+            { place = place.outset (I.seen input).start result.place.left } }
+        ensures left { place.lacks_memory (first result.place.left) ≡ false
+            → place.lacks_memory (second result.place.left) ≡ false → result
+            ≡ buffered.opened (I.seen input) }
         ensures len { length result.place.left ≡ length (I.seen input).left }
     {
         let mut input = input;
@@ -96,8 +100,11 @@ impl<I: Tokens> Buffer<I> {
     #[tactic(auto, unfolding(crate::specs::Place::after))]
     pub fn bump(&mut self) -> Option<TokenAndSpan>
         ensures token { result ≡ first self.old.place.left }
-        ensures place { place.lacks_memory (second self.new.place.left) ≡ false → self.new ≡ record self.old { place = place.after self.old.place } }
-        ensures kept { self.new ≡ record self.old { place = record (place.after self.old.place) { left = self.new.place.left } } }
+        ensures place { place.lacks_memory (second self.new.place.left) ≡ false → self.new
+            ≡ record self.old { place = place.after self.old.place } }
+        ensures kept { self.new
+            ≡ record self.old
+            { place = record (place.after self.old.place) { left = self.new.place.left } } }
         ensures cur { first self.new.place.left ≡ second self.old.place.left }
         ensures len { length self.new.place.left ≡ length (place.after self.old.place).left }
         ensures drawn { behind.Drawn (place.after self.old.place).left self.new.place.left }

@@ -63,7 +63,8 @@ impl<I: Tokens> Capturing<I> {
 
     /// Keeps a copy, or changes nothing where memory runs out.
     fn keep(&mut self, token: &TokenAndSpan) -> Result<(), AllocError>
-        ensures ok { OnOk result (self.new ≡ record self.old { copies = self.old.copies ++ token.now ∷ [] }) }
+        ensures ok { OnOk result
+            (self.new ≡ record self.old { copies = self.old.copies ++ token.now ∷ [] }) }
         ensures err { OnErr result (self.new ≡ self.old) }
     {
         match token.try_clone() {
@@ -92,7 +93,8 @@ impl<I: Tokens> Tokens for Capturing<I> {
     }
 
     fn set_ctx(&mut self, context: Context)
-        ensures source { I.seen self.new.input ≡ source.with_context context (I.seen self.old.input) }
+        ensures source { I.seen self.new.input
+            ≡ source.with_context context (I.seen self.old.input) }
         ensures copies { self.new.copies ≡ self.old.copies }
     {
         self.input.set_ctx(context);
@@ -111,8 +113,10 @@ impl<I: Tokens> Tokens for Capturing<I> {
     }
 
     fn add_error(&mut self, error: Error) -> PResult<()>
-        ensures ok { OnOk result (I.seen self.new.input ≡ source.recording error (I.seen self.old.input)) }
-        ensures err { IfErr result (λ e. IsOutOfMemory e × (I.seen self.new.input ≡ I.seen self.old.input)) }
+        ensures ok { OnOk result
+            (I.seen self.new.input ≡ source.recording error (I.seen self.old.input)) }
+        ensures err { IfErr result
+            (λ e. IsOutOfMemory e × (I.seen self.new.input ≡ I.seen self.old.input)) }
         ensures place { IfErr result (λ e. e.span ≡ source.at_start (I.seen self.old.input)) }
         ensures copies { self.new.copies ≡ self.old.copies }
     {
@@ -120,8 +124,10 @@ impl<I: Tokens> Tokens for Capturing<I> {
     }
 
     fn add_module_mode_error(&mut self, error: Error) -> PResult<()>
-        ensures ok { OnOk result (I.seen self.new.input ≡ source.holding_back error (I.seen self.old.input)) }
-        ensures err { IfErr result (λ e. IsOutOfMemory e × (I.seen self.new.input ≡ I.seen self.old.input)) }
+        ensures ok { OnOk result
+            (I.seen self.new.input ≡ source.holding_back error (I.seen self.old.input)) }
+        ensures err { IfErr result
+            (λ e. IsOutOfMemory e × (I.seen self.new.input ≡ I.seen self.old.input)) }
         ensures place { IfErr result (λ e. e.span ≡ source.at_start (I.seen self.old.input)) }
         ensures copies { self.new.copies ≡ self.old.copies }
     {
@@ -168,7 +174,8 @@ impl<I: CommentSource> CommentSource for Capturing<I> {
         ensures err { IfErr result IsOutOfMemory }
         ensures place { IfErr result (λ e. e.span ≡ source.at_start (I.seen self.old.input)) }
         ensures comments { IfOk result (λ found. found.items ≡ I.comments self.old.input) }
-        ensures told { MatchResult result (λ _. I.is_lossy self.old.input ≡ false) (λ _. I.is_lossy self.old.input ≡ true) }
+        ensures told { MatchResult result (λ _. I.is_lossy self.old.input ≡ false)
+            (λ _. I.is_lossy self.old.input ≡ true) }
         ensures none_left { I.comments self.new.input ≡ [] }
         ensures fresh { I.is_lossy self.new.input ≡ false }
     {

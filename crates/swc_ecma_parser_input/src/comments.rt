@@ -24,7 +24,8 @@ pub trait CommentSource: Tokens {
         ensures err { IfErr result IsOutOfMemory }
         ensures place { IfErr result (λ e. e.span ≡ source.at_start (Self.seen self.old)) }
         ensures comments { IfOk result (λ found. found.items ≡ comments self.old) }
-        ensures told { MatchResult result (λ _. is_lossy self.old ≡ false) (λ _. is_lossy self.old ≡ true) }
+        ensures told { MatchResult result (λ _. is_lossy self.old ≡ false)
+            (λ _. is_lossy self.old ≡ true) }
         ensures none_left { comments self.new ≡ [] }
         ensures fresh { is_lossy self.new ≡ false };
 }

@@ -45,7 +45,8 @@ impl FaultLists {
 
     /// Records a fault, or changes nothing where memory runs out.
     pub fn add(&mut self, error: Error) -> Result<(), AllocError>
-        ensures ok { OnOk result (self.new ≡ record self.old { recorded = self.old.recorded ++ error ∷ [] }) }
+        ensures ok { OnOk result
+            (self.new ≡ record self.old { recorded = self.old.recorded ++ error ∷ [] }) }
         ensures err { OnErr result (self.new ≡ self.old) }
     {
         self.recorded.reserve(self.held_back.len() + 1)?;
@@ -55,7 +56,8 @@ impl FaultLists {
 
     /// Holds a fault back, or changes nothing where memory runs out.
     pub fn hold_back(&mut self, error: Error) -> Result<(), AllocError>
-        ensures ok { OnOk result (self.new ≡ record self.old { held_back = self.old.held_back ++ error ∷ [] }) }
+        ensures ok { OnOk result
+            (self.new ≡ record self.old { held_back = self.old.held_back ++ error ∷ [] }) }
         ensures err { OnErr result (self.new ≡ self.old) }
     {
         if !self.recorded.is_empty() {
@@ -67,7 +69,8 @@ impl FaultLists {
 
     /// Moves the faults held back to the end of those recorded, in their order. It takes no memory.
     pub fn release(&mut self)
-        ensures { self.new ≡ record { recorded = self.old.recorded ++ self.old.held_back; held_back = [] } }
+        ensures { self.new
+            ≡ record { recorded = self.old.recorded ++ self.old.held_back; held_back = [] } }
     {
         if self.recorded.is_empty() {
             mem::swap(&mut self.recorded, &mut self.held_back);

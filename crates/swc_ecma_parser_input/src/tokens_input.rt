@@ -131,7 +131,11 @@ impl Tokens for TokensInput {
 impl TokensInput {
     /// The answer where memory runs out.
     fn refusal(&self) -> Error
-        ensures { result ≡ record { span = record { lo = self.now.start; hi = self.now.start }; kind = kind.OutOfMemory } }
+        ensures { result
+            ≡ record {
+              span = record { lo = self.now.start; hi = self.now.start };
+              kind = kind.OutOfMemory;
+            } }
     {
         out_of_memory(Span {
             lo: self.start,

@@ -33,8 +33,10 @@ fn is_break(byte: u8) -> bool
 
 /// Goes past the blanks that a text begins with. `broken`: a line break stands before the text.
 pub fn blanks(broken: bool, text: &str) -> Behind<'_>
-    ensures tokens { (start at : ℕ) → tokens start at broken (chars text.now) ≡ tokens start (at + result.size) result.had_line_break (chars result.rest.now) }
-    ensures comments { (start at : ℕ) → comments start at (chars text.now) ≡ comments start (at + result.size) (chars result.rest.now) }
+    ensures tokens { (start at : ℕ) → tokens start at broken (chars text.now)
+        ≡ tokens start (at + result.size) result.had_line_break (chars result.rest.now) }
+    ensures comments { (start at : ℕ) → comments start at (chars text.now)
+        ≡ comments start (at + result.size) (chars result.rest.now) }
     ensures size { result.size + length result.rest.now ≡ length text.now }
 {
     let bytes = text.as_bytes();

@@ -92,7 +92,8 @@ impl CommentList {
 
     /// The comments, or nothing where one found no memory. None is left.
     pub fn take(&mut self) -> Option<Vec<Comment>>
-        ensures result { MatchOption result (self.old.is_lossy ≡ true) (λ comments. (self.old.is_lossy ≡ false) × (comments.items ≡ self.old.comments.items)) }
+        ensures result { MatchOption result (self.old.is_lossy ≡ true)
+            (λ comments. (self.old.is_lossy ≡ false) × (comments.items ≡ self.old.comments.items)) }
         ensures comments { self.new.comments.items ≡ [] }
         ensures wanted { self.new.is_wanted ≡ self.old.is_wanted }
         ensures lossy { self.new.is_lossy ≡ false }

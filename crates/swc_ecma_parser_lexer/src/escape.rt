@@ -255,7 +255,8 @@ fn is_pair(high: u32, low: u32) -> bool
 #[tactic(auto, unfolding(crate::specs::Strings::said_alone))]
 fn say_alone(value: &mut String, unit: u32) -> Result<Option<u32>, AllocError>
     ensures waiting { IfOk result (λ waiting. waiting ≡ (read.said_alone unit).waiting) }
-    ensures bytes { OnOk result (string_bytes value.new ≡ string_bytes value.old ++ (read.said_alone unit).bytes) }
+    ensures bytes { OnOk result
+        (string_bytes value.new ≡ string_bytes value.old ++ (read.said_alone unit).bytes) }
 {
     if is_high(unit) {
         return Ok(Some(unit));
@@ -268,7 +269,8 @@ fn say_alone(value: &mut String, unit: u32) -> Result<Option<u32>, AllocError>
 #[tactic(auto, unfolding(crate::specs::Strings::said_behind))]
 fn say_behind(value: &mut String, high: u32, unit: u32) -> Result<Option<u32>, AllocError>
     ensures waiting { IfOk result (λ waiting. waiting ≡ (read.said_behind high unit).waiting) }
-    ensures bytes { OnOk result (string_bytes value.new ≡ string_bytes value.old ++ (read.said_behind high unit).bytes) }
+    ensures bytes { OnOk result
+        (string_bytes value.new ≡ string_bytes value.old ++ (read.said_behind high unit).bytes) }
 {
     match paired(high, unit) {
         Some(c) => {
@@ -289,7 +291,8 @@ fn say(
     unit: Option<u32>,
 ) -> Result<Option<u32>, AllocError>
     ensures waiting { IfOk result (λ after. after ≡ (read.said waiting unit).waiting) }
-    ensures bytes { OnOk result (string_bytes value.new ≡ string_bytes value.old ++ (read.said waiting unit).bytes) }
+    ensures bytes { OnOk result
+        (string_bytes value.new ≡ string_bytes value.old ++ (read.said waiting unit).bytes) }
 {
     match unit {
         None => Ok(waiting),
@@ -303,7 +306,8 @@ fn say(
 /// Appends what still waits.
 #[tactic(auto, unfolding(crate::specs::Strings::said_last))]
 fn say_last(value: &mut String, waiting: Option<u32>) -> Result<(), AllocError>
-    ensures { OnOk result (string_bytes value.new ≡ string_bytes value.old ++ read.said_last waiting) }
+    ensures { OnOk result
+        (string_bytes value.new ≡ string_bytes value.old ++ read.said_last waiting) }
 {
     match waiting {
         None => Ok(()),
@@ -313,7 +317,8 @@ fn say_last(value: &mut String, waiting: Option<u32>) -> Result<(), AllocError>
 
 /// What a whole literal says, whose escapes are well written.
 pub fn value_of(alloc: Global, quote: char, literal: &str) -> Result<String, AllocError>
-    ensures { IfOk result (λ value. string_bytes value ≡ read.value_of quote escape.Text None (chars literal.now)) }
+    ensures { IfOk result
+        (λ value. string_bytes value ≡ read.value_of quote escape.Text None (chars literal.now)) }
 {
     let mut value = String::new(alloc);
     let mut state = Escape::Text;

@@ -41,7 +41,8 @@ fn no_memory(at: BytePos) -> Error
 /// Records what was held back. It is kept out of `set_ctx`, which is called for most tokens.
 #[inline(never)]
 fn release(faults: &mut FaultLists)
-    ensures { faults.new ≡ record { recorded = faults.old.recorded ++ faults.old.held_back; held_back = [] } }
+    ensures { faults.new
+        ≡ record { recorded = faults.old.recorded ++ faults.old.held_back; held_back = [] } }
 {
     faults.release();
 }
@@ -50,8 +51,11 @@ impl<'a> Lexer<'a> {
     /// A lexer at the start of a text, in the default context. With `comments` on it keeps the comments that it reads.
     /// It takes no memory.
     pub fn new(alloc: Global, syntax: Syntax, input: StringInput<'a>, comments: bool) -> Lexer<'a>
-        ensures source { source_of result.place result.context result.syntax result.faults ≡ outset syntax input.entry.start (chars input.entry.src.now) }
-        ensures comments { collected result.comments result.place ≡ (if comments then text_comments input.entry.start.0 0 (chars input.entry.src.now) else []) }
+        ensures source { source_of result.place result.context result.syntax result.faults
+            ≡ outset syntax input.entry.start (chars input.entry.src.now) }
+        ensures comments { collected result.comments result.place
+            ≡ (if comments then text_comments input.entry.start.0 0 (chars input.entry.src.now)
+            else []) }
         ensures none_yet { result.comments.comments.items ≡ [] }
         ensures wanted { result.comments.is_wanted ≡ comments }
         ensures lossy { result.comments.is_lossy ≡ false }
@@ -74,14 +78,21 @@ impl<'a> Lexer<'a> {
     /// Hands out the comments read since the last such call, or says that one of them found no memory. No comment is
     /// left either way, and the tokens stay. It takes no memory.
     pub fn take_comments(&mut self) -> PResult<Vec<Comment>>
-        ensures comments { MatchResult result (λ comments. comments.items ≡ self.old.comments.comments.items) IsOutOfMemory }
-        ensures lossy { MatchResult result (λ _. self.old.comments.is_lossy ≡ false) (λ _. self.old.comments.is_lossy ≡ true) }
+        ensures comments { MatchResult result
+            (λ comments. comments.items ≡ self.old.comments.comments.items) IsOutOfMemory }
+        ensures lossy { MatchResult result (λ _. self.old.comments.is_lossy ≡ false)
+            (λ _. self.old.comments.is_lossy ≡ true) }
         ensures left { self.new.comments.comments.items ≡ [] }
-        ensures ahead { IfOk result (λ comments. collected self.old.comments self.old.place ≡ comments.items ++ collected self.new.comments self.new.place) }
+        ensures ahead { IfOk result
+            (λ comments. collected self.old.comments self.old.place ≡ comments.items
+            ++ collected self.new.comments self.new.place) }
         ensures wanted { self.new.comments.is_wanted ≡ self.old.comments.is_wanted }
         ensures fresh { self.new.comments.is_lossy ≡ false }
-        ensures source { source_of self.new.place self.new.context self.new.syntax self.new.faults ≡ source_of self.old.place self.old.context self.old.syntax self.old.faults }
-        ensures place { IfErr result (λ e. e.span ≡ source.at_start (source_of self.old.place self.old.context self.old.syntax self.old.faults)) }
+        ensures source { source_of self.new.place self.new.context self.new.syntax self.new.faults
+            ≡ source_of self.old.place self.old.context self.old.syntax self.old.faults }
+        ensures place { IfErr result
+            (λ e. e.span ≡ source.at_start
+            (source_of self.old.place self.old.context self.old.syntax self.old.faults)) }
     {
         match self.comments.take() {
             Some(comments) => Ok(comments),
@@ -99,8 +110,11 @@ impl<'a> Tokens for Lexer<'a> {
 
     // Beside the token: no comment on the way is missed, and none comes twice, or `take_comments` tells the loss.
     fn next(&mut self) -> Option<TokenAndSpan>
-        ensures drawn { source.Draws (source_of self.old.place self.old.context self.old.syntax self.old.faults) result (source_of self.new.place self.new.context self.new.syntax self.new.faults) }
-        ensures comments { IsReadOn self.old.comments self.old.place self.new.comments self.new.place }
+        ensures drawn { source.Draws
+            (source_of self.old.place self.old.context self.old.syntax self.old.faults) result
+            (source_of self.new.place self.new.context self.new.syntax self.new.faults) }
+        ensures comments { IsReadOn self.old.comments self.old.place self.new.comments
+            self.new.place }
     {
         let found = find(self.place, &mut self.comments);
         let Some(piece) = found.piece else {
@@ -163,10 +177,14 @@ impl<'a> Tokens for Lexer<'a> {
 
     // The copy has the same comments, too.
     fn try_clone(&self) -> PResult<Lexer<'a>>
-        ensures ok { IfOk result (λ it. source_of it.place it.context it.syntax it.faults ≡ source_of self.now.place self.now.context self.now.syntax self.now.faults) }
+        ensures ok { IfOk result
+            (λ it. source_of it.place it.context it.syntax it.faults
+            ≡ source_of self.now.place self.now.context self.now.syntax self.now.faults) }
         ensures comments { IfOk result (λ it. IsSameList it.comments self.now.comments) }
         ensures err { IfErr result IsOutOfMemory }
-        ensures place { IfErr result (λ e. e.span ≡ source.at_start (source_of self.now.place self.now.context self.now.syntax self.now.faults)) }
+        ensures place { IfErr result
+            (λ e. e.span ≡ source.at_start
+            (source_of self.now.place self.now.context self.now.syntax self.now.faults)) }
     {
         let Ok(faults) = self.faults.try_clone() else {
             return Err(no_memory(self.place.start));
@@ -193,13 +211,18 @@ impl<'a> CommentSource for Lexer<'a> {
     ghost is_lossy = { λ s. s.comments.is_lossy };
 
     fn take_comments(&mut self) -> PResult<Vec<Comment>>
-        ensures source { source_of self.new.place self.new.context self.new.syntax self.new.faults ≡ source_of self.old.place self.old.context self.old.syntax self.old.faults }
-        ensures comments { IfOk result (λ comments. comments.items ≡ self.old.comments.comments.items) }
+        ensures source { source_of self.new.place self.new.context self.new.syntax self.new.faults
+            ≡ source_of self.old.place self.old.context self.old.syntax self.old.faults }
+        ensures comments { IfOk result
+            (λ comments. comments.items ≡ self.old.comments.comments.items) }
         ensures left { self.new.comments.comments.items ≡ [] }
-        ensures told { MatchResult result (λ _. self.old.comments.is_lossy ≡ false) (λ _. self.old.comments.is_lossy ≡ true) }
+        ensures told { MatchResult result (λ _. self.old.comments.is_lossy ≡ false)
+            (λ _. self.old.comments.is_lossy ≡ true) }
         ensures fresh { self.new.comments.is_lossy ≡ false }
         ensures err { IfErr result IsOutOfMemory }
-        ensures place { IfErr result (λ e. e.span ≡ source.at_start (source_of self.old.place self.old.context self.old.syntax self.old.faults)) }
+        ensures place { IfErr result
+            (λ e. e.span ≡ source.at_start
+            (source_of self.old.place self.old.context self.old.syntax self.old.faults)) }
     {
         Lexer::take_comments(self)
     }

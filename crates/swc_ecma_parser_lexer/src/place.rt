@@ -65,7 +65,8 @@ fn breaks(state: State) -> bool
 pub fn span_of(place: Place, piece: Piece) -> Span
     requires fits { read.Fits place }
     requires piece { IsFirstPiece (place.at == 0) place.rest.now piece }
-    ensures { result ≡ read.span_at (place.entry.start.0 + place.entry.at) (length piece.entry.text.now) }
+    ensures { result
+        ≡ read.span_at (place.entry.start.0 + place.entry.at) (length piece.entry.text.now) }
 {
     let low = place.start.0 + place.at;
     let high = low + piece.text.len() as u32;
@@ -110,7 +111,8 @@ pub fn find<'a>(first: Place<'a>, comments: &mut CommentList) -> Found<'a>
     ensures start { result.place.start ≡ first.entry.start }
     ensures fits { read.Fits result.place }
     ensures comments { IsReadOn comments.old first.entry comments.new result.place }
-    ensures piece { MatchOption result.piece (read.tokens_at result.place ≡ []) (λ piece. read.IsToken result.place piece) }
+    ensures piece { MatchOption result.piece (read.tokens_at result.place ≡ [])
+        (λ piece. read.IsToken result.place piece) }
 {
     let mut place = past_blanks(first);
     while let Some(piece) = scan(place.at == 0, place.rest) {

@@ -55,8 +55,10 @@ fn byte_of(quote: char) -> Option<u8>
 
 /// The text between the quotes of a literal, if it has no further quote and no escape.
 pub fn plain_text(quote: char, literal: &str) -> Option<&str>
-    ensures well { IfSome result (λ _. read.is_well_escaped quote escape.Text (chars literal.now) ≡ true) }
-    ensures value { IfSome result (λ inner. read.value_of quote escape.Text None (chars literal.now) ≡ inner.now) }
+    ensures well { IfSome result
+        (λ _. read.is_well_escaped quote escape.Text (chars literal.now) ≡ true) }
+    ensures value { IfSome result
+        (λ inner. read.value_of quote escape.Text None (chars literal.now) ≡ inner.now) }
 {
     let mark = byte_of(quote)?;
     let inner = between(mark, literal)?;

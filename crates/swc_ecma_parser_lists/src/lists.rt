@@ -38,7 +38,8 @@ fn ends<P: Cursor>(p: &P, end: ListEnd) -> bool
 
 /// Turns strict what follows a directive that says so, and says whether the next can be a directive too.
 fn direct<L: Listed<P, T>, P: Cursor, T: Trees>(p: &mut P, directives: bool, item: &L::Item) -> bool
-    ensures state { P.seen p.new ≡ reader.coded (directed (P.seen p.old).code directives (L.held item.now)) (P.seen p.old) }
+    ensures state { P.seen p.new
+        ≡ reader.coded (directed (P.seen p.old).code directives (L.held item.now)) (P.seen p.old) }
     ensures next { result ≡ directs_on directives (L.held item.now) }
 {
     if directives && L::is_use_strict(item) {
@@ -86,7 +87,9 @@ pub fn items<L: Listed<P, T>, P: Cursor, T: Trees>(
     end: ListEnd,
     directives: bool,
 ) -> PResult<Vec<L::Item>>
-    ensures gives { GivesAs (λ found. map L.held found.items) (rules.items (L.item limit at) (ends_at end) directives (P.seen p.old)) result (P.seen p.new) }
+    ensures gives { GivesAs (λ found. map L.held found.items)
+        (rules.items (L.item limit at) (ends_at end) directives (P.seen p.old)) result
+        (P.seen p.new) }
     ensures outright { (P.seen p.old).at.left ≡ [] → IsOk result }
 {
     let none = Vec::new(t.alloc);

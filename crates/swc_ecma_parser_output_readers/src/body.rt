@@ -50,7 +50,9 @@ pub fn block_body<P: StmtLikeParser<T, Y>, T: BuildsStatements, Y: FromStmt<T> +
     end: ListEnd,
     directives: bool,
 ) -> PResult<Vec<Y>>
-    ensures gives { GivesAs (λ found. map Y.held found.items) (rules.items (P.item limit at) (ends_at end) directives (P.seen p.old)) result (P.seen p.new) }
+    ensures gives { GivesAs (λ found. map Y.held found.items)
+        (rules.items (P.item limit at) (ends_at end) directives (P.seen p.old)) result
+        (P.seen p.new) }
     ensures outright { (P.seen p.old).at.left ≡ [] → IsOk result }
 {
     items::<Picked<Y>, P, T>(t, p, limit, at, end, directives)

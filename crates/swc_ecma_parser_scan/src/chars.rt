@@ -8,7 +8,8 @@ use crate::state::Base;
 
 /// The first character of a text, and the text behind it.
 pub fn first_char(text: &str) -> Option<(char, &str)>
-    ensures { MatchOption result (chars text.now ≡ []) (λ first. class.IsFirst text.now first.0 first.1.now) }
+    ensures { MatchOption result (chars text.now ≡ [])
+        (λ first. class.IsFirst text.now first.0 first.1.now) }
 {
     let mut characters = text.chars();
     let first = characters.next()?;

@@ -52,8 +52,20 @@ fn munch(first: State, text: &str) -> Munched<'_>
 /// Gives back the second dot of `..`, which is no token.
 #[tactic(auto, unfolding(crate::specs::Scan::settled))]
 fn settle<'a>(behind: &'a str, munched: Munched<'a>) -> Munched<'a>
-    ensures state { result.state ≡ (read.settled (chars behind.entry.now) (record { taken = []; left = chars munched.entry.rest.now; state = munched.entry.state })).state }
-    ensures rest { chars result.rest.now ≡ (read.settled (chars behind.entry.now) (record { taken = []; left = chars munched.entry.rest.now; state = munched.entry.state })).left }
+    ensures state { result.state
+        ≡ (read.settled (chars behind.entry.now)
+        (record {
+          taken = [];
+          left = chars munched.entry.rest.now;
+          state = munched.entry.state;
+        })).state }
+    ensures rest { chars result.rest.now
+        ≡ (read.settled (chars behind.entry.now)
+        (record {
+          taken = [];
+          left = chars munched.entry.rest.now;
+          state = munched.entry.state;
+        })).left }
     ensures utf8 { IsUtf8 munched.entry.rest.now → IsUtf8 result.rest.now }
 {
     match munched.state {
@@ -104,8 +116,10 @@ fn is_ascii_ahead(text: &str) -> bool
 /// character.
 #[inline(never)]
 fn other<'a>(first: State, behind: &'a str, text: &'a str) -> Munched<'a>
-    ensures state { result.state ≡ (read.settled (chars behind.entry.now) (read.munch first (chars text.entry.now))).state }
-    ensures rest { chars result.rest.now ≡ (read.settled (chars behind.entry.now) (read.munch first (chars text.entry.now))).left }
+    ensures state { result.state
+        ≡ (read.settled (chars behind.entry.now) (read.munch first (chars text.entry.now))).state }
+    ensures rest { chars result.rest.now
+        ≡ (read.settled (chars behind.entry.now) (read.munch first (chars text.entry.now))).left }
     ensures utf8 { IsUtf8 result.rest.now }
 {
     settle(behind, munch(first, text))
@@ -113,8 +127,12 @@ fn other<'a>(first: State, behind: &'a str, text: &'a str) -> Munched<'a>
 
 /// A name that goes on with a character beyond ASCII, or ends before one.
 fn long_name<'a>(behind: &'a str, rest: &'a str) -> Munched<'a>
-    ensures state { result.state ≡ (read.settled (chars behind.entry.now) (read.munch state.Name (chars rest.entry.now))).state }
-    ensures rest { chars result.rest.now ≡ (read.settled (chars behind.entry.now) (read.munch state.Name (chars rest.entry.now))).left }
+    ensures state { result.state
+        ≡ (read.settled (chars behind.entry.now)
+        (read.munch state.Name (chars rest.entry.now))).state }
+    ensures rest { chars result.rest.now
+        ≡ (read.settled (chars behind.entry.now)
+        (read.munch state.Name (chars rest.entry.now))).left }
     ensures utf8 { IsUtf8 result.rest.now }
 {
     other(State::Name, behind, rest)
@@ -122,8 +140,10 @@ fn long_name<'a>(behind: &'a str, rest: &'a str) -> Munched<'a>
 
 /// A name, of which `behind` stands behind the first character.
 fn name(behind: &str) -> Munched<'_>
-    ensures state { result.state ≡ (read.settled (chars behind.now) (read.munch state.Name (chars behind.now))).state }
-    ensures rest { chars result.rest.now ≡ (read.settled (chars behind.now) (read.munch state.Name (chars behind.now))).left }
+    ensures state { result.state
+        ≡ (read.settled (chars behind.now) (read.munch state.Name (chars behind.now))).state }
+    ensures rest { chars result.rest.now
+        ≡ (read.settled (chars behind.now) (read.munch state.Name (chars behind.now))).left }
     ensures utf8 { IsUtf8 result.rest.now }
 {
     let rest = past_run(State::Name, behind);
@@ -247,7 +267,8 @@ fn whole(is_first: bool, c: char, behind: &str) -> Munched<'_>
 
 /// The first piece of a text, if it is not empty. `is_first`: nothing stands before the text.
 pub fn scan(is_first: bool, text: &str) -> Option<Piece<'_>>
-    ensures { MatchOption result (chars text.now ≡ []) (λ piece. read.IsFirstPiece is_first text.now piece) }
+    ensures { MatchOption result (chars text.now ≡ [])
+        (λ piece. read.IsFirstPiece is_first text.now piece) }
 {
     let (c, behind) = first_char(text)?;
     let munched = whole(is_first, c, behind);

@@ -50,9 +50,12 @@ fn is_of(class: u8, byte: u8) -> bool
 
 /// The text behind the bytes that leave a piece as it is.
 pub fn past_run(state: State, text: &str) -> &str
-    ensures state { (read.munch state (chars result.now)).state ≡ (read.munch state (chars text.now)).state }
-    ensures left { (read.munch state (chars result.now)).left ≡ (read.munch state (chars text.now)).left }
-    ensures ends { 0 < length result.now → run.is_of (run.class_of state) (get_or result.now 0 0) ≡ false }
+    ensures state { (read.munch state (chars result.now)).state
+        ≡ (read.munch state (chars text.now)).state }
+    ensures left { (read.munch state (chars result.now)).left
+        ≡ (read.munch state (chars text.now)).left }
+    ensures ends { 0 < length result.now → run.is_of (run.class_of state) (get_or result.now 0 0)
+        ≡ false }
     ensures shorter { length result.now ≤ length text.now }
     ensures utf8 { IsUtf8 result.now }
 {

@@ -78,7 +78,8 @@ impl<O: Origin, I: Tokens> Call<O, I> {
     pub fn told(&mut self, error: Error) -> Error
         ensures says { Says self.new.scope.mark (kind_of result.kind) }
         ensures plain { self.old.scope.mark ≡ None → result ≡ error }
-        ensures memory { self.old.scope.mark ≡ Some mark.OutOfMemory → kind_of result.kind ≡ OutOfMemory }
+        ensures memory { self.old.scope.mark ≡ Some mark.OutOfMemory → kind_of result.kind
+            ≡ OutOfMemory }
         ensures same { kind_of result.kind ≢ OutOfMemory → fault_of result ≡ fault_of error }
         ensures state { kind_of result.kind ≢ OutOfMemory → self.new ≡ self.old }
         ensures rest { self.new ≡ record self.old { scope = self.new.scope } }
@@ -112,7 +113,8 @@ impl<O: Origin, I: Tokens> Call<O, I> {
         ensures at { self.new.at ≡ self.old.at }
         ensures scope { self.new.scope ≡ self.old.scope }
         ensures found { self.new.notes ≡ record self.old.notes { held_back = [] } }
-        ensures faults { (recorded : List Fault) × (self.new.faults ≡ self.old.faults ++ recorded) × (map as_note recorded ≡ self.old.notes.held_back) }
+        ensures faults { (recorded : List Fault) × (self.new.faults ≡ self.old.faults ++ recorded)
+            × (map as_note recorded ≡ self.old.notes.held_back) }
     {
         let flags = self.buffer.ctx();
         self.buffer.set_ctx(Context {
@@ -129,7 +131,8 @@ impl<O: Origin, I: Tokens> Call<O, I> {
         ensures at { self.new.at ≡ self.old.at }
         ensures scope { self.new.scope ≡ self.old.scope }
         ensures found { self.new.notes ≡ record self.old.notes { held_back = [] } }
-        ensures faults { (recorded : List Fault) × (self.new.faults ≡ self.old.faults ++ recorded) × (map as_note recorded ≡ self.old.notes.held_back) }
+        ensures faults { (recorded : List Fault) × (self.new.faults ≡ self.old.faults ++ recorded)
+            × (map as_note recorded ≡ self.old.notes.held_back) }
     {
         let before = self.buffer.ctx();
         self.buffer.set_ctx(Context {
@@ -152,7 +155,8 @@ impl<O: Origin, I: Tokens> Call<O, I> {
 
     /// Sets a context of the same goal, script or module.
     pub fn leave_program(&mut self, outer: Context)
-        ensures { outer.module ≡ self.old.code.flags.module → self.new ≡ reader.coded (record self.old.code { flags = outer }) self.old }
+        ensures { outer.module ≡ self.old.code.flags.module → self.new
+            ≡ reader.coded (record self.old.code { flags = outer }) self.old }
     {
         self.buffer.set_ctx(outer);
     }

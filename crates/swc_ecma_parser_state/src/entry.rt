@@ -76,7 +76,8 @@ impl<I: Tokens> State<I> {
     /// Hands out the recorded faults, in order.
     pub fn take_errors(&mut self) -> Vec<Error>
         ensures errors { result.items ≡ self.old.buffer.recorded }
-        ensures state { self.new ≡ record self.old { buffer = record self.old.buffer { recorded = [] } } }
+        ensures state { self.new
+            ≡ record self.old { buffer = record self.old.buffer { recorded = [] } } }
     {
         self.buffer.take_errors()
     }
