@@ -1,5 +1,5 @@
 -- As a call begins: nothing is marked, but that memory ran out for one of the two tokens that are read ahead.
-use Rattle.std.proofs.Common.{◌≡◌, Bool, true, false, List, [], Option, Some, None, refl, sym, ap, ◌∙◌, true≢false}
+use Rattle.std.proofs.Common.{◌≡◌, Bool, true, false, [], Option, Some, None, refl, sym, ap, ◌∙◌, true≢false}
 use Rattle.std.specs.Prelude.{◌||◌, is_some, if◌then◌else◌}
 use Rattle.swc_ecma_parser_input.specs.Place.{first, second, lacks_memory}
 use Rattle.swc_ecma_parser_reader.specs.Calls.{lacks_ahead}

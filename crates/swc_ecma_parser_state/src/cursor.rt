@@ -1,6 +1,5 @@
 //! The state as what the rules read from: what they ask of the tokens that stand next, and the steps that every rule is made of.
 
-use crate::call::no_memory;
 use crate::entry::copied;
 use crate::looks::is_spelled;
 use crate::state::{Call, Origin};
@@ -271,11 +270,7 @@ impl<O: Origin, I: Tokens> Cursor for Call<O, I> {
     }
 
     fn skip(&mut self) -> PResult<()> {
-        mem::drop(self.buffer.bump());
-        if self.buffer.is_out_of_memory() {
-            self.mark = Some(Mark::OutOfMemory);
-            return Err(no_memory(self.buffer.last_span()));
-        }
+        mem::drop(self.take()?);
         Ok(())
     }
 

@@ -1,4 +1,3 @@
-use Rattle.swc_ecma_parser_reader.specs.Entry.{unmarked}
 use Rattle.swc_ecma_parser_state.specs.Contents.{seen}
 use Rattle.swc_ecma_parser_entries.proofs.Ended.{ended_ok, ended_memory, ended_restored, module_ended}
 use Rattle.swc_ecma_parser_entries.proofs.entry.module_from.Goals as goal
