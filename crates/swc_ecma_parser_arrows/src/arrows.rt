@@ -6,7 +6,6 @@ ghost use Rattle.swc_ecma_parser_functions.specs.Late.{late};
 ghost use Rattle.swc_ecma_parser_grammar.specs.Own as own;
 ghost use Rattle.swc_ecma_parser_grammar.specs.language.Contexts as contexts;
 ghost use Rattle.swc_ecma_parser_grammar.specs.language.Goals.{assignment};
-ghost use Rattle.swc_ecma_parser_shared.specs.Nests.{Nests};
 ghost use Rattle.swc_ecma_parser_model.specs.Forms as forms;
 ghost use Rattle.swc_ecma_parser_model.specs.Tree as tree;
 ghost use Rattle.swc_ecma_parser_reader.specs.Arrows as arrows;
@@ -20,10 +19,11 @@ use swc_ecma_parser_common::Span;
 use swc_ecma_parser_cursor::{Cursor, Wanted};
 use swc_ecma_parser_error::{PResult, SyntaxError};
 use swc_ecma_parser_functions::function::{FunctionBody, Manner, inner_body, misdirected};
-use swc_ecma_parser_grammar::{Class, Position};
+use swc_ecma_parser_grammar::Class;
 use swc_ecma_parser_input::Context;
-use swc_ecma_parser_shared::cover::{Cover, Reading, nested};
-use swc_ecma_parser_shared::grammar::{Grammar, Part};
+use swc_ecma_parser_shared::cover::nested;
+use swc_ecma_parser_shared::grammar::Part;
+use swc_ecma_parser_shared::readers::Readers;
 use swc_ecma_parser_shared::steps::{grown, pushed, since};
 use swc_ecma_parser_token::TokenKind;
 use swc_ecma_parser_trees::{BuildsFunction, BuildsPattern, MakerOf, Trees};
@@ -62,23 +62,16 @@ fn in_arrow(flags: Context, is_async: bool) -> Context
 
 /// A block that is a body.
 #[tactic(auto, unfolding(swc_ecma_parser_reader::specs::Reader::function, swc_ecma_parser_reader::specs::Reader::function_by, swc_ecma_parser_reader::specs::Reader::arrow_block))]
-fn arrow_block<
-    P: Cursor,
-    T: BuildsFunction,
-    S: Fn(&MakerOf<T>, &mut P, usize, Position) -> PResult<T::Stmt>,
-    E: Fn(&MakerOf<T>, &mut P, usize, Reading) -> PResult<Cover<T::Expr>>,
-    N: Fn(&MakerOf<T>, &mut P, usize, Part) -> PResult<T::Pat>,
->(
-    g: &Grammar<S, E, N>,
+fn arrow_block<P: Cursor, T: BuildsFunction, G: Readers<P, T>>(
+    g: &G,
     t: &MakerOf<T>,
     p: &mut P,
     is_async: bool,
 ) -> PResult<FunctionBody<T::Block>>
-    requires { Nests P.seen T.expr_of T.pat_of T.stmt_of g.now.depth
-        (S.pre g.now.stmt) (S.post g.now.stmt) (E.pre g.now.expr) (E.post g.now.expr)
-        (N.pre g.now.pat) (N.post g.now.pat) }
+    requires { G.ready g.now }
     ensures gives { GivesAs (λ body. T.block_of body.block)
-        (rules.function g.now.depth (block_form is_async) (P.seen p.old)) result (P.seen p.new) }
+        (rules.function (G.depth g.now) (block_form is_async) (P.seen p.old)) result
+        (P.seen p.new) }
     ensures directive { IfOk result
         (λ body. own.misplaced_directive false (T.block_of body.block)
         ≡ late body.strict_directive) }
@@ -91,19 +84,16 @@ fn arrow_block<
 }
 
 /// An expression that is a body: no label stands around it, and nothing in it makes a program a module.
-fn arrow_expr<
-    P: Cursor,
-    T: BuildsFunction,
-    S: Fn(&MakerOf<T>, &mut P, usize, Position) -> PResult<T::Stmt>,
-    E: Fn(&MakerOf<T>, &mut P, usize, Reading) -> PResult<Cover<T::Expr>>,
-    N: Fn(&MakerOf<T>, &mut P, usize, Part) -> PResult<T::Pat>,
->(g: &Grammar<S, E, N>, t: &MakerOf<T>, p: &mut P, is_async: bool) -> PResult<T::Expr>
-    requires { Nests P.seen T.expr_of T.pat_of T.stmt_of g.now.depth
-        (S.pre g.now.stmt) (S.post g.now.stmt) (E.pre g.now.expr) (E.post g.now.expr)
-        (N.pre g.now.pat) (N.post g.now.pat) }
+fn arrow_expr<P: Cursor, T: BuildsFunction, G: Readers<P, T>>(
+    g: &G,
+    t: &MakerOf<T>,
+    p: &mut P,
+    is_async: bool,
+) -> PResult<T::Expr>
+    requires { G.ready g.now }
     ensures gives { GivesAs T.expr_of
-        (within (λ k. contexts.in_arrow k is_async) (enclosed (rules.expr g.now.depth assignment))
-        (P.seen p.old)) result (P.seen p.new) }
+        (within (λ k. contexts.in_arrow k is_async)
+        (enclosed (rules.expr (G.depth g.now) assignment)) (P.seen p.old)) result (P.seen p.new) }
     ensures directive { IfOk result (λ e. own.misplaced_directive false (T.expr_of e) ≡ []) }
 {
     let outer = p.flags();
@@ -117,23 +107,15 @@ fn arrow_expr<
 
 /// A block, or an expression that does not begin as one.
 #[tactic(auto, unfolding(swc_ecma_parser_reader::specs::Arrows::arrow_body))]
-pub fn arrow_body<
-    P: Cursor,
-    T: BuildsFunction,
-    S: Fn(&MakerOf<T>, &mut P, usize, Position) -> PResult<T::Stmt>,
-    E: Fn(&MakerOf<T>, &mut P, usize, Reading) -> PResult<Cover<T::Expr>>,
-    N: Fn(&MakerOf<T>, &mut P, usize, Part) -> PResult<T::Pat>,
->(
-    g: &Grammar<S, E, N>,
+pub fn arrow_body<P: Cursor, T: BuildsFunction, G: Readers<P, T>>(
+    g: &G,
     t: &MakerOf<T>,
     p: &mut P,
     is_async: bool,
 ) -> PResult<ArrowBody<T::Block, T::Expr>>
-    requires { Nests P.seen T.expr_of T.pat_of T.stmt_of g.now.depth
-        (S.pre g.now.stmt) (S.post g.now.stmt) (E.pre g.now.expr) (E.post g.now.expr)
-        (N.pre g.now.pat) (N.post g.now.pat) }
+    requires { G.ready g.now }
     ensures gives { GivesAs (body_of T.block_of T.expr_of)
-        (arrows.arrow_body (rules.expr g.now.depth) (rules.function g.now.depth) is_async
+        (arrows.arrow_body (rules.expr (G.depth g.now)) (rules.function (G.depth g.now)) is_async
         (P.seen p.old)) result (P.seen p.new) }
     ensures directive { IfOk result
         (λ body. own.misplaced_directive false (body_of T.block_of T.expr_of body)
@@ -185,26 +167,18 @@ fn made_arrow<T: BuildsFunction>(
 
 /// An arrow function, from its `=>` on, which stands on the line of the parameters.
 #[tactic(auto, unfolding(swc_ecma_parser_reader::specs::Arrows::arrow_from))]
-pub fn arrow_from<
-    P: Cursor,
-    T: BuildsFunction + BuildsPattern,
-    S: Fn(&MakerOf<T>, &mut P, usize, Position) -> PResult<T::Stmt>,
-    E: Fn(&MakerOf<T>, &mut P, usize, Reading) -> PResult<Cover<T::Expr>>,
-    N: Fn(&MakerOf<T>, &mut P, usize, Part) -> PResult<T::Pat>,
->(
-    g: &Grammar<S, E, N>,
+pub fn arrow_from<P: Cursor, T: BuildsFunction + BuildsPattern, G: Readers<P, T>>(
+    g: &G,
     t: &MakerOf<T>,
     p: &mut P,
     is_async: bool,
     start: Span,
     params: Vec<T::Pat>,
 ) -> PResult<T::Expr>
-    requires { Nests P.seen T.expr_of T.pat_of T.stmt_of g.now.depth
-        (S.pre g.now.stmt) (S.post g.now.stmt) (E.pre g.now.expr) (E.post g.now.expr)
-        (N.pre g.now.pat) (N.post g.now.pat) }
+    requires { G.ready g.now }
     ensures { GivesAs T.expr_of
-        (arrows.arrow_from (rules.expr g.now.depth) (rules.function g.now.depth) is_async start
-        (map T.pat_of params.items) (P.seen p.old)) result (P.seen p.new) }
+        (arrows.arrow_from (rules.expr (G.depth g.now)) (rules.function (G.depth g.now)) is_async
+        start (map T.pat_of params.items) (P.seen p.old)) result (P.seen p.new) }
 {
     if p.had_line_break() {
         return Err(p.refuse_as(SyntaxError::LineBreakBeforeArrow));
@@ -219,44 +193,32 @@ pub fn arrow_from<
 
 /// The only parameter of an arrow function, a name with no parentheses.
 #[tactic(auto, unfolding(swc_ecma_parser_reader::specs::Reader::function, swc_ecma_parser_reader::specs::Reader::function_by))]
-pub fn only_parameter<
-    P: Cursor,
-    T: Trees,
-    S: Fn(&MakerOf<T>, &mut P, usize, Position) -> PResult<T::Stmt>,
-    E: Fn(&MakerOf<T>, &mut P, usize, Reading) -> PResult<Cover<T::Expr>>,
-    N: Fn(&MakerOf<T>, &mut P, usize, Part) -> PResult<T::Pat>,
->(g: &Grammar<S, E, N>, t: &MakerOf<T>, p: &mut P) -> PResult<T::Pat>
-    requires { Nests P.seen T.expr_of T.pat_of T.stmt_of g.now.depth
-        (S.pre g.now.stmt) (S.post g.now.stmt) (E.pre g.now.expr) (E.post g.now.expr)
-        (N.pre g.now.pat) (N.post g.now.pat) }
-    ensures { GivesAs T.pat_of (rules.function g.now.depth parameter_form (P.seen p.old)) result
+pub fn only_parameter<P: Cursor, T: Trees, G: Readers<P, T>>(
+    g: &G,
+    t: &MakerOf<T>,
+    p: &mut P,
+) -> PResult<T::Pat>
+    requires { G.ready g.now }
+    ensures { GivesAs T.pat_of (rules.function (G.depth g.now) parameter_form (P.seen p.old)) result
         (P.seen p.new) }
 {
-    (g.pat)(t, p, g.depth, Part::Pattern)
+    g.pat(t, p, Part::Pattern)
 }
 
 /// An arrow function with one parameter, from its `=>` on.
 #[inline(never)]
-pub fn arrow_of_one<
-    P: Cursor,
-    T: BuildsFunction + BuildsPattern,
-    S: Fn(&MakerOf<T>, &mut P, usize, Position) -> PResult<T::Stmt>,
-    E: Fn(&MakerOf<T>, &mut P, usize, Reading) -> PResult<Cover<T::Expr>>,
-    N: Fn(&MakerOf<T>, &mut P, usize, Part) -> PResult<T::Pat>,
->(
-    g: &Grammar<S, E, N>,
+pub fn arrow_of_one<P: Cursor, T: BuildsFunction + BuildsPattern, G: Readers<P, T>>(
+    g: &G,
     t: &MakerOf<T>,
     p: &mut P,
     is_async: bool,
     start: Span,
     param: T::Pat,
 ) -> PResult<T::Expr>
-    requires { Nests P.seen T.expr_of T.pat_of T.stmt_of g.now.depth
-        (S.pre g.now.stmt) (S.post g.now.stmt) (E.pre g.now.expr) (E.post g.now.expr)
-        (N.pre g.now.pat) (N.post g.now.pat) }
+    requires { G.ready g.now }
     ensures { GivesAs T.expr_of
-        (arrows.arrow_from (rules.expr g.now.depth) (rules.function g.now.depth) is_async start
-        (T.pat_of param ∷ []) (P.seen p.old)) result (P.seen p.new) }
+        (arrows.arrow_from (rules.expr (G.depth g.now)) (rules.function (G.depth g.now)) is_async
+        start (T.pat_of param ∷ []) (P.seen p.old)) result (P.seen p.new) }
 {
     let mut params = Vec::new(t.alloc);
     pushed(p, &mut params, param)?;
@@ -266,19 +228,15 @@ pub fn arrow_of_one<
 /// An arrow function whose only parameter is a name with no parentheses.
 #[tactic(auto, unfolding(swc_ecma_parser_reader::specs::Arrows::named_arrow))]
 #[inline(never)]
-pub fn named_arrow<
-    P: Cursor,
-    T: BuildsFunction + BuildsPattern,
-    S: Fn(&MakerOf<T>, &mut P, usize, Position) -> PResult<T::Stmt>,
-    E: Fn(&MakerOf<T>, &mut P, usize, Reading) -> PResult<Cover<T::Expr>>,
-    N: Fn(&MakerOf<T>, &mut P, usize, Part) -> PResult<T::Pat>,
->(g: &Grammar<S, E, N>, t: &MakerOf<T>, p: &mut P) -> PResult<T::Expr>
-    requires { Nests P.seen T.expr_of T.pat_of T.stmt_of g.now.depth
-        (S.pre g.now.stmt) (S.post g.now.stmt) (E.pre g.now.expr) (E.post g.now.expr)
-        (N.pre g.now.pat) (N.post g.now.pat) }
+pub fn named_arrow<P: Cursor, T: BuildsFunction + BuildsPattern, G: Readers<P, T>>(
+    g: &G,
+    t: &MakerOf<T>,
+    p: &mut P,
+) -> PResult<T::Expr>
+    requires { G.ready g.now }
     ensures { GivesAs T.expr_of
-        (arrows.named_arrow (rules.expr g.now.depth) (rules.function g.now.depth) (P.seen p.old))
-        result (P.seen p.new) }
+        (arrows.named_arrow (rules.expr (G.depth g.now)) (rules.function (G.depth g.now))
+        (P.seen p.old)) result (P.seen p.new) }
 {
     let start = p.span();
     let param = only_parameter(g, t, p)?;
@@ -288,19 +246,15 @@ pub fn named_arrow<
 /// An async arrow function whose only parameter is a name with no parentheses, on the line of `async`.
 #[tactic(auto, unfolding(swc_ecma_parser_reader::specs::AsyncArrows::async_named_arrow))]
 #[inline(never)]
-pub fn async_named_arrow<
-    P: Cursor,
-    T: BuildsFunction + BuildsPattern,
-    S: Fn(&MakerOf<T>, &mut P, usize, Position) -> PResult<T::Stmt>,
-    E: Fn(&MakerOf<T>, &mut P, usize, Reading) -> PResult<Cover<T::Expr>>,
-    N: Fn(&MakerOf<T>, &mut P, usize, Part) -> PResult<T::Pat>,
->(g: &Grammar<S, E, N>, t: &MakerOf<T>, p: &mut P) -> PResult<T::Expr>
-    requires { Nests P.seen T.expr_of T.pat_of T.stmt_of g.now.depth
-        (S.pre g.now.stmt) (S.post g.now.stmt) (E.pre g.now.expr) (E.post g.now.expr)
-        (N.pre g.now.pat) (N.post g.now.pat) }
+pub fn async_named_arrow<P: Cursor, T: BuildsFunction + BuildsPattern, G: Readers<P, T>>(
+    g: &G,
+    t: &MakerOf<T>,
+    p: &mut P,
+) -> PResult<T::Expr>
+    requires { G.ready g.now }
     ensures { GivesAs T.expr_of
-        (async_arrows.async_named_arrow (rules.expr g.now.depth) (rules.function g.now.depth)
-        (P.seen p.old)) result (P.seen p.new) }
+        (async_arrows.async_named_arrow (rules.expr (G.depth g.now))
+        (rules.function (G.depth g.now)) (P.seen p.old)) result (P.seen p.new) }
 {
     let start = p.span();
     p.skip()?;

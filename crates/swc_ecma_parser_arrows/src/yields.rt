@@ -2,7 +2,6 @@
 
 ghost use Rattle.std.specs.Prelude.{◌≡◌};
 ghost use Rattle.swc_ecma_parser_grammar.specs.language.Begins as begins;
-ghost use Rattle.swc_ecma_parser_shared.specs.Nests.{Nests};
 ghost use Rattle.swc_ecma_parser_reader.specs.Reader as rules;
 ghost use Rattle.swc_ecma_parser_reader.specs.State.{GivesAs};
 ghost use Rattle.swc_ecma_parser_reader.specs.Yields as yields;
@@ -10,9 +9,9 @@ ghost use Rattle.swc_ecma_parser_reader.specs.Yields as yields;
 use swc_ecma_parser_common::Span;
 use swc_ecma_parser_cursor::{Cursor, begins_operand};
 use swc_ecma_parser_error::PResult;
-use swc_ecma_parser_grammar::{Class, Position};
-use swc_ecma_parser_shared::cover::{Cover, Reading, nested};
-use swc_ecma_parser_shared::grammar::{Grammar, Part};
+use swc_ecma_parser_grammar::Class;
+use swc_ecma_parser_shared::cover::nested;
+use swc_ecma_parser_shared::readers::Readers;
 use swc_ecma_parser_shared::steps::{grown, since};
 use swc_ecma_parser_token::TokenKind;
 use swc_ecma_parser_trees::{BuildsOperator, MakerOf};
@@ -37,18 +36,16 @@ fn begins_expression<P: Cursor>(p: &P) -> bool
 
 /// What is yielded, from behind the word or its `*`.
 #[tactic(auto, unfolding(swc_ecma_parser_reader::specs::Yields::yielded))]
-fn yielded<
-    P: Cursor,
-    T: BuildsOperator,
-    S: Fn(&MakerOf<T>, &mut P, usize, Position) -> PResult<T::Stmt>,
-    E: Fn(&MakerOf<T>, &mut P, usize, Reading) -> PResult<Cover<T::Expr>>,
-    N: Fn(&MakerOf<T>, &mut P, usize, Part) -> PResult<T::Pat>,
->(g: &Grammar<S, E, N>, t: &MakerOf<T>, p: &mut P, delegate: bool, start: Span) -> PResult<T::Expr>
-    requires { Nests P.seen T.expr_of T.pat_of T.stmt_of g.now.depth
-        (S.pre g.now.stmt) (S.post g.now.stmt) (E.pre g.now.expr) (E.post g.now.expr)
-        (N.pre g.now.pat) (N.post g.now.pat) }
+fn yielded<P: Cursor, T: BuildsOperator, G: Readers<P, T>>(
+    g: &G,
+    t: &MakerOf<T>,
+    p: &mut P,
+    delegate: bool,
+    start: Span,
+) -> PResult<T::Expr>
+    requires { G.ready g.now }
     ensures { GivesAs (T.expr_of)
-        (yields.yielded (rules.expr g.now.depth) delegate start (P.seen p.old)) result
+        (yields.yielded (rules.expr (G.depth g.now)) delegate start (P.seen p.old)) result
         (P.seen p.new) }
 {
     let arg = nested(g, t, p, Class::Assignment)?;
@@ -59,18 +56,14 @@ fn yielded<
 /// `yield`, with what it yields, where that or a `*` stands on its line.
 #[tactic(auto, unfolding(swc_ecma_parser_reader::specs::Yields::yield_expr, swc_ecma_parser_reader::specs::Yields::behind_yield, swc_ecma_parser_reader::specs::Yields::bare_yield))]
 #[inline(never)]
-pub fn yield_expr<
-    P: Cursor,
-    T: BuildsOperator,
-    S: Fn(&MakerOf<T>, &mut P, usize, Position) -> PResult<T::Stmt>,
-    E: Fn(&MakerOf<T>, &mut P, usize, Reading) -> PResult<Cover<T::Expr>>,
-    N: Fn(&MakerOf<T>, &mut P, usize, Part) -> PResult<T::Pat>,
->(g: &Grammar<S, E, N>, t: &MakerOf<T>, p: &mut P) -> PResult<T::Expr>
-    requires { Nests P.seen T.expr_of T.pat_of T.stmt_of g.now.depth
-        (S.pre g.now.stmt) (S.post g.now.stmt) (E.pre g.now.expr) (E.post g.now.expr)
-        (N.pre g.now.pat) (N.post g.now.pat) }
-    ensures { GivesAs (T.expr_of) (yields.yield_expr (rules.expr g.now.depth) (P.seen p.old)) result
-        (P.seen p.new) }
+pub fn yield_expr<P: Cursor, T: BuildsOperator, G: Readers<P, T>>(
+    g: &G,
+    t: &MakerOf<T>,
+    p: &mut P,
+) -> PResult<T::Expr>
+    requires { G.ready g.now }
+    ensures { GivesAs (T.expr_of) (yields.yield_expr (rules.expr (G.depth g.now)) (P.seen p.old))
+        result (P.seen p.new) }
 {
     let start = p.span();
     p.skip()?;

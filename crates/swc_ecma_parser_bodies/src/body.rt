@@ -5,7 +5,6 @@ ghost use Rattle.swc_ecma_parser_error.specs.Kind as kinds;
 ghost use Rattle.swc_ecma_parser_error.specs.Kind.{kind_of, IsOutOfMemory};
 ghost use Rattle.swc_ecma_parser_bodies.specs.Bodies.{ends_of, directs_of};
 ghost use Rattle.swc_ecma_parser_grammar.specs.language.Items.{directed, directs_on, nested_item};
-ghost use Rattle.swc_ecma_parser_shared.specs.Nests.{Nests};
 ghost use Rattle.swc_ecma_parser_reader.specs.Reader as rules;
 ghost use Rattle.swc_ecma_parser_reader.specs.State as reader;
 ghost use Rattle.swc_ecma_parser_reader.specs.State.{Gives, GivesAs};
@@ -15,8 +14,7 @@ use swc_ecma_parser_cursor::Cursor;
 use swc_ecma_parser_error::{PResult, SyntaxError};
 use swc_ecma_parser_grammar::Position;
 use swc_ecma_parser_input::Context;
-use swc_ecma_parser_shared::cover::{Cover, Reading};
-use swc_ecma_parser_shared::grammar::{Grammar, Part};
+use swc_ecma_parser_shared::readers::Readers;
 use swc_ecma_parser_shared::steps::{grown, pushed, since};
 use swc_ecma_parser_token::TokenKind;
 use swc_ecma_parser_trees::{BuildsBlock, BuildsStmt, MakerOf, Trees};
@@ -130,24 +128,21 @@ fn has_directives(body: Body) -> bool
 
 /// The statements of a block, a body or a clause.
 #[tactic(auto, unfolding(swc_ecma_parser_reader::specs::Reader::items), using(swc_ecma_parser_reader::proofs::Loops::items_stop, swc_ecma_parser_reader::proofs::Loops::items_err, crate::proofs::Items::body_more, crate::proofs::Items::body_next, swc_ecma_parser_reader::proofs::Loops::stmt_shorter, std::proofs::lemmas::List::map_push))]
-pub fn body_items<
-    P: Cursor,
-    T: Trees,
-    S: Fn(&MakerOf<T>, &mut P, usize, Position) -> PResult<T::Stmt>,
-    E: Fn(&MakerOf<T>, &mut P, usize, Reading) -> PResult<Cover<T::Expr>>,
-    N: Fn(&MakerOf<T>, &mut P, usize, Part) -> PResult<T::Pat>,
->(g: &Grammar<S, E, N>, t: &MakerOf<T>, p: &mut P, body: Body) -> PResult<Vec<T::Stmt>>
-    requires { Nests P.seen T.expr_of T.pat_of T.stmt_of g.now.depth
-        (S.pre g.now.stmt) (S.post g.now.stmt) (E.pre g.now.expr) (E.post g.now.expr)
-        (N.pre g.now.pat) (N.post g.now.pat) }
+pub fn body_items<P: Cursor, T: Trees, G: Readers<P, T>>(
+    g: &G,
+    t: &MakerOf<T>,
+    p: &mut P,
+    body: Body,
+) -> PResult<Vec<T::Stmt>>
+    requires { G.ready g.now }
     ensures { GivesAs (λ found. map T.stmt_of found.items)
-        (rules.items (rules.stmt g.now.depth nested_item) (ends_of body) (directs_of body)
+        (rules.items (rules.stmt (G.depth g.now) nested_item) (ends_of body) (directs_of body)
         (P.seen p.old)) result (P.seen p.new) }
 {
     let mut found = Vec::new(t.alloc);
     let mut directives = has_directives(body);
     'items: while !ends(p, body) {
-        let stmt = (g.stmt)(t, p, g.depth, NESTED_ITEM)?;
+        let stmt = g.stmt(t, p, NESTED_ITEM)?;
         directives = direct::<P, T>(p, directives, &stmt);
         pushed(p, &mut found, stmt)?;
     }
@@ -157,18 +152,15 @@ pub fn body_items<
 /// A block as a statement.
 #[tactic(auto, unfolding(swc_ecma_parser_reader::specs::Reader::block, swc_ecma_parser_reader::specs::Reader::block_from, swc_ecma_parser_grammar::specs::Looks::spanned))]
 #[inline(never)]
-pub fn block<
-    P: Cursor,
-    T: BuildsStmt,
-    S: Fn(&MakerOf<T>, &mut P, usize, Position) -> PResult<T::Stmt>,
-    E: Fn(&MakerOf<T>, &mut P, usize, Reading) -> PResult<Cover<T::Expr>>,
-    N: Fn(&MakerOf<T>, &mut P, usize, Part) -> PResult<T::Pat>,
->(g: &Grammar<S, E, N>, t: &MakerOf<T>, p: &mut P) -> PResult<T::Stmt>
-    requires { Nests P.seen T.expr_of T.pat_of T.stmt_of g.now.depth
-        (S.pre g.now.stmt) (S.post g.now.stmt) (E.pre g.now.expr) (E.post g.now.expr)
-        (N.pre g.now.pat) (N.post g.now.pat) }
-    ensures { GivesAs T.stmt_of (rules.block (rules.stmt g.now.depth nested_item) (P.seen p.old))
-        result (P.seen p.new) }
+pub fn block<P: Cursor, T: BuildsStmt, G: Readers<P, T>>(
+    g: &G,
+    t: &MakerOf<T>,
+    p: &mut P,
+) -> PResult<T::Stmt>
+    requires { G.ready g.now }
+    ensures { GivesAs T.stmt_of
+        (rules.block (rules.stmt (G.depth g.now) nested_item) (P.seen p.old)) result
+        (P.seen p.new) }
 {
     let start = p.span();
     p.skip()?;
@@ -180,18 +172,14 @@ pub fn block<
 
 /// A block that must stand here, as a part of another form.
 #[tactic(auto, unfolding(swc_ecma_parser_reader::specs::Reader::braced, swc_ecma_parser_reader::specs::Reader::block_from, swc_ecma_parser_grammar::specs::Looks::spanned))]
-pub fn braced<
-    P: Cursor,
-    T: BuildsBlock,
-    S: Fn(&MakerOf<T>, &mut P, usize, Position) -> PResult<T::Stmt>,
-    E: Fn(&MakerOf<T>, &mut P, usize, Reading) -> PResult<Cover<T::Expr>>,
-    N: Fn(&MakerOf<T>, &mut P, usize, Part) -> PResult<T::Pat>,
->(g: &Grammar<S, E, N>, t: &MakerOf<T>, p: &mut P) -> PResult<T::Block>
-    requires { Nests P.seen T.expr_of T.pat_of T.stmt_of g.now.depth
-        (S.pre g.now.stmt) (S.post g.now.stmt) (E.pre g.now.expr) (E.post g.now.expr)
-        (N.pre g.now.pat) (N.post g.now.pat) }
+pub fn braced<P: Cursor, T: BuildsBlock, G: Readers<P, T>>(
+    g: &G,
+    t: &MakerOf<T>,
+    p: &mut P,
+) -> PResult<T::Block>
+    requires { G.ready g.now }
     ensures { GivesAs T.block_of
-        (rules.braced (rules.stmt g.now.depth nested_item) false (P.seen p.old)) result
+        (rules.braced (rules.stmt (G.depth g.now) nested_item) false (P.seen p.old)) result
         (P.seen p.new) }
 {
     let start = p.span();

@@ -7,7 +7,6 @@ ghost use Rattle.swc_ecma_parser_error.specs.Kind as kinds;
 ghost use Rattle.swc_ecma_parser_error.specs.Kind.{fault_of, kind_of, IsOutOfMemory};
 ghost use Rattle.swc_ecma_parser_grammar.specs.language.Goals.{expression};
 ghost use Rattle.swc_ecma_parser_grammar.specs.language.Items.{sub_statement};
-ghost use Rattle.swc_ecma_parser_shared.specs.Nests.{Nests};
 ghost use Rattle.swc_ecma_parser_model.specs.Tree.{Tree};
 ghost use Rattle.swc_ecma_parser_reader.specs.Reader as rules;
 ghost use Rattle.swc_ecma_parser_reader.specs.State as reader;
@@ -18,10 +17,10 @@ use std::alloc::{AllocError, Global};
 use swc_ecma_parser_common::{Atom, Boxed, Span};
 use swc_ecma_parser_cursor::Cursor;
 use swc_ecma_parser_error::{Error, Labelled, PResult, SyntaxError};
-use swc_ecma_parser_grammar::{Class, Position};
+use swc_ecma_parser_grammar::Class;
 use swc_ecma_parser_recovery::recovery::stays_refused;
-use swc_ecma_parser_shared::cover::{Cover, Reading, inside};
-use swc_ecma_parser_shared::grammar::{Grammar, Part};
+use swc_ecma_parser_shared::cover::inside;
+use swc_ecma_parser_shared::readers::Readers;
 use swc_ecma_parser_shared::steps::{grown, pushed, since};
 use swc_ecma_parser_statements::simple::SUB_STATEMENT;
 use swc_ecma_parser_token::TokenKind;
@@ -72,18 +71,16 @@ fn labelled<P: Cursor>(alloc: Global, p: &mut P, error: Error, word: Span) -> Er
 /// `( Expression )` behind the word `if`.
 #[tactic(auto, unfolding(swc_ecma_parser_reader::specs::Reader::condition, swc_ecma_parser_reader::specs::State::labelled, swc_ecma_parser_reader::specs::Expressions::inside))]
 #[inline(never)]
-fn condition<
-    P: Cursor,
-    T: Trees,
-    S: Fn(&MakerOf<T>, &mut P, usize, Position) -> PResult<T::Stmt>,
-    E: Fn(&MakerOf<T>, &mut P, usize, Reading) -> PResult<Cover<T::Expr>>,
-    N: Fn(&MakerOf<T>, &mut P, usize, Part) -> PResult<T::Pat>,
->(g: &Grammar<S, E, N>, t: &MakerOf<T>, p: &mut P, word: Span) -> PResult<T::Expr>
-    requires { Nests P.seen T.expr_of T.pat_of T.stmt_of g.now.depth
-        (S.pre g.now.stmt) (S.post g.now.stmt) (E.pre g.now.expr) (E.post g.now.expr)
-        (N.pre g.now.pat) (N.post g.now.pat) }
-    ensures { GivesAs T.expr_of (rules.condition (rules.expr g.now.depth expression) (P.seen p.old))
-        result (P.seen p.new) }
+fn condition<P: Cursor, T: Trees, G: Readers<P, T>>(
+    g: &G,
+    t: &MakerOf<T>,
+    p: &mut P,
+    word: Span,
+) -> PResult<T::Expr>
+    requires { G.ready g.now }
+    ensures { GivesAs T.expr_of
+        (rules.condition (rules.expr (G.depth g.now) expression) (P.seen p.old)) result
+        (P.seen p.new) }
 {
     p.expect(TokenKind::LParen, "(")?;
     let test = match inside(g, t, p, Class::Expression) {
@@ -96,49 +93,41 @@ fn condition<
 
 /// An `if` up to its first statement.
 #[tactic(auto, unfolding(swc_ecma_parser_reader::specs::Reader::link, swc_ecma_parser_reader::specs::Reader::link_from))]
-fn next_link<
-    P: Cursor,
-    T: Trees,
-    S: Fn(&MakerOf<T>, &mut P, usize, Position) -> PResult<T::Stmt>,
-    E: Fn(&MakerOf<T>, &mut P, usize, Reading) -> PResult<Cover<T::Expr>>,
-    N: Fn(&MakerOf<T>, &mut P, usize, Part) -> PResult<T::Pat>,
->(g: &Grammar<S, E, N>, t: &MakerOf<T>, p: &mut P) -> PResult<Link<T::Expr, T::Stmt>>
-    requires { Nests P.seen T.expr_of T.pat_of T.stmt_of g.now.depth
-        (S.pre g.now.stmt) (S.post g.now.stmt) (E.pre g.now.expr) (E.post g.now.expr)
-        (N.pre g.now.pat) (N.post g.now.pat) }
+fn next_link<P: Cursor, T: Trees, G: Readers<P, T>>(
+    g: &G,
+    t: &MakerOf<T>,
+    p: &mut P,
+) -> PResult<Link<T::Expr, T::Stmt>>
+    requires { G.ready g.now }
     ensures { GivesAs (link_of T.expr_of T.stmt_of)
-        (rules.link (rules.stmt g.now.depth sub_statement) (rules.expr g.now.depth expression)
-        (P.seen p.old)) result (P.seen p.new) }
+        (rules.link (rules.stmt (G.depth g.now) sub_statement)
+        (rules.expr (G.depth g.now) expression) (P.seen p.old)) result (P.seen p.new) }
 {
     let start = p.span();
     p.skip()?;
     let test = condition(g, t, p, start)?;
-    let cons = (g.stmt)(t, p, g.depth, SUB_STATEMENT)?;
+    let cons = g.stmt(t, p, SUB_STATEMENT)?;
     Ok(Link { start, test, cons })
 }
 
 /// What stands behind an `else`, if there is one.
 #[tactic(auto, unfolding(swc_ecma_parser_reader::specs::Reader::alternative))]
 #[inline(never)]
-fn alternative<
-    P: Cursor,
-    T: Trees,
-    S: Fn(&MakerOf<T>, &mut P, usize, Position) -> PResult<T::Stmt>,
-    E: Fn(&MakerOf<T>, &mut P, usize, Reading) -> PResult<Cover<T::Expr>>,
-    N: Fn(&MakerOf<T>, &mut P, usize, Part) -> PResult<T::Pat>,
->(g: &Grammar<S, E, N>, t: &MakerOf<T>, p: &mut P) -> PResult<Option<T::Stmt>>
-    requires { Nests P.seen T.expr_of T.pat_of T.stmt_of g.now.depth
-        (S.pre g.now.stmt) (S.post g.now.stmt) (E.pre g.now.expr) (E.post g.now.expr)
-        (N.pre g.now.pat) (N.post g.now.pat) }
+fn alternative<P: Cursor, T: Trees, G: Readers<P, T>>(
+    g: &G,
+    t: &MakerOf<T>,
+    p: &mut P,
+) -> PResult<Option<T::Stmt>>
+    requires { G.ready g.now }
     ensures { GivesAs (part_of T.stmt_of)
-        (rules.alternative (rules.stmt g.now.depth sub_statement) (P.seen p.old)) result
+        (rules.alternative (rules.stmt (G.depth g.now) sub_statement) (P.seen p.old)) result
         (P.seen p.new) }
 {
     if !p.sees(TokenKind::Else) {
         return Ok(None);
     }
     p.skip()?;
-    let alt = (g.stmt)(t, p, g.depth, SUB_STATEMENT)?;
+    let alt = g.stmt(t, p, SUB_STATEMENT)?;
     Ok(Some(alt))
 }
 
@@ -193,19 +182,15 @@ fn enclosed<P: Cursor, T: BuildsControl>(
 
 /// An `if` statement.
 #[inline(never)]
-pub fn if_stmt<
-    P: Cursor,
-    T: BuildsControl,
-    S: Fn(&MakerOf<T>, &mut P, usize, Position) -> PResult<T::Stmt>,
-    E: Fn(&MakerOf<T>, &mut P, usize, Reading) -> PResult<Cover<T::Expr>>,
-    N: Fn(&MakerOf<T>, &mut P, usize, Part) -> PResult<T::Pat>,
->(g: &Grammar<S, E, N>, t: &MakerOf<T>, p: &mut P) -> PResult<T::Stmt>
-    requires { Nests P.seen T.expr_of T.pat_of T.stmt_of g.now.depth
-        (S.pre g.now.stmt) (S.post g.now.stmt) (E.pre g.now.expr) (E.post g.now.expr)
-        (N.pre g.now.pat) (N.post g.now.pat) }
+pub fn if_stmt<P: Cursor, T: BuildsControl, G: Readers<P, T>>(
+    g: &G,
+    t: &MakerOf<T>,
+    p: &mut P,
+) -> PResult<T::Stmt>
+    requires { G.ready g.now }
     ensures { GivesAs T.stmt_of
-        (rules.if_stmt (rules.stmt g.now.depth sub_statement) (rules.expr g.now.depth expression)
-        (P.seen p.old)) result (P.seen p.new) }
+        (rules.if_stmt (rules.stmt (G.depth g.now) sub_statement)
+        (rules.expr (G.depth g.now) expression) (P.seen p.old)) result (P.seen p.new) }
 {
     let mut links = Vec::new(t.alloc);
     'links: loop {

@@ -2,7 +2,6 @@
 
 ghost use Rattle.std.specs.Prelude.{◌≡◌};
 ghost use Rattle.swc_ecma_parser_grammar.specs.language.Items.{nested_item};
-ghost use Rattle.swc_ecma_parser_shared.specs.Nests.{Nests};
 ghost use Rattle.swc_ecma_parser_reader.specs.Reader as rules;
 ghost use Rattle.swc_ecma_parser_reader.specs.State as reader;
 ghost use Rattle.swc_ecma_parser_reader.specs.State.{Gives, GivesAs};
@@ -12,28 +11,19 @@ use swc_ecma_parser_bodies::body::braced;
 use swc_ecma_parser_common::Span;
 use swc_ecma_parser_cursor::Cursor;
 use swc_ecma_parser_error::{PResult, SyntaxError};
-use swc_ecma_parser_grammar::Position;
 use swc_ecma_parser_patterns::pat::inner_pat;
 use swc_ecma_parser_recovery::recovery::dropped;
-use swc_ecma_parser_shared::cover::{Cover, Reading};
-use swc_ecma_parser_shared::grammar::{Grammar, Part};
+use swc_ecma_parser_shared::grammar::Part;
+use swc_ecma_parser_shared::readers::Readers;
 use swc_ecma_parser_shared::steps::{grown, since};
 use swc_ecma_parser_token::TokenKind;
 use swc_ecma_parser_trees::{BuildsBlock, BuildsOperator, BuildsStmt, BuildsTry, MakerOf, Trees};
 
 /// What a catch binds, in parentheses.
 #[tactic(auto, unfolding(swc_ecma_parser_reader::specs::Reader::bound))]
-fn bound<
-    P: Cursor,
-    T: Trees,
-    S: Fn(&MakerOf<T>, &mut P, usize, Position) -> PResult<T::Stmt>,
-    E: Fn(&MakerOf<T>, &mut P, usize, Reading) -> PResult<Cover<T::Expr>>,
-    N: Fn(&MakerOf<T>, &mut P, usize, Part) -> PResult<T::Pat>,
->(g: &Grammar<S, E, N>, t: &MakerOf<T>, p: &mut P) -> PResult<T::Pat>
-    requires { Nests P.seen T.expr_of T.pat_of T.stmt_of g.now.depth
-        (S.pre g.now.stmt) (S.post g.now.stmt) (E.pre g.now.expr) (E.post g.now.expr)
-        (N.pre g.now.pat) (N.post g.now.pat) }
-    ensures { GivesAs T.pat_of (rules.bound (rules.pattern g.now.depth) (P.seen p.old)) result
+fn bound<P: Cursor, T: Trees, G: Readers<P, T>>(g: &G, t: &MakerOf<T>, p: &mut P) -> PResult<T::Pat>
+    requires { G.ready g.now }
+    ensures { GivesAs T.pat_of (rules.bound (rules.pattern (G.depth g.now)) (P.seen p.old)) result
         (P.seen p.new) }
 {
     p.skip()?;
@@ -44,18 +34,14 @@ fn bound<
 
 /// What a catch binds, if it binds something.
 #[tactic(auto, unfolding(swc_ecma_parser_reader::specs::Reader::parameter))]
-fn parameter<
-    P: Cursor,
-    T: Trees,
-    S: Fn(&MakerOf<T>, &mut P, usize, Position) -> PResult<T::Stmt>,
-    E: Fn(&MakerOf<T>, &mut P, usize, Reading) -> PResult<Cover<T::Expr>>,
-    N: Fn(&MakerOf<T>, &mut P, usize, Part) -> PResult<T::Pat>,
->(g: &Grammar<S, E, N>, t: &MakerOf<T>, p: &mut P) -> PResult<Option<T::Pat>>
-    requires { Nests P.seen T.expr_of T.pat_of T.stmt_of g.now.depth
-        (S.pre g.now.stmt) (S.post g.now.stmt) (E.pre g.now.expr) (E.post g.now.expr)
-        (N.pre g.now.pat) (N.post g.now.pat) }
+fn parameter<P: Cursor, T: Trees, G: Readers<P, T>>(
+    g: &G,
+    t: &MakerOf<T>,
+    p: &mut P,
+) -> PResult<Option<T::Pat>>
+    requires { G.ready g.now }
     ensures { GivesAs (part_of T.pat_of)
-        (rules.parameter (rules.pattern g.now.depth) (P.seen p.old)) result (P.seen p.new) }
+        (rules.parameter (rules.pattern (G.depth g.now)) (P.seen p.old)) result (P.seen p.new) }
 {
     if !p.sees(TokenKind::LParen) {
         return Ok(None);
@@ -67,18 +53,14 @@ fn parameter<
 /// A catch, if one stands here.
 #[tactic(auto, unfolding(swc_ecma_parser_reader::specs::Reader::handler, swc_ecma_parser_reader::specs::Reader::caught, swc_ecma_parser_grammar::specs::Looks::spanned))]
 #[inline(never)]
-fn handler<
-    P: Cursor,
-    T: BuildsTry,
-    S: Fn(&MakerOf<T>, &mut P, usize, Position) -> PResult<T::Stmt>,
-    E: Fn(&MakerOf<T>, &mut P, usize, Reading) -> PResult<Cover<T::Expr>>,
-    N: Fn(&MakerOf<T>, &mut P, usize, Part) -> PResult<T::Pat>,
->(g: &Grammar<S, E, N>, t: &MakerOf<T>, p: &mut P) -> PResult<Option<T::Catch>>
-    requires { Nests P.seen T.expr_of T.pat_of T.stmt_of g.now.depth
-        (S.pre g.now.stmt) (S.post g.now.stmt) (E.pre g.now.expr) (E.post g.now.expr)
-        (N.pre g.now.pat) (N.post g.now.pat) }
+fn handler<P: Cursor, T: BuildsTry, G: Readers<P, T>>(
+    g: &G,
+    t: &MakerOf<T>,
+    p: &mut P,
+) -> PResult<Option<T::Catch>>
+    requires { G.ready g.now }
     ensures { GivesAs (part_of T.catch_of)
-        (rules.handler (rules.stmt g.now.depth nested_item) (rules.pattern g.now.depth)
+        (rules.handler (rules.stmt (G.depth g.now) nested_item) (rules.pattern (G.depth g.now))
         (P.seen p.old)) result (P.seen p.new) }
 {
     if !p.sees(TokenKind::Catch) {
@@ -95,18 +77,14 @@ fn handler<
 
 /// A finally, if one stands here.
 #[tactic(auto, unfolding(swc_ecma_parser_reader::specs::Reader::finalizer))]
-fn finalizer<
-    P: Cursor,
-    T: BuildsBlock,
-    S: Fn(&MakerOf<T>, &mut P, usize, Position) -> PResult<T::Stmt>,
-    E: Fn(&MakerOf<T>, &mut P, usize, Reading) -> PResult<Cover<T::Expr>>,
-    N: Fn(&MakerOf<T>, &mut P, usize, Part) -> PResult<T::Pat>,
->(g: &Grammar<S, E, N>, t: &MakerOf<T>, p: &mut P) -> PResult<Option<T::Block>>
-    requires { Nests P.seen T.expr_of T.pat_of T.stmt_of g.now.depth
-        (S.pre g.now.stmt) (S.post g.now.stmt) (E.pre g.now.expr) (E.post g.now.expr)
-        (N.pre g.now.pat) (N.post g.now.pat) }
+fn finalizer<P: Cursor, T: BuildsBlock, G: Readers<P, T>>(
+    g: &G,
+    t: &MakerOf<T>,
+    p: &mut P,
+) -> PResult<Option<T::Block>>
+    requires { G.ready g.now }
     ensures { GivesAs (part_of T.block_of)
-        (rules.finalizer (rules.stmt g.now.depth nested_item) (P.seen p.old)) result
+        (rules.finalizer (rules.stmt (G.depth g.now) nested_item) (P.seen p.old)) result
         (P.seen p.new) }
 {
     if !p.sees(TokenKind::Finally) {
@@ -142,18 +120,14 @@ fn is_handled<P: Cursor>(p: &P) -> bool
 /// A `try` statement. One with neither a catch nor a finally is a fault.
 #[tactic(auto, unfolding(swc_ecma_parser_reader::specs::Reader::try_stmt, swc_ecma_parser_reader::specs::Reader::handled, swc_ecma_parser_grammar::specs::Looks::spanned))]
 #[inline(never)]
-pub(crate) fn try_stmt<
-    P: Cursor,
-    T: BuildsTry,
-    S: Fn(&MakerOf<T>, &mut P, usize, Position) -> PResult<T::Stmt>,
-    E: Fn(&MakerOf<T>, &mut P, usize, Reading) -> PResult<Cover<T::Expr>>,
-    N: Fn(&MakerOf<T>, &mut P, usize, Part) -> PResult<T::Pat>,
->(g: &Grammar<S, E, N>, t: &MakerOf<T>, p: &mut P) -> PResult<T::Stmt>
-    requires { Nests P.seen T.expr_of T.pat_of T.stmt_of g.now.depth
-        (S.pre g.now.stmt) (S.post g.now.stmt) (E.pre g.now.expr) (E.post g.now.expr)
-        (N.pre g.now.pat) (N.post g.now.pat) }
+pub(crate) fn try_stmt<P: Cursor, T: BuildsTry, G: Readers<P, T>>(
+    g: &G,
+    t: &MakerOf<T>,
+    p: &mut P,
+) -> PResult<T::Stmt>
+    requires { G.ready g.now }
     ensures { GivesAs T.stmt_of
-        (rules.try_stmt (rules.stmt g.now.depth nested_item) (rules.pattern g.now.depth)
+        (rules.try_stmt (rules.stmt (G.depth g.now) nested_item) (rules.pattern (G.depth g.now))
         (P.seen p.old)) result (P.seen p.new) }
 {
     let start = p.span();
@@ -171,19 +145,15 @@ pub(crate) fn try_stmt<
 }
 
 /// Reads a catch, if one stands here, and drops it.
-fn dropped_handler<
-    P: Cursor,
-    T: BuildsTry,
-    S: Fn(&MakerOf<T>, &mut P, usize, Position) -> PResult<T::Stmt>,
-    E: Fn(&MakerOf<T>, &mut P, usize, Reading) -> PResult<Cover<T::Expr>>,
-    N: Fn(&MakerOf<T>, &mut P, usize, Part) -> PResult<T::Pat>,
->(g: &Grammar<S, E, N>, t: &MakerOf<T>, p: &mut P) -> PResult<()>
-    requires { Nests P.seen T.expr_of T.pat_of T.stmt_of g.now.depth
-        (S.pre g.now.stmt) (S.post g.now.stmt) (E.pre g.now.expr) (E.post g.now.expr)
-        (N.pre g.now.pat) (N.post g.now.pat) }
+fn dropped_handler<P: Cursor, T: BuildsTry, G: Readers<P, T>>(
+    g: &G,
+    t: &MakerOf<T>,
+    p: &mut P,
+) -> PResult<()>
+    requires { G.ready g.now }
     ensures { Gives
         (reader.attempted
-        (rules.handler (rules.stmt g.now.depth nested_item) (rules.pattern g.now.depth))
+        (rules.handler (rules.stmt (G.depth g.now) nested_item) (rules.pattern (G.depth g.now)))
         (P.seen p.old)) result (P.seen p.new) }
 {
     let around = p.copy_around()?;
@@ -193,18 +163,14 @@ fn dropped_handler<
 }
 
 /// The same of a finally.
-fn dropped_finalizer<
-    P: Cursor,
-    T: BuildsBlock,
-    S: Fn(&MakerOf<T>, &mut P, usize, Position) -> PResult<T::Stmt>,
-    E: Fn(&MakerOf<T>, &mut P, usize, Reading) -> PResult<Cover<T::Expr>>,
-    N: Fn(&MakerOf<T>, &mut P, usize, Part) -> PResult<T::Pat>,
->(g: &Grammar<S, E, N>, t: &MakerOf<T>, p: &mut P) -> PResult<()>
-    requires { Nests P.seen T.expr_of T.pat_of T.stmt_of g.now.depth
-        (S.pre g.now.stmt) (S.post g.now.stmt) (E.pre g.now.expr) (E.post g.now.expr)
-        (N.pre g.now.pat) (N.post g.now.pat) }
+fn dropped_finalizer<P: Cursor, T: BuildsBlock, G: Readers<P, T>>(
+    g: &G,
+    t: &MakerOf<T>,
+    p: &mut P,
+) -> PResult<()>
+    requires { G.ready g.now }
     ensures { Gives
-        (reader.attempted (rules.finalizer (rules.stmt g.now.depth nested_item)) (P.seen p.old))
+        (reader.attempted (rules.finalizer (rules.stmt (G.depth g.now) nested_item)) (P.seen p.old))
         result (P.seen p.new) }
 {
     let around = p.copy_around()?;
@@ -216,18 +182,14 @@ fn dropped_finalizer<
 /// A catch or a finally behind no `try`: a fault of its word, which stands for it in the tree. What stands behind it is dropped.
 #[tactic(auto, unfolding(swc_ecma_parser_reader::specs::Reader::stray))]
 #[inline(never)]
-pub(crate) fn stray<
-    P: Cursor,
-    T: BuildsTry + BuildsStmt + BuildsOperator,
-    S: Fn(&MakerOf<T>, &mut P, usize, Position) -> PResult<T::Stmt>,
-    E: Fn(&MakerOf<T>, &mut P, usize, Reading) -> PResult<Cover<T::Expr>>,
-    N: Fn(&MakerOf<T>, &mut P, usize, Part) -> PResult<T::Pat>,
->(g: &Grammar<S, E, N>, t: &MakerOf<T>, p: &mut P) -> PResult<T::Stmt>
-    requires { Nests P.seen T.expr_of T.pat_of T.stmt_of g.now.depth
-        (S.pre g.now.stmt) (S.post g.now.stmt) (E.pre g.now.expr) (E.post g.now.expr)
-        (N.pre g.now.pat) (N.post g.now.pat) }
+pub(crate) fn stray<P: Cursor, T: BuildsTry + BuildsStmt + BuildsOperator, G: Readers<P, T>>(
+    g: &G,
+    t: &MakerOf<T>,
+    p: &mut P,
+) -> PResult<T::Stmt>
+    requires { G.ready g.now }
     ensures { GivesAs T.stmt_of
-        (rules.stray (rules.stmt g.now.depth nested_item) (rules.pattern g.now.depth)
+        (rules.stray (rules.stmt (G.depth g.now) nested_item) (rules.pattern (G.depth g.now))
         (P.seen p.old)) result (P.seen p.new) }
 {
     let word = p.span();

@@ -5,7 +5,6 @@ ghost use Rattle.swc_ecma_parser_error.specs.Kind as kinds;
 ghost use Rattle.swc_ecma_parser_error.specs.Kind.{IsOutOfMemory};
 ghost use Rattle.swc_ecma_parser_grammar.specs.Own as own;
 ghost use Rattle.swc_ecma_parser_grammar.specs.language.Goals.{expression};
-ghost use Rattle.swc_ecma_parser_shared.specs.Nests.{Nests};
 ghost use Rattle.swc_ecma_parser_model.specs.Tree as tree;
 ghost use Rattle.swc_ecma_parser_reader.proofs.Plain.{duplicate};
 ghost use Rattle.swc_ecma_parser_reader.specs.Reader as rules;
@@ -18,8 +17,7 @@ use swc_ecma_parser_cursor::{Cursor, Wanted};
 use swc_ecma_parser_error::{PResult, SyntaxError};
 use swc_ecma_parser_grammar::Position;
 use swc_ecma_parser_model::{Ident, VarDeclKind};
-use swc_ecma_parser_shared::cover::{Cover, Reading};
-use swc_ecma_parser_shared::grammar::{Grammar, Part};
+use swc_ecma_parser_shared::readers::Readers;
 use swc_ecma_parser_shared::steps::{grown, since};
 use swc_ecma_parser_statements::simple::expr_stmt_at;
 use swc_ecma_parser_statements::variables::variables;
@@ -99,18 +97,16 @@ fn labelled_function<P: Cursor>(
 /// What a label stands at, which may break off there.
 #[tactic(auto, unfolding(swc_ecma_parser_reader::specs::Reader::labelled_body))]
 #[inline(never)]
-fn labelled_body<
-    P: Cursor,
-    T: Trees,
-    S: Fn(&MakerOf<T>, &mut P, usize, Position) -> PResult<T::Stmt>,
-    E: Fn(&MakerOf<T>, &mut P, usize, Reading) -> PResult<Cover<T::Expr>>,
-    N: Fn(&MakerOf<T>, &mut P, usize, Part) -> PResult<T::Pat>,
->(g: &Grammar<S, E, N>, t: &MakerOf<T>, p: &mut P, label: Atom) -> PResult<T::Stmt>
-    requires { Nests P.seen T.expr_of T.pat_of T.stmt_of g.now.depth
-        (S.pre g.now.stmt) (S.post g.now.stmt) (E.pre g.now.expr) (E.post g.now.expr)
-        (N.pre g.now.pat) (N.post g.now.pat) }
-    ensures { GivesAs T.stmt_of (rules.labelled_body (rules.stmt g.now.depth) label (P.seen p.old))
-        result (P.seen p.new) }
+fn labelled_body<P: Cursor, T: Trees, G: Readers<P, T>>(
+    g: &G,
+    t: &MakerOf<T>,
+    p: &mut P,
+    label: Atom,
+) -> PResult<T::Stmt>
+    requires { G.ready g.now }
+    ensures { GivesAs T.stmt_of
+        (rules.labelled_body (rules.stmt (G.depth g.now)) label (P.seen p.old)) result
+        (P.seen p.new) }
 {
     let at = Position {
         include_decl: p.sees(TokenKind::Function),
@@ -119,7 +115,7 @@ fn labelled_body<
     let outer = p.flags();
     p.set_flags(in_breakable(outer));
     p.push_label(label)?;
-    let body = (g.stmt)(t, p, g.depth, at)?;
+    let body = g.stmt(t, p, at)?;
     p.pop_label();
     p.set_flags(outer);
     Ok(body)
@@ -128,18 +124,14 @@ fn labelled_body<
 /// A statement with a label.
 #[tactic(auto, unfolding(swc_ecma_parser_reader::specs::Reader::labeled_stmt), using(swc_ecma_parser_reader::proofs::Plain::relabels_told))]
 #[inline(never)]
-fn labeled_stmt<
-    P: Cursor,
-    T: BuildsControl + BuildsBlock,
-    S: Fn(&MakerOf<T>, &mut P, usize, Position) -> PResult<T::Stmt>,
-    E: Fn(&MakerOf<T>, &mut P, usize, Reading) -> PResult<Cover<T::Expr>>,
-    N: Fn(&MakerOf<T>, &mut P, usize, Part) -> PResult<T::Pat>,
->(g: &Grammar<S, E, N>, t: &MakerOf<T>, p: &mut P) -> PResult<T::Stmt>
-    requires { Nests P.seen T.expr_of T.pat_of T.stmt_of g.now.depth
-        (S.pre g.now.stmt) (S.post g.now.stmt) (E.pre g.now.expr) (E.post g.now.expr)
-        (N.pre g.now.pat) (N.post g.now.pat) }
-    ensures { GivesAs T.stmt_of (rules.labeled_stmt (rules.stmt g.now.depth) (P.seen p.old)) result
-        (P.seen p.new) }
+fn labeled_stmt<P: Cursor, T: BuildsControl + BuildsBlock, G: Readers<P, T>>(
+    g: &G,
+    t: &MakerOf<T>,
+    p: &mut P,
+) -> PResult<T::Stmt>
+    requires { G.ready g.now }
+    ensures { GivesAs T.stmt_of (rules.labeled_stmt (rules.stmt (G.depth g.now)) (P.seen p.old))
+        result (P.seen p.new) }
 {
     let start = p.span();
     let label = p.reference(Wanted::Name)?;
@@ -159,16 +151,12 @@ fn labeled_stmt<
 pub(crate) fn other_stmt<
     P: Cursor,
     T: BuildsStmt + BuildsOperator + BuildsControl + BuildsBlock,
-    S: Fn(&MakerOf<T>, &mut P, usize, Position) -> PResult<T::Stmt>,
-    E: Fn(&MakerOf<T>, &mut P, usize, Reading) -> PResult<Cover<T::Expr>>,
-    N: Fn(&MakerOf<T>, &mut P, usize, Part) -> PResult<T::Pat>,
->(g: &Grammar<S, E, N>, t: &MakerOf<T>, p: &mut P, at: Position) -> PResult<T::Stmt>
-    requires { Nests P.seen T.expr_of T.pat_of T.stmt_of g.now.depth
-        (S.pre g.now.stmt) (S.post g.now.stmt) (E.pre g.now.expr) (E.post g.now.expr)
-        (N.pre g.now.pat) (N.post g.now.pat) }
+    G: Readers<P, T>,
+>(g: &G, t: &MakerOf<T>, p: &mut P, at: Position) -> PResult<T::Stmt>
+    requires { G.ready g.now }
     ensures { GivesAs T.stmt_of
-        (rules.other_stmt (rules.stmt g.now.depth) (rules.expr g.now.depth expression)
-        (rules.operators g.now.depth) at (P.seen p.old)) result (P.seen p.new) }
+        (rules.other_stmt (rules.stmt (G.depth g.now)) (rules.expr (G.depth g.now) expression)
+        (rules.operators (G.depth g.now)) at (P.seen p.old)) result (P.seen p.new) }
 {
     if begins_label(p) {
         return labeled_stmt(g, t, p);
@@ -182,18 +170,14 @@ pub(crate) fn other_stmt<
 pub(crate) fn let_stmt<
     P: Cursor,
     T: BuildsPattern + BuildsStmt + BuildsOperator + BuildsVariables + BuildsControl + BuildsBlock,
-    S: Fn(&MakerOf<T>, &mut P, usize, Position) -> PResult<T::Stmt>,
-    E: Fn(&MakerOf<T>, &mut P, usize, Reading) -> PResult<Cover<T::Expr>>,
-    N: Fn(&MakerOf<T>, &mut P, usize, Part) -> PResult<T::Pat>,
->(g: &Grammar<S, E, N>, t: &MakerOf<T>, p: &mut P, at: Position) -> PResult<T::Stmt>
-    requires { Nests P.seen T.expr_of T.pat_of T.stmt_of g.now.depth
-        (S.pre g.now.stmt) (S.post g.now.stmt) (E.pre g.now.expr) (E.post g.now.expr)
-        (N.pre g.now.pat) (N.post g.now.pat) }
+    G: Readers<P, T>,
+>(g: &G, t: &MakerOf<T>, p: &mut P, at: Position) -> PResult<T::Stmt>
+    requires { G.ready g.now }
     ensures { GivesAs T.stmt_of
-        (rules.let_stmt (rules.stmt g.now.depth) (rules.expr g.now.depth)
-        (rules.pattern g.now.depth) (rules.head_cover g.now.depth) (rules.parameters g.now.depth)
-        (rules.member g.now.depth) (rules.operators g.now.depth) at (P.seen p.old)) result
-        (P.seen p.new) }
+        (rules.let_stmt (rules.stmt (G.depth g.now)) (rules.expr (G.depth g.now))
+        (rules.pattern (G.depth g.now)) (rules.head_cover (G.depth g.now))
+        (rules.parameters (G.depth g.now)) (rules.member (G.depth g.now))
+        (rules.operators (G.depth g.now)) at (P.seen p.old)) result (P.seen p.new) }
 {
     if at.include_decl && p.is_let_declaration() {
         return variables(g, t, p, VarDeclKind::Let);

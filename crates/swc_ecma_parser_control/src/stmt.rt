@@ -2,7 +2,6 @@
 
 ghost use Rattle.std.specs.Prelude.{◌≡◌, ◌≢◌};
 ghost use Rattle.swc_ecma_parser_grammar.specs.Looks as looks;
-ghost use Rattle.swc_ecma_parser_shared.specs.Nests.{Nests};
 ghost use Rattle.swc_ecma_parser_reader.specs.Reader as rules;
 ghost use Rattle.swc_ecma_parser_reader.specs.State.{GivesAs};
 ghost use Rattle.swc_ecma_parser_token.specs.declared.kind.TokenKind.TheVariants as kind;
@@ -20,8 +19,7 @@ use swc_ecma_parser_grammar::Position;
 use swc_ecma_parser_loops::for_loop::for_stmt;
 use swc_ecma_parser_loops::while_do::{do_while, while_stmt};
 use swc_ecma_parser_model::VarDeclKind;
-use swc_ecma_parser_shared::cover::{Cover, Reading};
-use swc_ecma_parser_shared::grammar::{Grammar, Part};
+use swc_ecma_parser_shared::readers::Readers;
 use swc_ecma_parser_statements::jump::{break_stmt, continue_stmt};
 use swc_ecma_parser_statements::leave::{return_stmt, throw};
 use swc_ecma_parser_statements::simple::{debugger, empty, import_stmt_at};
@@ -38,18 +36,14 @@ use swc_ecma_parser_trees::{
 fn using_or_other<
     P: Cursor,
     T: BuildsPattern + BuildsStmt + BuildsOperator + BuildsControl + BuildsVarDecl,
-    S: Fn(&MakerOf<T>, &mut P, usize, Position) -> PResult<T::Stmt>,
-    E: Fn(&MakerOf<T>, &mut P, usize, Reading) -> PResult<Cover<T::Expr>>,
-    N: Fn(&MakerOf<T>, &mut P, usize, Part) -> PResult<T::Pat>,
->(g: &Grammar<S, E, N>, t: &MakerOf<T>, p: &mut P, at: Position) -> PResult<T::Stmt>
-    requires { Nests P.seen T.expr_of T.pat_of T.stmt_of g.now.depth
-        (S.pre g.now.stmt) (S.post g.now.stmt) (E.pre g.now.expr) (E.post g.now.expr)
-        (N.pre g.now.pat) (N.post g.now.pat) }
+    G: Readers<P, T>,
+>(g: &G, t: &MakerOf<T>, p: &mut P, at: Position) -> PResult<T::Stmt>
+    requires { G.ready g.now }
     ensures { GivesAs T.stmt_of
-        (rules.using_or_other (rules.stmt g.now.depth) (rules.expr g.now.depth)
-        (rules.pattern g.now.depth) (rules.head_cover g.now.depth) (rules.parameters g.now.depth)
-        (rules.member g.now.depth) (rules.operators g.now.depth) at (P.seen p.old)) result
-        (P.seen p.new) }
+        (rules.using_or_other (rules.stmt (G.depth g.now)) (rules.expr (G.depth g.now))
+        (rules.pattern (G.depth g.now)) (rules.head_cover (G.depth g.now))
+        (rules.parameters (G.depth g.now)) (rules.member (G.depth g.now))
+        (rules.operators (G.depth g.now)) at (P.seen p.old)) result (P.seen p.new) }
 {
     if at.include_decl && p.is_using_declaration() {
         return using_stmt(g, t, p);
@@ -62,18 +56,14 @@ fn using_or_other<
 fn async_or_other<
     P: Cursor,
     T: BuildsPattern + BuildsStmt + BuildsOperator + BuildsControl + BuildsVarDecl,
-    S: Fn(&MakerOf<T>, &mut P, usize, Position) -> PResult<T::Stmt>,
-    E: Fn(&MakerOf<T>, &mut P, usize, Reading) -> PResult<Cover<T::Expr>>,
-    N: Fn(&MakerOf<T>, &mut P, usize, Part) -> PResult<T::Pat>,
->(g: &Grammar<S, E, N>, t: &MakerOf<T>, p: &mut P, at: Position) -> PResult<T::Stmt>
-    requires { Nests P.seen T.expr_of T.pat_of T.stmt_of g.now.depth
-        (S.pre g.now.stmt) (S.post g.now.stmt) (E.pre g.now.expr) (E.post g.now.expr)
-        (N.pre g.now.pat) (N.post g.now.pat) }
+    G: Readers<P, T>,
+>(g: &G, t: &MakerOf<T>, p: &mut P, at: Position) -> PResult<T::Stmt>
+    requires { G.ready g.now }
     ensures { GivesAs T.stmt_of
-        (rules.async_or_other (rules.stmt g.now.depth) (rules.expr g.now.depth)
-        (rules.pattern g.now.depth) (rules.head_cover g.now.depth) (rules.parameters g.now.depth)
-        (rules.member g.now.depth) (rules.operators g.now.depth) at (P.seen p.old)) result
-        (P.seen p.new) }
+        (rules.async_or_other (rules.stmt (G.depth g.now)) (rules.expr (G.depth g.now))
+        (rules.pattern (G.depth g.now)) (rules.head_cover (G.depth g.now))
+        (rules.parameters (G.depth g.now)) (rules.member (G.depth g.now))
+        (rules.operators (G.depth g.now)) at (P.seen p.old)) result (P.seen p.new) }
 {
     if p.is_async_function() {
         return function_decl(g, t, p);
@@ -94,19 +84,15 @@ pub fn level<
         + BuildsLoop
         + BuildsFor
         + BuildsVarDecl,
-    S: Fn(&MakerOf<T>, &mut P, usize, Position) -> PResult<T::Stmt>,
-    E: Fn(&MakerOf<T>, &mut P, usize, Reading) -> PResult<Cover<T::Expr>>,
-    N: Fn(&MakerOf<T>, &mut P, usize, Part) -> PResult<T::Pat>,
->(g: &Grammar<S, E, N>, t: &MakerOf<T>, p: &mut P, at: Position) -> PResult<T::Stmt>
-    requires readers { Nests P.seen T.expr_of T.pat_of T.stmt_of g.now.depth
-        (S.pre g.now.stmt) (S.post g.now.stmt) (E.pre g.now.expr) (E.post g.now.expr)
-        (N.pre g.now.pat) (N.post g.now.pat) }
+    G: Readers<P, T>,
+>(g: &G, t: &MakerOf<T>, p: &mut P, at: Position) -> PResult<T::Stmt>
+    requires readers { G.ready g.now }
     requires no_class { looks.kind_at (P.seen p.now).at ≢ kind.Class }
     ensures { GivesAs T.stmt_of
-        (rules.stmt_level (rules.stmt g.now.depth) (rules.expr g.now.depth)
-        (rules.pattern g.now.depth) (rules.head_cover g.now.depth) (rules.parameters g.now.depth)
-        (rules.member g.now.depth) (rules.operators g.now.depth) at (P.seen p.old)) result
-        (P.seen p.new) }
+        (rules.stmt_level (rules.stmt (G.depth g.now)) (rules.expr (G.depth g.now))
+        (rules.pattern (G.depth g.now)) (rules.head_cover (G.depth g.now))
+        (rules.parameters (G.depth g.now)) (rules.member (G.depth g.now))
+        (rules.operators (G.depth g.now)) at (P.seen p.old)) result (P.seen p.new) }
 {
     match p.kind() {
         TokenKind::LBrace => block(g, t, p),

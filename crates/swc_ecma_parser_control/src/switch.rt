@@ -3,7 +3,6 @@
 ghost use Rattle.std.specs.Prelude.{◌≡◌, true, is_some, map};
 ghost use Rattle.swc_ecma_parser_grammar.specs.language.Items.{nested_item};
 ghost use Rattle.swc_ecma_parser_grammar.specs.language.Goals.{expression};
-ghost use Rattle.swc_ecma_parser_shared.specs.Nests.{Nests};
 ghost use Rattle.swc_ecma_parser_reader.specs.Reader as rules;
 ghost use Rattle.swc_ecma_parser_reader.specs.State.{GivesAs};
 ghost use Rattle.swc_ecma_parser_trees.specs.Parts.{part_of};
@@ -12,35 +11,27 @@ use swc_ecma_parser_bodies::body::{Body, begins_clause, body_items};
 use swc_ecma_parser_common::Span;
 use swc_ecma_parser_cursor::Cursor;
 use swc_ecma_parser_error::{PResult, SyntaxError};
-use swc_ecma_parser_grammar::{Class, Position};
+use swc_ecma_parser_grammar::Class;
 use swc_ecma_parser_input::Context;
 use swc_ecma_parser_loops::while_do::head;
-use swc_ecma_parser_shared::cover::{Cover, Reading, inside};
-use swc_ecma_parser_shared::grammar::{Grammar, Part};
+use swc_ecma_parser_shared::cover::inside;
+use swc_ecma_parser_shared::readers::Readers;
 use swc_ecma_parser_shared::steps::{grown, pushed, since};
 use swc_ecma_parser_token::TokenKind;
 use swc_ecma_parser_trees::{BuildsSwitch, MakerOf};
 
 /// A clause from its `:` on.
 #[tactic(auto, unfolding(swc_ecma_parser_reader::specs::Reader::clause_from))]
-fn clause_from<
-    P: Cursor,
-    T: BuildsSwitch,
-    S: Fn(&MakerOf<T>, &mut P, usize, Position) -> PResult<T::Stmt>,
-    E: Fn(&MakerOf<T>, &mut P, usize, Reading) -> PResult<Cover<T::Expr>>,
-    N: Fn(&MakerOf<T>, &mut P, usize, Part) -> PResult<T::Pat>,
->(
-    g: &Grammar<S, E, N>,
+fn clause_from<P: Cursor, T: BuildsSwitch, G: Readers<P, T>>(
+    g: &G,
     t: &MakerOf<T>,
     p: &mut P,
     start: Span,
     test: Option<T::Expr>,
 ) -> PResult<T::Case>
-    requires { Nests P.seen T.expr_of T.pat_of T.stmt_of g.now.depth
-        (S.pre g.now.stmt) (S.post g.now.stmt) (E.pre g.now.expr) (E.post g.now.expr)
-        (N.pre g.now.pat) (N.post g.now.pat) }
+    requires { G.ready g.now }
     ensures { GivesAs T.case_of
-        (rules.clause_from (rules.stmt g.now.depth nested_item) start (part_of T.expr_of test)
+        (rules.clause_from (rules.stmt (G.depth g.now) nested_item) start (part_of T.expr_of test)
         (P.seen p.old)) result (P.seen p.new) }
 {
     p.expect(TokenKind::Colon, ":")?;
@@ -51,19 +42,15 @@ fn clause_from<
 
 /// A `case`.
 #[tactic(auto, unfolding(swc_ecma_parser_reader::specs::Reader::case_clause, swc_ecma_parser_reader::specs::Expressions::inside))]
-fn case_clause<
-    P: Cursor,
-    T: BuildsSwitch,
-    S: Fn(&MakerOf<T>, &mut P, usize, Position) -> PResult<T::Stmt>,
-    E: Fn(&MakerOf<T>, &mut P, usize, Reading) -> PResult<Cover<T::Expr>>,
-    N: Fn(&MakerOf<T>, &mut P, usize, Part) -> PResult<T::Pat>,
->(g: &Grammar<S, E, N>, t: &MakerOf<T>, p: &mut P) -> PResult<T::Case>
-    requires { Nests P.seen T.expr_of T.pat_of T.stmt_of g.now.depth
-        (S.pre g.now.stmt) (S.post g.now.stmt) (E.pre g.now.expr) (E.post g.now.expr)
-        (N.pre g.now.pat) (N.post g.now.pat) }
+fn case_clause<P: Cursor, T: BuildsSwitch, G: Readers<P, T>>(
+    g: &G,
+    t: &MakerOf<T>,
+    p: &mut P,
+) -> PResult<T::Case>
+    requires { G.ready g.now }
     ensures { GivesAs T.case_of
-        (rules.case_clause (rules.stmt g.now.depth nested_item) (rules.expr g.now.depth expression)
-        (P.seen p.old)) result (P.seen p.new) }
+        (rules.case_clause (rules.stmt (G.depth g.now) nested_item)
+        (rules.expr (G.depth g.now) expression) (P.seen p.old)) result (P.seen p.new) }
 {
     let start = p.span();
     p.skip()?;
@@ -73,18 +60,15 @@ fn case_clause<
 
 /// A `default`, which is refused behind an earlier one.
 #[tactic(auto, unfolding(swc_ecma_parser_reader::specs::Reader::default_clause))]
-fn default_clause<
-    P: Cursor,
-    T: BuildsSwitch,
-    S: Fn(&MakerOf<T>, &mut P, usize, Position) -> PResult<T::Stmt>,
-    E: Fn(&MakerOf<T>, &mut P, usize, Reading) -> PResult<Cover<T::Expr>>,
-    N: Fn(&MakerOf<T>, &mut P, usize, Part) -> PResult<T::Pat>,
->(g: &Grammar<S, E, N>, t: &MakerOf<T>, p: &mut P, previous: Option<Span>) -> PResult<T::Case>
-    requires { Nests P.seen T.expr_of T.pat_of T.stmt_of g.now.depth
-        (S.pre g.now.stmt) (S.post g.now.stmt) (E.pre g.now.expr) (E.post g.now.expr)
-        (N.pre g.now.pat) (N.post g.now.pat) }
+fn default_clause<P: Cursor, T: BuildsSwitch, G: Readers<P, T>>(
+    g: &G,
+    t: &MakerOf<T>,
+    p: &mut P,
+    previous: Option<Span>,
+) -> PResult<T::Case>
+    requires { G.ready g.now }
     ensures { GivesAs T.case_of
-        (rules.default_clause (rules.stmt g.now.depth nested_item) (is_some previous)
+        (rules.default_clause (rules.stmt (G.depth g.now) nested_item) (is_some previous)
         (P.seen p.old)) result (P.seen p.new) }
 {
     let start = p.span();
@@ -97,19 +81,17 @@ fn default_clause<
 
 /// A clause, behind a `default` or none.
 #[tactic(auto, unfolding(swc_ecma_parser_reader::specs::Reader::clause))]
-fn clause<
-    P: Cursor,
-    T: BuildsSwitch,
-    S: Fn(&MakerOf<T>, &mut P, usize, Position) -> PResult<T::Stmt>,
-    E: Fn(&MakerOf<T>, &mut P, usize, Reading) -> PResult<Cover<T::Expr>>,
-    N: Fn(&MakerOf<T>, &mut P, usize, Part) -> PResult<T::Pat>,
->(g: &Grammar<S, E, N>, t: &MakerOf<T>, p: &mut P, previous: Option<Span>) -> PResult<T::Case>
-    requires { Nests P.seen T.expr_of T.pat_of T.stmt_of g.now.depth
-        (S.pre g.now.stmt) (S.post g.now.stmt) (E.pre g.now.expr) (E.post g.now.expr)
-        (N.pre g.now.pat) (N.post g.now.pat) }
+fn clause<P: Cursor, T: BuildsSwitch, G: Readers<P, T>>(
+    g: &G,
+    t: &MakerOf<T>,
+    p: &mut P,
+    previous: Option<Span>,
+) -> PResult<T::Case>
+    requires { G.ready g.now }
     ensures { GivesAs T.case_of
-        (rules.clause (rules.stmt g.now.depth nested_item) (rules.expr g.now.depth expression)
-        (is_some previous) (P.seen p.old)) result (P.seen p.new) }
+        (rules.clause (rules.stmt (G.depth g.now) nested_item)
+        (rules.expr (G.depth g.now) expression) (is_some previous) (P.seen p.old)) result
+        (P.seen p.new) }
 {
     if p.sees(TokenKind::Case) {
         return case_clause(g, t, p);
@@ -119,19 +101,15 @@ fn clause<
 
 /// Clauses one behind another.
 #[tactic(auto, unfolding(swc_ecma_parser_reader::specs::Reader::clauses), using(swc_ecma_parser_reader::proofs::Loops::clauses_done, swc_ecma_parser_reader::proofs::Loops::clauses_err, swc_ecma_parser_reader::proofs::Loops::clauses_more, swc_ecma_parser_reader::proofs::Loops::clause_shorter, std::proofs::lemmas::List::map_push))]
-fn clauses<
-    P: Cursor,
-    T: BuildsSwitch,
-    S: Fn(&MakerOf<T>, &mut P, usize, Position) -> PResult<T::Stmt>,
-    E: Fn(&MakerOf<T>, &mut P, usize, Reading) -> PResult<Cover<T::Expr>>,
-    N: Fn(&MakerOf<T>, &mut P, usize, Part) -> PResult<T::Pat>,
->(g: &Grammar<S, E, N>, t: &MakerOf<T>, p: &mut P) -> PResult<Vec<T::Case>>
-    requires { Nests P.seen T.expr_of T.pat_of T.stmt_of g.now.depth
-        (S.pre g.now.stmt) (S.post g.now.stmt) (E.pre g.now.expr) (E.post g.now.expr)
-        (N.pre g.now.pat) (N.post g.now.pat) }
+fn clauses<P: Cursor, T: BuildsSwitch, G: Readers<P, T>>(
+    g: &G,
+    t: &MakerOf<T>,
+    p: &mut P,
+) -> PResult<Vec<T::Case>>
+    requires { G.ready g.now }
     ensures { GivesAs (λ found. map T.case_of found.items)
-        (rules.clauses (rules.stmt g.now.depth nested_item) (rules.expr g.now.depth expression)
-        (P.seen p.old)) result (P.seen p.new) }
+        (rules.clauses (rules.stmt (G.depth g.now) nested_item)
+        (rules.expr (G.depth g.now) expression) (P.seen p.old)) result (P.seen p.new) }
 {
     let mut found = Vec::new(t.alloc);
     let mut previous = None;
@@ -160,19 +138,15 @@ pub(crate) fn in_breakable(flags: Context) -> Context
 /// A `switch` statement.
 #[tactic(auto, unfolding(swc_ecma_parser_reader::specs::Reader::switch_stmt, swc_ecma_parser_grammar::specs::Looks::spanned))]
 #[inline(never)]
-pub(crate) fn switch_stmt<
-    P: Cursor,
-    T: BuildsSwitch,
-    S: Fn(&MakerOf<T>, &mut P, usize, Position) -> PResult<T::Stmt>,
-    E: Fn(&MakerOf<T>, &mut P, usize, Reading) -> PResult<Cover<T::Expr>>,
-    N: Fn(&MakerOf<T>, &mut P, usize, Part) -> PResult<T::Pat>,
->(g: &Grammar<S, E, N>, t: &MakerOf<T>, p: &mut P) -> PResult<T::Stmt>
-    requires { Nests P.seen T.expr_of T.pat_of T.stmt_of g.now.depth
-        (S.pre g.now.stmt) (S.post g.now.stmt) (E.pre g.now.expr) (E.post g.now.expr)
-        (N.pre g.now.pat) (N.post g.now.pat) }
+pub(crate) fn switch_stmt<P: Cursor, T: BuildsSwitch, G: Readers<P, T>>(
+    g: &G,
+    t: &MakerOf<T>,
+    p: &mut P,
+) -> PResult<T::Stmt>
+    requires { G.ready g.now }
     ensures { GivesAs T.stmt_of
-        (rules.switch_stmt (rules.stmt g.now.depth nested_item) (rules.expr g.now.depth expression)
-        (P.seen p.old)) result (P.seen p.new) }
+        (rules.switch_stmt (rules.stmt (G.depth g.now) nested_item)
+        (rules.expr (G.depth g.now) expression) (P.seen p.old)) result (P.seen p.new) }
 {
     let start = p.span();
     p.skip()?;

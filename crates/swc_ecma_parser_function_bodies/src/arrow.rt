@@ -7,7 +7,6 @@ ghost use Rattle.swc_ecma_parser_function_bodies.specs.Bodies.{directed_body};
 ghost use Rattle.swc_ecma_parser_reader.specs.Arrows as arrows;
 ghost use Rattle.swc_ecma_parser_reader.specs.Reader as rules;
 ghost use Rattle.swc_ecma_parser_reader.specs.State.{GivesAs};
-ghost use Rattle.swc_ecma_parser_shared.specs.Nests.{Nests};
 
 use crate::parser::{FnBodyParser, FromArrowBody};
 use std::alloc::Global;
@@ -15,31 +14,21 @@ use swc_ecma_parser_arrows::arrows::{ArrowBody, arrow_body, strict_directive};
 use swc_ecma_parser_cursor::Cursor;
 use swc_ecma_parser_error::PResult;
 use swc_ecma_parser_functions::function::{Manner, misdirected};
-use swc_ecma_parser_grammar::Position;
-use swc_ecma_parser_shared::cover::{Cover, Reading};
-use swc_ecma_parser_shared::grammar::{Grammar, Part};
+use swc_ecma_parser_shared::readers::Readers;
 use swc_ecma_parser_trees::{BuildsFunction, MakerOf};
 
 /// A block or an expression, with the fault of a directive that comes too late.
-fn directed_arrow_body<
-    P: Cursor,
-    T: BuildsFunction,
-    S: Fn(&MakerOf<T>, &mut P, usize, Position) -> PResult<T::Stmt>,
-    E: Fn(&MakerOf<T>, &mut P, usize, Reading) -> PResult<Cover<T::Expr>>,
-    N: Fn(&MakerOf<T>, &mut P, usize, Part) -> PResult<T::Pat>,
->(
-    g: &Grammar<S, E, N>,
+fn directed_arrow_body<P: Cursor, T: BuildsFunction, G: Readers<P, T>>(
+    g: &G,
     t: &MakerOf<T>,
     p: &mut P,
     is_async: bool,
     is_simple: bool,
 ) -> PResult<ArrowBody<T::Block, T::Expr>>
-    requires { Nests P.seen T.expr_of T.pat_of T.stmt_of g.now.depth
-        (S.pre g.now.stmt) (S.post g.now.stmt) (E.pre g.now.expr) (E.post g.now.expr)
-        (N.pre g.now.pat) (N.post g.now.pat) }
+    requires { G.ready g.now }
     ensures { GivesAs (arrow_body_of T.block_of T.expr_of)
         (directed_body is_simple
-        (arrows.arrow_body (rules.expr g.now.depth) (rules.function g.now.depth) is_async)
+        (arrows.arrow_body (rules.expr (G.depth g.now)) (rules.function (G.depth g.now)) is_async)
         (P.seen p.old)) result (P.seen p.new) }
 {
     let body = arrow_body(g, t, p, is_async)?;
@@ -75,13 +64,9 @@ impl<P: Cursor, T: BuildsFunction, B: FromArrowBody<T> + Drop> FnBodyParser<T, B
 
     ghost body = { λ n is_async is_generator. arrows.arrow_body (rules.expr n) (rules.function n) is_async };
 
-    fn parse_fn_body_inner<
-        S: Fn(&MakerOf<T>, &mut P, usize, Position) -> PResult<T::Stmt>,
-        E: Fn(&MakerOf<T>, &mut P, usize, Reading) -> PResult<Cover<T::Expr>>,
-        N: Fn(&MakerOf<T>, &mut P, usize, Part) -> PResult<T::Pat>,
-    >(
+    fn parse_fn_body_inner<G: Readers<P, T>>(
         &mut self,
-        g: &Grammar<S, E, N>,
+        g: &G,
         t: &MakerOf<T>,
         manner: Manner,
         is_simple_parameter_list: bool,

@@ -5,39 +5,29 @@ ghost use Rattle.swc_ecma_parser_function_bodies.specs.Bodies.{directed_body};
 ghost use Rattle.swc_ecma_parser_grammar.specs.language.Items.{nested_item};
 ghost use Rattle.swc_ecma_parser_reader.specs.Reader as rules;
 ghost use Rattle.swc_ecma_parser_reader.specs.State.{GivesAs};
-ghost use Rattle.swc_ecma_parser_shared.specs.Nests.{Nests};
 ghost use Rattle.swc_ecma_parser_trees.specs.Parts.{part_of};
 
 use crate::parser::FnBodyParser;
 use swc_ecma_parser_cursor::Cursor;
 use swc_ecma_parser_error::PResult;
 use swc_ecma_parser_functions::function::{FunctionBody, Manner, function_body, misdirected};
-use swc_ecma_parser_grammar::Position;
-use swc_ecma_parser_shared::cover::{Cover, Reading};
-use swc_ecma_parser_shared::grammar::{Grammar, Part};
+use swc_ecma_parser_shared::readers::Readers;
 use swc_ecma_parser_trees::{BuildsBlock, MakerOf};
 
 /// Statements in braces, with the fault of a directive that comes too late.
-fn directed_block<
-    P: Cursor,
-    T: BuildsBlock,
-    S: Fn(&MakerOf<T>, &mut P, usize, Position) -> PResult<T::Stmt>,
-    E: Fn(&MakerOf<T>, &mut P, usize, Reading) -> PResult<Cover<T::Expr>>,
-    N: Fn(&MakerOf<T>, &mut P, usize, Part) -> PResult<T::Pat>,
->(
-    g: &Grammar<S, E, N>,
+fn directed_block<P: Cursor, T: BuildsBlock, G: Readers<P, T>>(
+    g: &G,
     t: &MakerOf<T>,
     p: &mut P,
     manner: Manner,
     is_simple: bool,
 ) -> PResult<T::Block>
-    requires { Nests P.seen T.expr_of T.pat_of T.stmt_of g.now.depth
-        (S.pre g.now.stmt) (S.post g.now.stmt) (E.pre g.now.expr) (E.post g.now.expr)
-        (N.pre g.now.pat) (N.post g.now.pat) }
+    requires { G.ready g.now }
     ensures { GivesAs T.block_of
         (directed_body is_simple
-        (rules.function_body (rules.stmt g.now.depth nested_item) (rules.parameters g.now.depth)
-        manner.is_async manner.is_generator) (P.seen p.old)) result (P.seen p.new) }
+        (rules.function_body (rules.stmt (G.depth g.now) nested_item)
+        (rules.parameters (G.depth g.now)) manner.is_async manner.is_generator) (P.seen p.old))
+        result (P.seen p.new) }
 {
     let FunctionBody {
         block,
@@ -52,13 +42,9 @@ impl<P: Cursor, T: BuildsBlock> FnBodyParser<T, Option<T::Block>> for P {
 
     ghost body = { λ n is_async is_generator. rules.function_body (rules.stmt n nested_item) (rules.parameters n) is_async is_generator };
 
-    fn parse_fn_body_inner<
-        S: Fn(&MakerOf<T>, &mut P, usize, Position) -> PResult<T::Stmt>,
-        E: Fn(&MakerOf<T>, &mut P, usize, Reading) -> PResult<Cover<T::Expr>>,
-        N: Fn(&MakerOf<T>, &mut P, usize, Part) -> PResult<T::Pat>,
-    >(
+    fn parse_fn_body_inner<G: Readers<P, T>>(
         &mut self,
-        g: &Grammar<S, E, N>,
+        g: &G,
         t: &MakerOf<T>,
         manner: Manner,
         is_simple_parameter_list: bool,

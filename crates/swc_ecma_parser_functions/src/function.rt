@@ -8,7 +8,6 @@ ghost use Rattle.swc_ecma_parser_grammar.specs.Parameters.{parameter};
 ghost use Rattle.swc_ecma_parser_grammar.specs.language.Items.{nested_item};
 ghost use Rattle.swc_ecma_parser_grammar.specs.language.Contexts as contexts;
 ghost use Rattle.swc_ecma_parser_shared.specs.Keys.{word_of};
-ghost use Rattle.swc_ecma_parser_shared.specs.Nests.{Nests};
 ghost use Rattle.swc_ecma_parser_model.specs.Forms as forms;
 ghost use Rattle.swc_ecma_parser_model.specs.Tree as tree;
 ghost use Rattle.swc_ecma_parser_reader.specs.Dressed as dressed;
@@ -26,8 +25,7 @@ use swc_ecma_parser_grammar::Position;
 use swc_ecma_parser_input::Context;
 use swc_ecma_parser_model::Ident;
 use swc_ecma_parser_patterns::params::parameters;
-use swc_ecma_parser_shared::cover::{Cover, Reading};
-use swc_ecma_parser_shared::grammar::{Grammar, Part};
+use swc_ecma_parser_shared::readers::Readers;
 use swc_ecma_parser_shared::steps::{grown, pushed, since};
 use swc_ecma_parser_token::TokenKind;
 use swc_ecma_parser_trees::{BuildsBlock, BuildsDecl, BuildsFunction, BuildsPattern, MakerOf};
@@ -123,19 +121,16 @@ fn first_use_strict<T: BuildsBlock>(stmts: &[T::Stmt]) -> Option<Span>
 
 /// Parameters, in what stands around them.
 #[inline(never)]
-pub fn parameters_inside<
-    P: Cursor,
-    T: BuildsPattern,
-    S: Fn(&MakerOf<T>, &mut P, usize, Position) -> PResult<T::Stmt>,
-    E: Fn(&MakerOf<T>, &mut P, usize, Reading) -> PResult<Cover<T::Expr>>,
-    N: Fn(&MakerOf<T>, &mut P, usize, Part) -> PResult<T::Pat>,
->(g: &Grammar<S, E, N>, t: &MakerOf<T>, p: &mut P, manner: Manner) -> PResult<Vec<T::Pat>>
-    requires { Nests P.seen T.expr_of T.pat_of T.stmt_of g.now.depth
-        (S.pre g.now.stmt) (S.post g.now.stmt) (E.pre g.now.expr) (E.post g.now.expr)
-        (N.pre g.now.pat) (N.post g.now.pat) }
+pub fn parameters_inside<P: Cursor, T: BuildsPattern, G: Readers<P, T>>(
+    g: &G,
+    t: &MakerOf<T>,
+    p: &mut P,
+    manner: Manner,
+) -> PResult<Vec<T::Pat>>
+    requires { G.ready g.now }
     ensures { GivesAs (λ found. map T.pat_of found.items)
         (within (λ k. contexts.in_parameters k manner.is_async manner.is_generator)
-        (rules.parameters g.now.depth) (P.seen p.old)) result (P.seen p.new) }
+        (rules.parameters (G.depth g.now)) (P.seen p.old)) result (P.seen p.new) }
 {
     let outer = p.flags();
     p.set_flags(in_parameters(outer, manner));
@@ -146,18 +141,14 @@ pub fn parameters_inside<
 
 /// The statements of a body, from its `{` to its `}`.
 #[tactic(auto, unfolding(swc_ecma_parser_reader::specs::Reader::braced, swc_ecma_parser_reader::specs::Reader::block_from, swc_ecma_parser_grammar::specs::Looks::spanned))]
-fn block<
-    P: Cursor,
-    T: BuildsBlock,
-    S: Fn(&MakerOf<T>, &mut P, usize, Position) -> PResult<T::Stmt>,
-    E: Fn(&MakerOf<T>, &mut P, usize, Reading) -> PResult<Cover<T::Expr>>,
-    N: Fn(&MakerOf<T>, &mut P, usize, Part) -> PResult<T::Pat>,
->(g: &Grammar<S, E, N>, t: &MakerOf<T>, p: &mut P) -> PResult<FunctionBody<T::Block>>
-    requires { Nests P.seen T.expr_of T.pat_of T.stmt_of g.now.depth
-        (S.pre g.now.stmt) (S.post g.now.stmt) (E.pre g.now.expr) (E.post g.now.expr)
-        (N.pre g.now.pat) (N.post g.now.pat) }
+fn block<P: Cursor, T: BuildsBlock, G: Readers<P, T>>(
+    g: &G,
+    t: &MakerOf<T>,
+    p: &mut P,
+) -> PResult<FunctionBody<T::Block>>
+    requires { G.ready g.now }
     ensures gives { GivesAs (λ body. T.block_of body.block)
-        (rules.braced (rules.stmt g.now.depth nested_item) true (P.seen p.old)) result
+        (rules.braced (rules.stmt (G.depth g.now) nested_item) true (P.seen p.old)) result
         (P.seen p.new) }
     ensures directive { IfOk result
         (λ body. own.misplaced_directive false (T.block_of body.block)
@@ -178,25 +169,17 @@ fn block<
 
 /// Statements in braces as a body, in what stands around them.
 #[inline(never)]
-pub fn inner_body<
-    P: Cursor,
-    T: BuildsBlock,
-    S: Fn(&MakerOf<T>, &mut P, usize, Position) -> PResult<T::Stmt>,
-    E: Fn(&MakerOf<T>, &mut P, usize, Reading) -> PResult<Cover<T::Expr>>,
-    N: Fn(&MakerOf<T>, &mut P, usize, Part) -> PResult<T::Pat>,
->(
-    g: &Grammar<S, E, N>,
+pub fn inner_body<P: Cursor, T: BuildsBlock, G: Readers<P, T>>(
+    g: &G,
     t: &MakerOf<T>,
     p: &mut P,
     manner: Manner,
 ) -> PResult<FunctionBody<T::Block>>
-    requires { Nests P.seen T.expr_of T.pat_of T.stmt_of g.now.depth
-        (S.pre g.now.stmt) (S.post g.now.stmt) (E.pre g.now.expr) (E.post g.now.expr)
-        (N.pre g.now.pat) (N.post g.now.pat) }
+    requires { G.ready g.now }
     ensures gives { GivesAs (λ body. T.block_of body.block)
         (within (λ k. contexts.in_body k manner.is_async manner.is_generator)
-        (enclosed (rules.braced (rules.stmt g.now.depth nested_item) true)) (P.seen p.old)) result
-        (P.seen p.new) }
+        (enclosed (rules.braced (rules.stmt (G.depth g.now) nested_item) true)) (P.seen p.old))
+        result (P.seen p.new) }
     ensures directive { IfOk result
         (λ body. own.misplaced_directive false (T.block_of body.block)
         ≡ late body.strict_directive) }
@@ -212,24 +195,17 @@ pub fn inner_body<
 
 /// The body of a function, in what stands around its statements.
 #[tactic(auto, unfolding(swc_ecma_parser_reader::specs::Reader::function_body))]
-pub fn function_body<
-    P: Cursor,
-    T: BuildsBlock,
-    S: Fn(&MakerOf<T>, &mut P, usize, Position) -> PResult<T::Stmt>,
-    E: Fn(&MakerOf<T>, &mut P, usize, Reading) -> PResult<Cover<T::Expr>>,
-    N: Fn(&MakerOf<T>, &mut P, usize, Part) -> PResult<T::Pat>,
->(
-    g: &Grammar<S, E, N>,
+pub fn function_body<P: Cursor, T: BuildsBlock, G: Readers<P, T>>(
+    g: &G,
     t: &MakerOf<T>,
     p: &mut P,
     manner: Manner,
 ) -> PResult<FunctionBody<T::Block>>
-    requires { Nests P.seen T.expr_of T.pat_of T.stmt_of g.now.depth
-        (S.pre g.now.stmt) (S.post g.now.stmt) (E.pre g.now.expr) (E.post g.now.expr)
-        (N.pre g.now.pat) (N.post g.now.pat) }
+    requires { G.ready g.now }
     ensures gives { GivesAs (λ body. T.block_of body.block)
-        (rules.function_body (rules.stmt g.now.depth nested_item) (rules.parameters g.now.depth)
-        manner.is_async manner.is_generator (P.seen p.old)) result (P.seen p.new) }
+        (rules.function_body (rules.stmt (G.depth g.now) nested_item)
+        (rules.parameters (G.depth g.now)) manner.is_async manner.is_generator (P.seen p.old))
+        result (P.seen p.new) }
     ensures directive { IfOk result
         (λ body. own.misplaced_directive false (T.block_of body.block)
         ≡ late body.strict_directive) }
@@ -303,26 +279,18 @@ pub fn star<P: Cursor>(p: &mut P) -> PResult<bool>
 
 /// A function, from behind its name, with the decorators before it.
 #[tactic(auto, unfolding(swc_ecma_parser_reader::specs::Dressed::function_parts_with, swc_ecma_parser_reader::specs::Reader::function_parts, swc_ecma_parser_reader::specs::Reader::misdirected))]
-pub fn function_parts_with<
-    P: Cursor,
-    T: BuildsFunction + BuildsPattern,
-    S: Fn(&MakerOf<T>, &mut P, usize, Position) -> PResult<T::Stmt>,
-    E: Fn(&MakerOf<T>, &mut P, usize, Reading) -> PResult<Cover<T::Expr>>,
-    N: Fn(&MakerOf<T>, &mut P, usize, Part) -> PResult<T::Pat>,
->(
-    g: &Grammar<S, E, N>,
+pub fn function_parts_with<P: Cursor, T: BuildsFunction + BuildsPattern, G: Readers<P, T>>(
+    g: &G,
     t: &MakerOf<T>,
     p: &mut P,
     manner: Manner,
     start: Span,
     decorators: Vec<T::Decorator>,
 ) -> PResult<T::Function>
-    requires { Nests P.seen T.expr_of T.pat_of T.stmt_of g.now.depth
-        (S.pre g.now.stmt) (S.post g.now.stmt) (E.pre g.now.expr) (E.post g.now.expr)
-        (N.pre g.now.pat) (N.post g.now.pat) }
+    requires { G.ready g.now }
     ensures { GivesAs T.function_of
-        (dressed.function_parts_with (rules.stmt g.now.depth nested_item)
-        (rules.parameters g.now.depth) (map T.decorator_of decorators.items) manner.is_async
+        (dressed.function_parts_with (rules.stmt (G.depth g.now) nested_item)
+        (rules.parameters (G.depth g.now)) (map T.decorator_of decorators.items) manner.is_async
         manner.is_generator start (P.seen p.old)) result (P.seen p.new) }
 {
     let pats = parameters_inside(g, t, p, manner)?;
@@ -347,25 +315,18 @@ pub fn function_parts_with<
 
 /// A function without decorators, from behind its name.
 #[tactic(auto, using(swc_ecma_parser_reader::proofs::decorators::Dressed::function_parts_plain))]
-pub fn function_parts<
-    P: Cursor,
-    T: BuildsFunction + BuildsPattern,
-    S: Fn(&MakerOf<T>, &mut P, usize, Position) -> PResult<T::Stmt>,
-    E: Fn(&MakerOf<T>, &mut P, usize, Reading) -> PResult<Cover<T::Expr>>,
-    N: Fn(&MakerOf<T>, &mut P, usize, Part) -> PResult<T::Pat>,
->(
-    g: &Grammar<S, E, N>,
+pub fn function_parts<P: Cursor, T: BuildsFunction + BuildsPattern, G: Readers<P, T>>(
+    g: &G,
     t: &MakerOf<T>,
     p: &mut P,
     manner: Manner,
     start: Span,
 ) -> PResult<T::Function>
-    requires { Nests P.seen T.expr_of T.pat_of T.stmt_of g.now.depth
-        (S.pre g.now.stmt) (S.post g.now.stmt) (E.pre g.now.expr) (E.post g.now.expr)
-        (N.pre g.now.pat) (N.post g.now.pat) }
+    requires { G.ready g.now }
     ensures { GivesAs T.function_of
-        (rules.function_parts (rules.stmt g.now.depth nested_item) (rules.parameters g.now.depth)
-        manner.is_async manner.is_generator start (P.seen p.old)) result (P.seen p.new) }
+        (rules.function_parts (rules.stmt (G.depth g.now) nested_item)
+        (rules.parameters (G.depth g.now)) manner.is_async manner.is_generator start (P.seen p.old))
+        result (P.seen p.new) }
 {
     function_parts_with(g, t, p, manner, start, Vec::new(t.alloc))
 }
@@ -373,19 +334,15 @@ pub fn function_parts<
 /// A function that is declared.
 #[tactic(auto, unfolding(swc_ecma_parser_reader::specs::Reader::function_decl))]
 #[inline(never)]
-pub fn function_decl<
-    P: Cursor,
-    T: BuildsDecl + BuildsPattern,
-    S: Fn(&MakerOf<T>, &mut P, usize, Position) -> PResult<T::Stmt>,
-    E: Fn(&MakerOf<T>, &mut P, usize, Reading) -> PResult<Cover<T::Expr>>,
-    N: Fn(&MakerOf<T>, &mut P, usize, Part) -> PResult<T::Pat>,
->(g: &Grammar<S, E, N>, t: &MakerOf<T>, p: &mut P) -> PResult<T::Stmt>
-    requires { Nests P.seen T.expr_of T.pat_of T.stmt_of g.now.depth
-        (S.pre g.now.stmt) (S.post g.now.stmt) (E.pre g.now.expr) (E.post g.now.expr)
-        (N.pre g.now.pat) (N.post g.now.pat) }
+pub fn function_decl<P: Cursor, T: BuildsDecl + BuildsPattern, G: Readers<P, T>>(
+    g: &G,
+    t: &MakerOf<T>,
+    p: &mut P,
+) -> PResult<T::Stmt>
+    requires { G.ready g.now }
     ensures { GivesAs T.stmt_of
-        (rules.function_decl (rules.stmt g.now.depth nested_item) (rules.parameters g.now.depth)
-        (P.seen p.old)) result (P.seen p.new) }
+        (rules.function_decl (rules.stmt (G.depth g.now) nested_item)
+        (rules.parameters (G.depth g.now)) (P.seen p.old)) result (P.seen p.new) }
 {
     let start = p.span();
     let is_async = function_word(p)?;
@@ -402,19 +359,16 @@ pub fn function_decl<
 
 /// The same, where declarations are read or with a fault of its word.
 #[tactic(auto, unfolding(swc_ecma_parser_reader::specs::Reader::function_stmt))]
-pub fn function_stmt<
-    P: Cursor,
-    T: BuildsDecl + BuildsPattern,
-    S: Fn(&MakerOf<T>, &mut P, usize, Position) -> PResult<T::Stmt>,
-    E: Fn(&MakerOf<T>, &mut P, usize, Reading) -> PResult<Cover<T::Expr>>,
-    N: Fn(&MakerOf<T>, &mut P, usize, Part) -> PResult<T::Pat>,
->(g: &Grammar<S, E, N>, t: &MakerOf<T>, p: &mut P, at: Position) -> PResult<T::Stmt>
-    requires { Nests P.seen T.expr_of T.pat_of T.stmt_of g.now.depth
-        (S.pre g.now.stmt) (S.post g.now.stmt) (E.pre g.now.expr) (E.post g.now.expr)
-        (N.pre g.now.pat) (N.post g.now.pat) }
+pub fn function_stmt<P: Cursor, T: BuildsDecl + BuildsPattern, G: Readers<P, T>>(
+    g: &G,
+    t: &MakerOf<T>,
+    p: &mut P,
+    at: Position,
+) -> PResult<T::Stmt>
+    requires { G.ready g.now }
     ensures { GivesAs T.stmt_of
-        (rules.function_stmt (rules.stmt g.now.depth nested_item) (rules.parameters g.now.depth) at
-        (P.seen p.old)) result (P.seen p.new) }
+        (rules.function_stmt (rules.stmt (G.depth g.now) nested_item)
+        (rules.parameters (G.depth g.now)) at (P.seen p.old)) result (P.seen p.new) }
 {
     if !at.include_decl {
         let word = p.span();
@@ -443,18 +397,14 @@ fn own_name<P: Cursor>(p: &mut P, manner: Manner) -> PResult<Option<Ident>>
 /// A function that is an expression.
 #[tactic(auto, unfolding(swc_ecma_parser_reader::specs::Reader::function, swc_ecma_parser_reader::specs::Reader::function_by, swc_ecma_parser_reader::specs::Reader::function_expr))]
 #[inline(never)]
-pub fn function_expr<
-    P: Cursor,
-    T: BuildsFunction + BuildsPattern,
-    S: Fn(&MakerOf<T>, &mut P, usize, Position) -> PResult<T::Stmt>,
-    E: Fn(&MakerOf<T>, &mut P, usize, Reading) -> PResult<Cover<T::Expr>>,
-    N: Fn(&MakerOf<T>, &mut P, usize, Part) -> PResult<T::Pat>,
->(g: &Grammar<S, E, N>, t: &MakerOf<T>, p: &mut P) -> PResult<T::Expr>
-    requires { Nests P.seen T.expr_of T.pat_of T.stmt_of g.now.depth
-        (S.pre g.now.stmt) (S.post g.now.stmt) (E.pre g.now.expr) (E.post g.now.expr)
-        (N.pre g.now.pat) (N.post g.now.pat) }
-    ensures { GivesAs T.expr_of (rules.function g.now.depth expression_form (P.seen p.old)) result
-        (P.seen p.new) }
+pub fn function_expr<P: Cursor, T: BuildsFunction + BuildsPattern, G: Readers<P, T>>(
+    g: &G,
+    t: &MakerOf<T>,
+    p: &mut P,
+) -> PResult<T::Expr>
+    requires { G.ready g.now }
+    ensures { GivesAs T.expr_of (rules.function (G.depth g.now) expression_form (P.seen p.old))
+        result (P.seen p.new) }
 {
     let start = p.span();
     let is_async = function_word(p)?;

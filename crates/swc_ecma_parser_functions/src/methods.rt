@@ -4,7 +4,6 @@ ghost use Rattle.std.specs.Prelude.{◌≡◌, map};
 ghost use Rattle.swc_ecma_parser_functions.specs.Methods.{form_of};
 ghost use Rattle.swc_ecma_parser_grammar.specs.language.Items.{nested_item};
 ghost use Rattle.swc_ecma_parser_shared.specs.Keys.{key_of};
-ghost use Rattle.swc_ecma_parser_shared.specs.Nests.{Nests};
 ghost use Rattle.swc_ecma_parser_reader.specs.Methods as methods;
 ghost use Rattle.swc_ecma_parser_reader.specs.Methods.{property_form};
 ghost use Rattle.swc_ecma_parser_reader.specs.Reader as rules;
@@ -16,10 +15,8 @@ use crate::function::{
 use swc_ecma_parser_common::Span;
 use swc_ecma_parser_cursor::Cursor;
 use swc_ecma_parser_error::{PResult, SyntaxError};
-use swc_ecma_parser_grammar::Position;
-use swc_ecma_parser_shared::cover::{Cover, Reading};
-use swc_ecma_parser_shared::grammar::{Grammar, Part};
 use swc_ecma_parser_shared::keys::{Key, made_key};
+use swc_ecma_parser_shared::readers::Readers;
 use swc_ecma_parser_shared::steps::{grown, since};
 use swc_ecma_parser_trees::{BuildsMethod, BuildsPattern, MakerOf, Trees};
 
@@ -115,25 +112,17 @@ fn one_parameter<P: Cursor, T: BuildsPattern>(
 /// A getter, from behind its key.
 #[tactic(auto, unfolding(swc_ecma_parser_reader::specs::Reader::getter))]
 #[inline(never)]
-fn getter<
-    P: Cursor,
-    T: BuildsMethod + BuildsPattern,
-    S: Fn(&MakerOf<T>, &mut P, usize, Position) -> PResult<T::Stmt>,
-    E: Fn(&MakerOf<T>, &mut P, usize, Reading) -> PResult<Cover<T::Expr>>,
-    N: Fn(&MakerOf<T>, &mut P, usize, Part) -> PResult<T::Pat>,
->(
-    g: &Grammar<S, E, N>,
+fn getter<P: Cursor, T: BuildsMethod + BuildsPattern, G: Readers<P, T>>(
+    g: &G,
     t: &MakerOf<T>,
     p: &mut P,
     start: Span,
     key: Key<T::Expr>,
 ) -> PResult<T::Prop>
-    requires { Nests P.seen T.expr_of T.pat_of T.stmt_of g.now.depth
-        (S.pre g.now.stmt) (S.post g.now.stmt) (E.pre g.now.expr) (E.post g.now.expr)
-        (N.pre g.now.pat) (N.post g.now.pat) }
+    requires { G.ready g.now }
     ensures { GivesAs T.prop_of
-        (rules.getter (rules.stmt g.now.depth nested_item) (rules.parameters g.now.depth) start
-        (key_of T.expr_of key) (P.seen p.old)) result (P.seen p.new) }
+        (rules.getter (rules.stmt (G.depth g.now) nested_item) (rules.parameters (G.depth g.now))
+        start (key_of T.expr_of key) (P.seen p.old)) result (P.seen p.new) }
 {
     let params = parameters_inside(g, t, p, PLAIN)?;
     no_parameter::<P, T>(p, &params, start)?;
@@ -149,25 +138,17 @@ fn getter<
 /// A setter, from behind its key.
 #[tactic(auto, unfolding(swc_ecma_parser_reader::specs::Reader::setter))]
 #[inline(never)]
-fn setter<
-    P: Cursor,
-    T: BuildsMethod + BuildsPattern,
-    S: Fn(&MakerOf<T>, &mut P, usize, Position) -> PResult<T::Stmt>,
-    E: Fn(&MakerOf<T>, &mut P, usize, Reading) -> PResult<Cover<T::Expr>>,
-    N: Fn(&MakerOf<T>, &mut P, usize, Part) -> PResult<T::Pat>,
->(
-    g: &Grammar<S, E, N>,
+fn setter<P: Cursor, T: BuildsMethod + BuildsPattern, G: Readers<P, T>>(
+    g: &G,
     t: &MakerOf<T>,
     p: &mut P,
     start: Span,
     key: Key<T::Expr>,
 ) -> PResult<T::Prop>
-    requires { Nests P.seen T.expr_of T.pat_of T.stmt_of g.now.depth
-        (S.pre g.now.stmt) (S.post g.now.stmt) (E.pre g.now.expr) (E.post g.now.expr)
-        (N.pre g.now.pat) (N.post g.now.pat) }
+    requires { G.ready g.now }
     ensures { GivesAs T.prop_of
-        (rules.setter (rules.stmt g.now.depth nested_item) (rules.parameters g.now.depth) start
-        (key_of T.expr_of key) (P.seen p.old)) result (P.seen p.new) }
+        (rules.setter (rules.stmt (G.depth g.now) nested_item) (rules.parameters (G.depth g.now))
+        start (key_of T.expr_of key) (P.seen p.old)) result (P.seen p.new) }
 {
     let params = parameters_inside(g, t, p, PLAIN)?;
     let param = one_parameter::<P, T>(p, params, start)?;
@@ -184,27 +165,19 @@ fn setter<
 /// A method that is no accessor, from behind its key.
 #[tactic(auto, unfolding(swc_ecma_parser_reader::specs::Reader::plain_method))]
 #[inline(never)]
-fn plain_method<
-    P: Cursor,
-    T: BuildsMethod + BuildsPattern,
-    S: Fn(&MakerOf<T>, &mut P, usize, Position) -> PResult<T::Stmt>,
-    E: Fn(&MakerOf<T>, &mut P, usize, Reading) -> PResult<Cover<T::Expr>>,
-    N: Fn(&MakerOf<T>, &mut P, usize, Part) -> PResult<T::Pat>,
->(
-    g: &Grammar<S, E, N>,
+fn plain_method<P: Cursor, T: BuildsMethod + BuildsPattern, G: Readers<P, T>>(
+    g: &G,
     t: &MakerOf<T>,
     p: &mut P,
     manner: Manner,
     start: Span,
     key: Key<T::Expr>,
 ) -> PResult<T::Prop>
-    requires { Nests P.seen T.expr_of T.pat_of T.stmt_of g.now.depth
-        (S.pre g.now.stmt) (S.post g.now.stmt) (E.pre g.now.expr) (E.post g.now.expr)
-        (N.pre g.now.pat) (N.post g.now.pat) }
+    requires { G.ready g.now }
     ensures { GivesAs T.prop_of
-        (rules.plain_method (rules.stmt g.now.depth nested_item) (rules.parameters g.now.depth)
-        manner.is_async manner.is_generator start (key_of T.expr_of key) (P.seen p.old)) result
-        (P.seen p.new) }
+        (rules.plain_method (rules.stmt (G.depth g.now) nested_item)
+        (rules.parameters (G.depth g.now)) manner.is_async manner.is_generator start
+        (key_of T.expr_of key) (P.seen p.old)) result (P.seen p.new) }
 {
     let function = function_parts(g, t, p, manner, start)?;
     let span = T::function_span(&function);
@@ -215,25 +188,17 @@ fn plain_method<
 /// A method, from behind its key.
 #[tactic(auto, unfolding(swc_ecma_parser_reader::specs::Reader::function, swc_ecma_parser_reader::specs::Reader::function_by))]
 #[inline(never)]
-pub fn method<
-    P: Cursor,
-    T: BuildsMethod + BuildsPattern,
-    S: Fn(&MakerOf<T>, &mut P, usize, Position) -> PResult<T::Stmt>,
-    E: Fn(&MakerOf<T>, &mut P, usize, Reading) -> PResult<Cover<T::Expr>>,
-    N: Fn(&MakerOf<T>, &mut P, usize, Part) -> PResult<T::Pat>,
->(
-    g: &Grammar<S, E, N>,
+pub fn method<P: Cursor, T: BuildsMethod + BuildsPattern, G: Readers<P, T>>(
+    g: &G,
     t: &MakerOf<T>,
     p: &mut P,
     form: MethodForm,
     start: Span,
     key: Key<T::Expr>,
 ) -> PResult<T::Prop>
-    requires { Nests P.seen T.expr_of T.pat_of T.stmt_of g.now.depth
-        (S.pre g.now.stmt) (S.post g.now.stmt) (E.pre g.now.expr) (E.post g.now.expr)
-        (N.pre g.now.pat) (N.post g.now.pat) }
+    requires { G.ready g.now }
     ensures { GivesAs T.prop_of
-        (rules.function g.now.depth (property_form (form_of form) start (key_of T.expr_of key))
+        (rules.function (G.depth g.now) (property_form (form_of form) start (key_of T.expr_of key))
         (P.seen p.old)) result (P.seen p.new) }
 {
     match form {

@@ -5,7 +5,6 @@ ghost use Rattle.std.specs.Prelude.{◌≡◌, ◌≢◌};
 ghost use Rattle.swc_ecma_parser_knot.specs.Covering as covering;
 ghost use Rattle.swc_ecma_parser_grammar.specs.Looks as looks;
 ghost use Rattle.swc_ecma_parser_shared.specs.Covers.{cover_of};
-ghost use Rattle.swc_ecma_parser_shared.specs.Nests.{Nests};
 ghost use Rattle.swc_ecma_parser_reader.specs.Reader as rules;
 ghost use Rattle.swc_ecma_parser_reader.specs.State.{GivesAs};
 ghost use Rattle.swc_ecma_parser_token.specs.declared.kind.TokenKind.TheVariants as kind;
@@ -18,8 +17,8 @@ use swc_ecma_parser_grammar::Position;
 use swc_ecma_parser_operators::assignment::{
     cover_expr, expr_behind_await, head_behind_async, head_expr,
 };
-use swc_ecma_parser_shared::cover::{Cover, Reading};
-use swc_ecma_parser_shared::grammar::{Grammar, Part};
+use swc_ecma_parser_shared::cover::Cover;
+use swc_ecma_parser_shared::readers::Readers;
 use swc_ecma_parser_statements::using::{await_stmt, begins_await_using};
 use swc_ecma_parser_trees::{
     BuildsCall, BuildsControl, BuildsExpr, BuildsFor, BuildsLoop, BuildsMethod, BuildsOperator,
@@ -30,15 +29,11 @@ use swc_ecma_parser_trees::{
 pub(crate) fn cover_level<
     P: Cursor,
     T: BuildsExpr + BuildsCall + BuildsMethod + BuildsOperator + BuildsPattern,
-    S: Fn(&MakerOf<T>, &mut P, usize, Position) -> PResult<T::Stmt>,
-    E: Fn(&MakerOf<T>, &mut P, usize, Reading) -> PResult<Cover<T::Expr>>,
-    N: Fn(&MakerOf<T>, &mut P, usize, Part) -> PResult<T::Pat>,
->(g: &Grammar<S, E, N>, t: &MakerOf<T>, p: &mut P, place: Covering) -> PResult<Cover<T::Expr>>
-    requires { Nests P.seen T.expr_of T.pat_of T.stmt_of g.now.depth
-        (S.pre g.now.stmt) (S.post g.now.stmt) (E.pre g.now.expr) (E.post g.now.expr)
-        (N.pre g.now.pat) (N.post g.now.pat) }
-    ensures { GivesAs (cover_of T.expr_of) (covering.covered_level g.now.depth place (P.seen p.old))
-        result (P.seen p.new) }
+    G: Readers<P, T>,
+>(g: &G, t: &MakerOf<T>, p: &mut P, place: Covering) -> PResult<Cover<T::Expr>>
+    requires { G.ready g.now }
+    ensures { GivesAs (cover_of T.expr_of)
+        (covering.covered_level (G.depth g.now) place (P.seen p.old)) result (P.seen p.new) }
 {
     match place {
         Covering::Whole => cover_expr(g, t, p),
@@ -61,18 +56,14 @@ pub(crate) fn plain_level<
         + BuildsLoop
         + BuildsFor
         + BuildsVarDecl,
-    S: Fn(&MakerOf<T>, &mut P, usize, Position) -> PResult<T::Stmt>,
-    E: Fn(&MakerOf<T>, &mut P, usize, Reading) -> PResult<Cover<T::Expr>>,
-    N: Fn(&MakerOf<T>, &mut P, usize, Part) -> PResult<T::Pat>,
->(g: &Grammar<S, E, N>, t: &MakerOf<T>, p: &mut P, at: Position) -> PResult<T::Stmt>
-    requires readers { Nests P.seen T.expr_of T.pat_of T.stmt_of g.now.depth
-        (S.pre g.now.stmt) (S.post g.now.stmt) (E.pre g.now.expr) (E.post g.now.expr)
-        (N.pre g.now.pat) (N.post g.now.pat) }
+    G: Readers<P, T>,
+>(g: &G, t: &MakerOf<T>, p: &mut P, at: Position) -> PResult<T::Stmt>
+    requires readers { G.ready g.now }
     requires no_class { looks.kind_at (P.seen p.now).at ≢ kind.Class }
-    ensures { GivesAs T.stmt_of (rules.plain_stmt g.now.depth at (P.seen p.old)) result
+    ensures { GivesAs T.stmt_of (rules.plain_stmt (G.depth g.now) at (P.seen p.old)) result
         (P.seen p.new) }
 {
-    if begins_await_using(p, g.depth, at) {
+    if begins_await_using(p, g.levels(), at) {
         return await_stmt(g, t, p, at);
     }
     level(g, t, p, at)

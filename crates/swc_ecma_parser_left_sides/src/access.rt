@@ -2,7 +2,6 @@
 
 ghost use Rattle.std.specs.Prelude.{◌≡◌, ◌&&◌, ◌||◌, not, IfOk, map};
 ghost use Rattle.swc_ecma_parser_grammar.specs.Looks.{sees};
-ghost use Rattle.swc_ecma_parser_shared.specs.Nests.{Nests};
 ghost use Rattle.swc_ecma_parser_left_sides.specs.Accesses.{property_of};
 ghost use Rattle.swc_ecma_parser_model.specs.Tree as tree;
 ghost use Rattle.swc_ecma_parser_reader.specs.Expressions as exprs;
@@ -13,11 +12,11 @@ ghost use Rattle.swc_ecma_parser_token.specs.declared.kind.TokenKind.TheVariants
 use swc_ecma_parser_common::Span;
 use swc_ecma_parser_cursor::{Cursor, Wanted};
 use swc_ecma_parser_error::{PResult, SyntaxError};
-use swc_ecma_parser_grammar::{Class, Position};
+use swc_ecma_parser_grammar::Class;
 use swc_ecma_parser_model::{Ident, PrivateName};
-use swc_ecma_parser_shared::cover::{Cover, Reading, inside};
-use swc_ecma_parser_shared::grammar::{Grammar, Part};
+use swc_ecma_parser_shared::cover::inside;
 use swc_ecma_parser_shared::keys::{private_name, word_property};
+use swc_ecma_parser_shared::readers::Readers;
 use swc_ecma_parser_shared::steps::{grown, pushed, since};
 use swc_ecma_parser_token::TokenKind;
 use swc_ecma_parser_trees::{BuildsCall, MakerOf, Trees};
@@ -46,19 +45,15 @@ fn dotted<P: Cursor, T: Trees>(p: &mut P) -> PResult<Property<T::Expr>>
 /// An expression in brackets, with their place.
 #[tactic(auto, unfolding(swc_ecma_parser_reader::specs::Expressions::brackets))]
 #[inline(never)]
-pub(crate) fn brackets<
-    P: Cursor,
-    T: Trees,
-    S: Fn(&MakerOf<T>, &mut P, usize, Position) -> PResult<T::Stmt>,
-    E: Fn(&MakerOf<T>, &mut P, usize, Reading) -> PResult<Cover<T::Expr>>,
-    N: Fn(&MakerOf<T>, &mut P, usize, Part) -> PResult<T::Pat>,
->(g: &Grammar<S, E, N>, t: &MakerOf<T>, p: &mut P) -> PResult<(Span, T::Expr)>
-    requires { Nests P.seen T.expr_of T.pat_of T.stmt_of g.now.depth
-        (S.pre g.now.stmt) (S.post g.now.stmt) (E.pre g.now.expr) (E.post g.now.expr)
-        (N.pre g.now.pat) (N.post g.now.pat) }
+pub(crate) fn brackets<P: Cursor, T: Trees, G: Readers<P, T>>(
+    g: &G,
+    t: &MakerOf<T>,
+    p: &mut P,
+) -> PResult<(Span, T::Expr)>
+    requires { G.ready g.now }
     ensures { GivesAs (λ x. tree.computed x.0 (T.expr_of x.1))
-        (exprs.brackets (rules.expr g.now.depth) (rules.cover g.now.depth) (P.seen p.old)) result
-        (P.seen p.new) }
+        (exprs.brackets (rules.expr (G.depth g.now)) (rules.cover (G.depth g.now)) (P.seen p.old))
+        result (P.seen p.new) }
 {
     let start = p.span();
     p.skip()?;
@@ -76,19 +71,15 @@ pub(crate) fn begins_access<P: Cursor>(p: &P) -> bool
 
 /// An access, from `.` or `[` on.
 #[tactic(auto, unfolding(swc_ecma_parser_reader::specs::Expressions::access))]
-pub(crate) fn access<
-    P: Cursor,
-    T: Trees,
-    S: Fn(&MakerOf<T>, &mut P, usize, Position) -> PResult<T::Stmt>,
-    E: Fn(&MakerOf<T>, &mut P, usize, Reading) -> PResult<Cover<T::Expr>>,
-    N: Fn(&MakerOf<T>, &mut P, usize, Part) -> PResult<T::Pat>,
->(g: &Grammar<S, E, N>, t: &MakerOf<T>, p: &mut P) -> PResult<Property<T::Expr>>
-    requires { Nests P.seen T.expr_of T.pat_of T.stmt_of g.now.depth
-        (S.pre g.now.stmt) (S.post g.now.stmt) (E.pre g.now.expr) (E.post g.now.expr)
-        (N.pre g.now.pat) (N.post g.now.pat) }
+pub(crate) fn access<P: Cursor, T: Trees, G: Readers<P, T>>(
+    g: &G,
+    t: &MakerOf<T>,
+    p: &mut P,
+) -> PResult<Property<T::Expr>>
+    requires { G.ready g.now }
     ensures { GivesAs (property_of T.expr_of)
-        (exprs.access (rules.expr g.now.depth) (rules.cover g.now.depth) (P.seen p.old)) result
-        (P.seen p.new) }
+        (exprs.access (rules.expr (G.depth g.now)) (rules.cover (G.depth g.now)) (P.seen p.old))
+        result (P.seen p.new) }
 {
     if p.sees(TokenKind::Dot) {
         p.skip()?;
@@ -101,19 +92,15 @@ pub(crate) fn access<
 /// A spread argument or element, with the place of its dots.
 #[tactic(auto, unfolding(swc_ecma_parser_reader::specs::Expressions::spread_element))]
 #[inline(never)]
-fn spread_element<
-    P: Cursor,
-    T: BuildsCall,
-    S: Fn(&MakerOf<T>, &mut P, usize, Position) -> PResult<T::Stmt>,
-    E: Fn(&MakerOf<T>, &mut P, usize, Reading) -> PResult<Cover<T::Expr>>,
-    N: Fn(&MakerOf<T>, &mut P, usize, Part) -> PResult<T::Pat>,
->(g: &Grammar<S, E, N>, t: &MakerOf<T>, p: &mut P) -> PResult<T::Arg>
-    requires { Nests P.seen T.expr_of T.pat_of T.stmt_of g.now.depth
-        (S.pre g.now.stmt) (S.post g.now.stmt) (E.pre g.now.expr) (E.post g.now.expr)
-        (N.pre g.now.pat) (N.post g.now.pat) }
+fn spread_element<P: Cursor, T: BuildsCall, G: Readers<P, T>>(
+    g: &G,
+    t: &MakerOf<T>,
+    p: &mut P,
+) -> PResult<T::Arg>
+    requires { G.ready g.now }
     ensures { GivesAs (T.arg_of)
-        (exprs.spread_element (rules.expr g.now.depth) (rules.cover g.now.depth) (P.seen p.old))
-        result (P.seen p.new) }
+        (exprs.spread_element (rules.expr (G.depth g.now)) (rules.cover (G.depth g.now))
+        (P.seen p.old)) result (P.seen p.new) }
 {
     let dots = p.span();
     p.skip()?;
@@ -124,19 +111,15 @@ fn spread_element<
 /// An argument or element that is not spread.
 #[tactic(auto, unfolding(swc_ecma_parser_reader::specs::Expressions::plain_element))]
 #[inline(never)]
-fn plain_element<
-    P: Cursor,
-    T: BuildsCall,
-    S: Fn(&MakerOf<T>, &mut P, usize, Position) -> PResult<T::Stmt>,
-    E: Fn(&MakerOf<T>, &mut P, usize, Reading) -> PResult<Cover<T::Expr>>,
-    N: Fn(&MakerOf<T>, &mut P, usize, Part) -> PResult<T::Pat>,
->(g: &Grammar<S, E, N>, t: &MakerOf<T>, p: &mut P) -> PResult<T::Arg>
-    requires { Nests P.seen T.expr_of T.pat_of T.stmt_of g.now.depth
-        (S.pre g.now.stmt) (S.post g.now.stmt) (E.pre g.now.expr) (E.post g.now.expr)
-        (N.pre g.now.pat) (N.post g.now.pat) }
+fn plain_element<P: Cursor, T: BuildsCall, G: Readers<P, T>>(
+    g: &G,
+    t: &MakerOf<T>,
+    p: &mut P,
+) -> PResult<T::Arg>
+    requires { G.ready g.now }
     ensures { GivesAs (T.arg_of)
-        (exprs.plain_element (rules.expr g.now.depth) (rules.cover g.now.depth) (P.seen p.old))
-        result (P.seen p.new) }
+        (exprs.plain_element (rules.expr (G.depth g.now)) (rules.cover (G.depth g.now))
+        (P.seen p.old)) result (P.seen p.new) }
 {
     let expr = inside(g, t, p, Class::Assignment)?;
     grown(p, T::element(t.alloc, None, expr))
@@ -144,19 +127,15 @@ fn plain_element<
 
 /// An argument or an element.
 #[tactic(auto, unfolding(swc_ecma_parser_reader::specs::Expressions::element))]
-fn element<
-    P: Cursor,
-    T: BuildsCall,
-    S: Fn(&MakerOf<T>, &mut P, usize, Position) -> PResult<T::Stmt>,
-    E: Fn(&MakerOf<T>, &mut P, usize, Reading) -> PResult<Cover<T::Expr>>,
-    N: Fn(&MakerOf<T>, &mut P, usize, Part) -> PResult<T::Pat>,
->(g: &Grammar<S, E, N>, t: &MakerOf<T>, p: &mut P) -> PResult<T::Arg>
-    requires { Nests P.seen T.expr_of T.pat_of T.stmt_of g.now.depth
-        (S.pre g.now.stmt) (S.post g.now.stmt) (E.pre g.now.expr) (E.post g.now.expr)
-        (N.pre g.now.pat) (N.post g.now.pat) }
+fn element<P: Cursor, T: BuildsCall, G: Readers<P, T>>(
+    g: &G,
+    t: &MakerOf<T>,
+    p: &mut P,
+) -> PResult<T::Arg>
+    requires { G.ready g.now }
     ensures { GivesAs (T.arg_of)
-        (exprs.element (rules.expr g.now.depth) (rules.cover g.now.depth) (P.seen p.old)) result
-        (P.seen p.new) }
+        (exprs.element (rules.expr (G.depth g.now)) (rules.cover (G.depth g.now)) (P.seen p.old))
+        result (P.seen p.new) }
 {
     if p.sees(TokenKind::DotDotDot) {
         return spread_element(g, t, p);
@@ -174,19 +153,16 @@ fn ends_behind_comma<P: Cursor>(p: &P, commas: bool) -> bool
 /// Arguments, from `(` on. A comma may stand behind the last one, or is recorded there.
 #[tactic(auto, unfolding(swc_ecma_parser_reader::specs::Expressions::arguments), using(swc_ecma_parser_reader::proofs::expressions::Loops::arguments_done, swc_ecma_parser_reader::proofs::expressions::Loops::arguments_err, swc_ecma_parser_reader::proofs::expressions::Loops::arguments_last, swc_ecma_parser_reader::proofs::expressions::Loops::arguments_more, swc_ecma_parser_reader::proofs::expressions::Loops::arguments_noted, swc_ecma_parser_reader::proofs::expressions::Loops::arguments_note_err, swc_ecma_parser_reader::proofs::expressions::Loops::arguments_comma_err, swc_ecma_parser_reader::proofs::expressions::Loops::element_shorter, swc_ecma_parser_reader::proofs::expressions::Loops::arguments_shorter, swc_ecma_parser_reader::proofs::expressions::Loops::arguments_noted_shorter, std::proofs::lemmas::List::map_push))]
 #[inline(never)]
-pub(crate) fn arguments<
-    P: Cursor,
-    T: BuildsCall,
-    S: Fn(&MakerOf<T>, &mut P, usize, Position) -> PResult<T::Stmt>,
-    E: Fn(&MakerOf<T>, &mut P, usize, Reading) -> PResult<Cover<T::Expr>>,
-    N: Fn(&MakerOf<T>, &mut P, usize, Part) -> PResult<T::Pat>,
->(g: &Grammar<S, E, N>, t: &MakerOf<T>, p: &mut P, commas: bool) -> PResult<Vec<T::Arg>>
-    requires { Nests P.seen T.expr_of T.pat_of T.stmt_of g.now.depth
-        (S.pre g.now.stmt) (S.post g.now.stmt) (E.pre g.now.expr) (E.post g.now.expr)
-        (N.pre g.now.pat) (N.post g.now.pat) }
+pub(crate) fn arguments<P: Cursor, T: BuildsCall, G: Readers<P, T>>(
+    g: &G,
+    t: &MakerOf<T>,
+    p: &mut P,
+    commas: bool,
+) -> PResult<Vec<T::Arg>>
+    requires { G.ready g.now }
     ensures { GivesAs (λ found. map T.arg_of found.items)
-        (exprs.arguments (rules.expr g.now.depth) (rules.cover g.now.depth) commas (P.seen p.old))
-        result (P.seen p.new) }
+        (exprs.arguments (rules.expr (G.depth g.now)) (rules.cover (G.depth g.now)) commas
+        (P.seen p.old)) result (P.seen p.new) }
 {
     p.skip()?;
     let mut found = Vec::new(t.alloc);

@@ -2,7 +2,6 @@
 
 ghost use Rattle.std.specs.Prelude.{◌≡◌, ◌&&◌, IfOk};
 ghost use Rattle.swc_ecma_parser_grammar.specs.Looks.{sees};
-ghost use Rattle.swc_ecma_parser_shared.specs.Nests.{Nests};
 ghost use Rattle.swc_ecma_parser_left_sides.specs.Accesses.{property_of};
 ghost use Rattle.swc_ecma_parser_model.specs.Tree as tree;
 ghost use Rattle.swc_ecma_parser_reader.specs.Expressions as exprs;
@@ -18,13 +17,13 @@ use swc_ecma_parser_common::Span;
 use swc_ecma_parser_cursor::{Cursor, Literal, Wanted};
 use swc_ecma_parser_error::{PResult, SyntaxError};
 use swc_ecma_parser_functions::function::function_expr;
-use swc_ecma_parser_grammar::{Class, Position};
+use swc_ecma_parser_grammar::Class;
 use swc_ecma_parser_literals::array::array;
 use swc_ecma_parser_literals::object::object;
 use swc_ecma_parser_model::MetaPropKind;
-use swc_ecma_parser_shared::cover::{Cover, Reading, close, inside, nested};
-use swc_ecma_parser_shared::grammar::{Grammar, Part};
+use swc_ecma_parser_shared::cover::{Reading, close, inside, nested};
 use swc_ecma_parser_shared::keys::word_property;
+use swc_ecma_parser_shared::readers::Readers;
 use swc_ecma_parser_shared::steps::{grown, since};
 use swc_ecma_parser_token::TokenKind;
 use swc_ecma_parser_trees::{
@@ -110,19 +109,15 @@ fn member<T: BuildsCall>(
 /// An expression in parentheses. `()` is none, and what stands behind it is refused.
 #[tactic(auto, unfolding(swc_ecma_parser_reader::specs::Expressions::paren, swc_ecma_parser_reader::specs::Expressions::empty_paren, swc_ecma_parser_reader::specs::Expressions::filled_paren))]
 #[inline(never)]
-fn paren<
-    P: Cursor,
-    T: BuildsExpr,
-    S: Fn(&MakerOf<T>, &mut P, usize, Position) -> PResult<T::Stmt>,
-    E: Fn(&MakerOf<T>, &mut P, usize, Reading) -> PResult<Cover<T::Expr>>,
-    N: Fn(&MakerOf<T>, &mut P, usize, Part) -> PResult<T::Pat>,
->(g: &Grammar<S, E, N>, t: &MakerOf<T>, p: &mut P) -> PResult<T::Expr>
-    requires { Nests P.seen T.expr_of T.pat_of T.stmt_of g.now.depth
-        (S.pre g.now.stmt) (S.post g.now.stmt) (E.pre g.now.expr) (E.post g.now.expr)
-        (N.pre g.now.pat) (N.post g.now.pat) }
+fn paren<P: Cursor, T: BuildsExpr, G: Readers<P, T>>(
+    g: &G,
+    t: &MakerOf<T>,
+    p: &mut P,
+) -> PResult<T::Expr>
+    requires { G.ready g.now }
     ensures { GivesAs (T.expr_of)
-        (exprs.paren (rules.expr g.now.depth) (rules.cover g.now.depth) (P.seen p.old)) result
-        (P.seen p.new) }
+        (exprs.paren (rules.expr (G.depth g.now)) (rules.cover (G.depth g.now)) (P.seen p.old))
+        result (P.seen p.new) }
 {
     let start = p.span();
     p.skip()?;
@@ -138,20 +133,16 @@ fn paren<
 
 /// A class that is an expression, which the reader of expressions reads one level further in.
 #[inline(never)]
-fn class_expr<
-    P: Cursor,
-    T: Trees,
-    S: Fn(&MakerOf<T>, &mut P, usize, Position) -> PResult<T::Stmt>,
-    E: Fn(&MakerOf<T>, &mut P, usize, Reading) -> PResult<Cover<T::Expr>>,
-    N: Fn(&MakerOf<T>, &mut P, usize, Part) -> PResult<T::Pat>,
->(g: &Grammar<S, E, N>, t: &MakerOf<T>, p: &mut P) -> PResult<T::Expr>
-    requires { Nests P.seen T.expr_of T.pat_of T.stmt_of g.now.depth
-        (S.pre g.now.stmt) (S.post g.now.stmt) (E.pre g.now.expr) (E.post g.now.expr)
-        (N.pre g.now.pat) (N.post g.now.pat) }
-    ensures { GivesAs T.expr_of (rules.function g.now.depth class_form (P.seen p.old)) result
+fn class_expr<P: Cursor, T: Trees, G: Readers<P, T>>(
+    g: &G,
+    t: &MakerOf<T>,
+    p: &mut P,
+) -> PResult<T::Expr>
+    requires { G.ready g.now }
+    ensures { GivesAs T.expr_of (rules.function (G.depth g.now) class_form (P.seen p.old)) result
         (P.seen p.new) }
 {
-    let found = (g.expr)(t, p, g.depth, Reading::Class)?;
+    let found = g.expr(t, p, Reading::Class)?;
     Ok(found.tree)
 }
 
@@ -161,16 +152,12 @@ fn class_expr<
 fn marked_primary<
     P: Cursor,
     T: BuildsExpr + BuildsCall + BuildsMethod + BuildsOperator + BuildsPattern,
-    S: Fn(&MakerOf<T>, &mut P, usize, Position) -> PResult<T::Stmt>,
-    E: Fn(&MakerOf<T>, &mut P, usize, Reading) -> PResult<Cover<T::Expr>>,
-    N: Fn(&MakerOf<T>, &mut P, usize, Part) -> PResult<T::Pat>,
->(g: &Grammar<S, E, N>, t: &MakerOf<T>, p: &mut P) -> PResult<T::Expr>
-    requires { Nests P.seen T.expr_of T.pat_of T.stmt_of g.now.depth
-        (S.pre g.now.stmt) (S.post g.now.stmt) (E.pre g.now.expr) (E.post g.now.expr)
-        (N.pre g.now.pat) (N.post g.now.pat) }
+    G: Readers<P, T>,
+>(g: &G, t: &MakerOf<T>, p: &mut P) -> PResult<T::Expr>
+    requires { G.ready g.now }
     ensures { GivesAs (T.expr_of)
-        (exprs.marked_primary (rules.expr g.now.depth) (rules.cover g.now.depth)
-        (rules.function g.now.depth) (P.seen p.old)) result (P.seen p.new) }
+        (exprs.marked_primary (rules.expr (G.depth g.now)) (rules.cover (G.depth g.now))
+        (rules.function (G.depth g.now)) (P.seen p.old)) result (P.seen p.new) }
 {
     if p.sees(TokenKind::LParen) {
         return paren(g, t, p);
@@ -201,16 +188,12 @@ fn marked_primary<
 fn primary<
     P: Cursor,
     T: BuildsExpr + BuildsCall + BuildsMethod + BuildsOperator + BuildsPattern,
-    S: Fn(&MakerOf<T>, &mut P, usize, Position) -> PResult<T::Stmt>,
-    E: Fn(&MakerOf<T>, &mut P, usize, Reading) -> PResult<Cover<T::Expr>>,
-    N: Fn(&MakerOf<T>, &mut P, usize, Part) -> PResult<T::Pat>,
->(g: &Grammar<S, E, N>, t: &MakerOf<T>, p: &mut P) -> PResult<T::Expr>
-    requires { Nests P.seen T.expr_of T.pat_of T.stmt_of g.now.depth
-        (S.pre g.now.stmt) (S.post g.now.stmt) (E.pre g.now.expr) (E.post g.now.expr)
-        (N.pre g.now.pat) (N.post g.now.pat) }
+    G: Readers<P, T>,
+>(g: &G, t: &MakerOf<T>, p: &mut P) -> PResult<T::Expr>
+    requires { G.ready g.now }
     ensures { GivesAs (T.expr_of)
-        (exprs.primary (rules.expr g.now.depth) (rules.cover g.now.depth)
-        (rules.function g.now.depth) (P.seen p.old)) result (P.seen p.new) }
+        (exprs.primary (rules.expr (G.depth g.now)) (rules.cover (G.depth g.now))
+        (rules.function (G.depth g.now)) (P.seen p.old)) result (P.seen p.new) }
 {
     if p.name_at() {
         if p.is_async_function() {
@@ -227,19 +210,17 @@ fn primary<
 /// An access of what was read from a place on.
 #[tactic(auto, unfolding(swc_ecma_parser_reader::specs::Expressions::accessed))]
 #[inline(never)]
-pub fn accessed<
-    P: Cursor,
-    T: BuildsCall,
-    S: Fn(&MakerOf<T>, &mut P, usize, Position) -> PResult<T::Stmt>,
-    E: Fn(&MakerOf<T>, &mut P, usize, Reading) -> PResult<Cover<T::Expr>>,
-    N: Fn(&MakerOf<T>, &mut P, usize, Part) -> PResult<T::Pat>,
->(g: &Grammar<S, E, N>, t: &MakerOf<T>, p: &mut P, start: Span, x: T::Expr) -> PResult<T::Expr>
-    requires { Nests P.seen T.expr_of T.pat_of T.stmt_of g.now.depth
-        (S.pre g.now.stmt) (S.post g.now.stmt) (E.pre g.now.expr) (E.post g.now.expr)
-        (N.pre g.now.pat) (N.post g.now.pat) }
+pub fn accessed<P: Cursor, T: BuildsCall, G: Readers<P, T>>(
+    g: &G,
+    t: &MakerOf<T>,
+    p: &mut P,
+    start: Span,
+    x: T::Expr,
+) -> PResult<T::Expr>
+    requires { G.ready g.now }
     ensures { GivesAs (T.expr_of)
-        (exprs.accessed (rules.expr g.now.depth) (rules.cover g.now.depth) start (T.expr_of x)
-        (P.seen p.old)) result (P.seen p.new) }
+        (exprs.accessed (rules.expr (G.depth g.now)) (rules.cover (G.depth g.now)) start
+        (T.expr_of x) (P.seen p.old)) result (P.seen p.new) }
 {
     let property = access(g, t, p)?;
     let span = since(p, start);
@@ -249,18 +230,16 @@ pub fn accessed<
 /// A call of what was read from a place on.
 #[tactic(auto, unfolding(swc_ecma_parser_reader::specs::Expressions::called))]
 #[inline(never)]
-pub fn called<
-    P: Cursor,
-    T: BuildsCall,
-    S: Fn(&MakerOf<T>, &mut P, usize, Position) -> PResult<T::Stmt>,
-    E: Fn(&MakerOf<T>, &mut P, usize, Reading) -> PResult<Cover<T::Expr>>,
-    N: Fn(&MakerOf<T>, &mut P, usize, Part) -> PResult<T::Pat>,
->(g: &Grammar<S, E, N>, t: &MakerOf<T>, p: &mut P, start: Span, x: T::Expr) -> PResult<T::Expr>
-    requires { Nests P.seen T.expr_of T.pat_of T.stmt_of g.now.depth
-        (S.pre g.now.stmt) (S.post g.now.stmt) (E.pre g.now.expr) (E.post g.now.expr)
-        (N.pre g.now.pat) (N.post g.now.pat) }
+pub fn called<P: Cursor, T: BuildsCall, G: Readers<P, T>>(
+    g: &G,
+    t: &MakerOf<T>,
+    p: &mut P,
+    start: Span,
+    x: T::Expr,
+) -> PResult<T::Expr>
+    requires { G.ready g.now }
     ensures { GivesAs (T.expr_of)
-        (exprs.called (rules.expr g.now.depth) (rules.cover g.now.depth) start (T.expr_of x)
+        (exprs.called (rules.expr (G.depth g.now)) (rules.cover (G.depth g.now)) start (T.expr_of x)
         (P.seen p.old)) result (P.seen p.new) }
 {
     let arguments = arguments(g, t, p, true)?;
@@ -277,25 +256,17 @@ fn begins_call<P: Cursor>(p: &P, calls: bool) -> bool
 
 /// What goes on with an expression that was read from a place on: accesses, and calls where they are read.
 #[tactic(auto, unfolding(swc_ecma_parser_reader::specs::Expressions::left_from), using(swc_ecma_parser_reader::proofs::expressions::Loops::left_done, swc_ecma_parser_reader::proofs::expressions::Loops::left_accessed, swc_ecma_parser_reader::proofs::expressions::Loops::left_access_err, swc_ecma_parser_reader::proofs::expressions::Loops::left_called, swc_ecma_parser_reader::proofs::expressions::Loops::left_call_err, swc_ecma_parser_reader::proofs::expressions::Loops::accessed_shorter, swc_ecma_parser_reader::proofs::expressions::Loops::called_shorter))]
-pub fn left_from<
-    P: Cursor,
-    T: BuildsCall,
-    S: Fn(&MakerOf<T>, &mut P, usize, Position) -> PResult<T::Stmt>,
-    E: Fn(&MakerOf<T>, &mut P, usize, Reading) -> PResult<Cover<T::Expr>>,
-    N: Fn(&MakerOf<T>, &mut P, usize, Part) -> PResult<T::Pat>,
->(
-    g: &Grammar<S, E, N>,
+pub fn left_from<P: Cursor, T: BuildsCall, G: Readers<P, T>>(
+    g: &G,
     t: &MakerOf<T>,
     p: &mut P,
     calls: bool,
     start: Span,
     x: T::Expr,
 ) -> PResult<T::Expr>
-    requires { Nests P.seen T.expr_of T.pat_of T.stmt_of g.now.depth
-        (S.pre g.now.stmt) (S.post g.now.stmt) (E.pre g.now.expr) (E.post g.now.expr)
-        (N.pre g.now.pat) (N.post g.now.pat) }
+    requires { G.ready g.now }
     ensures { GivesAs (T.expr_of)
-        (exprs.left_from (rules.expr g.now.depth) (rules.cover g.now.depth) calls start
+        (exprs.left_from (rules.expr (G.depth g.now)) (rules.cover (G.depth g.now)) calls start
         (T.expr_of x) (P.seen p.old)) result (P.seen p.new) }
 {
     let mut x = x;
@@ -313,19 +284,16 @@ pub fn left_from<
 /// A call of `super`, which stands at a place.
 #[tactic(auto, unfolding(swc_ecma_parser_reader::specs::Expressions::super_call))]
 #[inline(never)]
-fn super_call<
-    P: Cursor,
-    T: BuildsCall,
-    S: Fn(&MakerOf<T>, &mut P, usize, Position) -> PResult<T::Stmt>,
-    E: Fn(&MakerOf<T>, &mut P, usize, Reading) -> PResult<Cover<T::Expr>>,
-    N: Fn(&MakerOf<T>, &mut P, usize, Part) -> PResult<T::Pat>,
->(g: &Grammar<S, E, N>, t: &MakerOf<T>, p: &mut P, start: Span) -> PResult<T::Expr>
-    requires { Nests P.seen T.expr_of T.pat_of T.stmt_of g.now.depth
-        (S.pre g.now.stmt) (S.post g.now.stmt) (E.pre g.now.expr) (E.post g.now.expr)
-        (N.pre g.now.pat) (N.post g.now.pat) }
+fn super_call<P: Cursor, T: BuildsCall, G: Readers<P, T>>(
+    g: &G,
+    t: &MakerOf<T>,
+    p: &mut P,
+    start: Span,
+) -> PResult<T::Expr>
+    requires { G.ready g.now }
     ensures { GivesAs (T.expr_of)
-        (exprs.super_call (rules.expr g.now.depth) (rules.cover g.now.depth) start (P.seen p.old))
-        result (P.seen p.new) }
+        (exprs.super_call (rules.expr (G.depth g.now)) (rules.cover (G.depth g.now)) start
+        (P.seen p.old)) result (P.seen p.new) }
 {
     let arguments = arguments(g, t, p, true)?;
     let span = since(p, start);
@@ -335,19 +303,16 @@ fn super_call<
 /// An access of `super`, which stands at a place.
 #[tactic(auto, unfolding(swc_ecma_parser_reader::specs::Expressions::super_access, swc_ecma_parser_reader::specs::Expressions::super_property))]
 #[inline(never)]
-fn super_access<
-    P: Cursor,
-    T: BuildsCall,
-    S: Fn(&MakerOf<T>, &mut P, usize, Position) -> PResult<T::Stmt>,
-    E: Fn(&MakerOf<T>, &mut P, usize, Reading) -> PResult<Cover<T::Expr>>,
-    N: Fn(&MakerOf<T>, &mut P, usize, Part) -> PResult<T::Pat>,
->(g: &Grammar<S, E, N>, t: &MakerOf<T>, p: &mut P, start: Span) -> PResult<T::Expr>
-    requires { Nests P.seen T.expr_of T.pat_of T.stmt_of g.now.depth
-        (S.pre g.now.stmt) (S.post g.now.stmt) (E.pre g.now.expr) (E.post g.now.expr)
-        (N.pre g.now.pat) (N.post g.now.pat) }
+fn super_access<P: Cursor, T: BuildsCall, G: Readers<P, T>>(
+    g: &G,
+    t: &MakerOf<T>,
+    p: &mut P,
+    start: Span,
+) -> PResult<T::Expr>
+    requires { G.ready g.now }
     ensures { GivesAs (T.expr_of)
-        (exprs.super_access (rules.expr g.now.depth) (rules.cover g.now.depth) start (P.seen p.old))
-        result (P.seen p.new) }
+        (exprs.super_access (rules.expr (G.depth g.now)) (rules.cover (G.depth g.now)) start
+        (P.seen p.old)) result (P.seen p.new) }
 {
     if p.sees(TokenKind::Dot) {
         p.skip()?;
@@ -362,18 +327,16 @@ fn super_access<
 
 /// What stands behind `super`.
 #[tactic(auto, unfolding(swc_ecma_parser_reader::specs::Expressions::behind_super))]
-fn behind_super<
-    P: Cursor,
-    T: BuildsCall,
-    S: Fn(&MakerOf<T>, &mut P, usize, Position) -> PResult<T::Stmt>,
-    E: Fn(&MakerOf<T>, &mut P, usize, Reading) -> PResult<Cover<T::Expr>>,
-    N: Fn(&MakerOf<T>, &mut P, usize, Part) -> PResult<T::Pat>,
->(g: &Grammar<S, E, N>, t: &MakerOf<T>, p: &mut P, calls: bool, start: Span) -> PResult<T::Expr>
-    requires { Nests P.seen T.expr_of T.pat_of T.stmt_of g.now.depth
-        (S.pre g.now.stmt) (S.post g.now.stmt) (E.pre g.now.expr) (E.post g.now.expr)
-        (N.pre g.now.pat) (N.post g.now.pat) }
+fn behind_super<P: Cursor, T: BuildsCall, G: Readers<P, T>>(
+    g: &G,
+    t: &MakerOf<T>,
+    p: &mut P,
+    calls: bool,
+    start: Span,
+) -> PResult<T::Expr>
+    requires { G.ready g.now }
     ensures { GivesAs (T.expr_of)
-        (exprs.behind_super (rules.expr g.now.depth) (rules.cover g.now.depth) calls start
+        (exprs.behind_super (rules.expr (G.depth g.now)) (rules.cover (G.depth g.now)) calls start
         (P.seen p.old)) result (P.seen p.new) }
 {
     if begins_call(p, calls) {
@@ -388,19 +351,16 @@ fn behind_super<
 /// `super` and what it stands before.
 #[tactic(auto, unfolding(swc_ecma_parser_reader::specs::Expressions::super_head))]
 #[inline(never)]
-fn super_head<
-    P: Cursor,
-    T: BuildsCall,
-    S: Fn(&MakerOf<T>, &mut P, usize, Position) -> PResult<T::Stmt>,
-    E: Fn(&MakerOf<T>, &mut P, usize, Reading) -> PResult<Cover<T::Expr>>,
-    N: Fn(&MakerOf<T>, &mut P, usize, Part) -> PResult<T::Pat>,
->(g: &Grammar<S, E, N>, t: &MakerOf<T>, p: &mut P, calls: bool) -> PResult<T::Expr>
-    requires { Nests P.seen T.expr_of T.pat_of T.stmt_of g.now.depth
-        (S.pre g.now.stmt) (S.post g.now.stmt) (E.pre g.now.expr) (E.post g.now.expr)
-        (N.pre g.now.pat) (N.post g.now.pat) }
+fn super_head<P: Cursor, T: BuildsCall, G: Readers<P, T>>(
+    g: &G,
+    t: &MakerOf<T>,
+    p: &mut P,
+    calls: bool,
+) -> PResult<T::Expr>
+    requires { G.ready g.now }
     ensures { GivesAs (T.expr_of)
-        (exprs.super_head (rules.expr g.now.depth) (rules.cover g.now.depth) calls (P.seen p.old))
-        result (P.seen p.new) }
+        (exprs.super_head (rules.expr (G.depth g.now)) (rules.cover (G.depth g.now)) calls
+        (P.seen p.old)) result (P.seen p.new) }
 {
     let start = p.span();
     p.skip()?;
@@ -410,19 +370,17 @@ fn super_head<
 /// The arguments of `new`.
 #[tactic(auto, unfolding(swc_ecma_parser_reader::specs::Expressions::constructed))]
 #[inline(never)]
-fn constructed<
-    P: Cursor,
-    T: BuildsCall,
-    S: Fn(&MakerOf<T>, &mut P, usize, Position) -> PResult<T::Stmt>,
-    E: Fn(&MakerOf<T>, &mut P, usize, Reading) -> PResult<Cover<T::Expr>>,
-    N: Fn(&MakerOf<T>, &mut P, usize, Part) -> PResult<T::Pat>,
->(g: &Grammar<S, E, N>, t: &MakerOf<T>, p: &mut P, start: Span, x: T::Expr) -> PResult<T::Expr>
-    requires { Nests P.seen T.expr_of T.pat_of T.stmt_of g.now.depth
-        (S.pre g.now.stmt) (S.post g.now.stmt) (E.pre g.now.expr) (E.post g.now.expr)
-        (N.pre g.now.pat) (N.post g.now.pat) }
+fn constructed<P: Cursor, T: BuildsCall, G: Readers<P, T>>(
+    g: &G,
+    t: &MakerOf<T>,
+    p: &mut P,
+    start: Span,
+    x: T::Expr,
+) -> PResult<T::Expr>
+    requires { G.ready g.now }
     ensures { GivesAs (T.expr_of)
-        (exprs.constructed (rules.expr g.now.depth) (rules.cover g.now.depth) start (T.expr_of x)
-        (P.seen p.old)) result (P.seen p.new) }
+        (exprs.constructed (rules.expr (G.depth g.now)) (rules.cover (G.depth g.now)) start
+        (T.expr_of x) (P.seen p.old)) result (P.seen p.new) }
 {
     let arguments = arguments(g, t, p, true)?;
     let span = since(p, start);
@@ -448,19 +406,15 @@ fn bare_new<P: Cursor, T: BuildsCall>(
 /// `new`, what it calls, and the arguments, if there are any.
 #[tactic(auto, unfolding(swc_ecma_parser_reader::specs::Expressions::new_head))]
 #[inline(never)]
-fn new_head<
-    P: Cursor,
-    T: BuildsCall,
-    S: Fn(&MakerOf<T>, &mut P, usize, Position) -> PResult<T::Stmt>,
-    E: Fn(&MakerOf<T>, &mut P, usize, Reading) -> PResult<Cover<T::Expr>>,
-    N: Fn(&MakerOf<T>, &mut P, usize, Part) -> PResult<T::Pat>,
->(g: &Grammar<S, E, N>, t: &MakerOf<T>, p: &mut P) -> PResult<T::Expr>
-    requires { Nests P.seen T.expr_of T.pat_of T.stmt_of g.now.depth
-        (S.pre g.now.stmt) (S.post g.now.stmt) (E.pre g.now.expr) (E.post g.now.expr)
-        (N.pre g.now.pat) (N.post g.now.pat) }
+fn new_head<P: Cursor, T: BuildsCall, G: Readers<P, T>>(
+    g: &G,
+    t: &MakerOf<T>,
+    p: &mut P,
+) -> PResult<T::Expr>
+    requires { G.ready g.now }
     ensures { GivesAs (T.expr_of)
-        (exprs.new_head (rules.expr g.now.depth) (rules.cover g.now.depth) (P.seen p.old)) result
-        (P.seen p.new) }
+        (exprs.new_head (rules.expr (G.depth g.now)) (rules.cover (G.depth g.now)) (P.seen p.old))
+        result (P.seen p.new) }
 {
     let start = p.span();
     p.skip()?;
@@ -474,19 +428,16 @@ fn new_head<
 /// The arguments of `import`, which stands at a place.
 #[tactic(auto, unfolding(swc_ecma_parser_reader::specs::Expressions::import_call))]
 #[inline(never)]
-fn import_call<
-    P: Cursor,
-    T: BuildsCall,
-    S: Fn(&MakerOf<T>, &mut P, usize, Position) -> PResult<T::Stmt>,
-    E: Fn(&MakerOf<T>, &mut P, usize, Reading) -> PResult<Cover<T::Expr>>,
-    N: Fn(&MakerOf<T>, &mut P, usize, Part) -> PResult<T::Pat>,
->(g: &Grammar<S, E, N>, t: &MakerOf<T>, p: &mut P, start: Span) -> PResult<T::Expr>
-    requires { Nests P.seen T.expr_of T.pat_of T.stmt_of g.now.depth
-        (S.pre g.now.stmt) (S.post g.now.stmt) (E.pre g.now.expr) (E.post g.now.expr)
-        (N.pre g.now.pat) (N.post g.now.pat) }
+fn import_call<P: Cursor, T: BuildsCall, G: Readers<P, T>>(
+    g: &G,
+    t: &MakerOf<T>,
+    p: &mut P,
+    start: Span,
+) -> PResult<T::Expr>
+    requires { G.ready g.now }
     ensures { GivesAs (T.expr_of)
-        (exprs.import_call (rules.expr g.now.depth) (rules.cover g.now.depth) start (P.seen p.old))
-        result (P.seen p.new) }
+        (exprs.import_call (rules.expr (G.depth g.now)) (rules.cover (G.depth g.now)) start
+        (P.seen p.old)) result (P.seen p.new) }
 {
     let commas = p.import_attributes();
     let arguments = arguments(g, t, p, commas)?;
@@ -497,19 +448,15 @@ fn import_call<
 /// `import` and its arguments, or `import.meta`.
 #[tactic(auto, unfolding(swc_ecma_parser_reader::specs::Expressions::import_head))]
 #[inline(never)]
-fn import_head<
-    P: Cursor,
-    T: BuildsCall + BuildsOperator,
-    S: Fn(&MakerOf<T>, &mut P, usize, Position) -> PResult<T::Stmt>,
-    E: Fn(&MakerOf<T>, &mut P, usize, Reading) -> PResult<Cover<T::Expr>>,
-    N: Fn(&MakerOf<T>, &mut P, usize, Part) -> PResult<T::Pat>,
->(g: &Grammar<S, E, N>, t: &MakerOf<T>, p: &mut P) -> PResult<T::Expr>
-    requires { Nests P.seen T.expr_of T.pat_of T.stmt_of g.now.depth
-        (S.pre g.now.stmt) (S.post g.now.stmt) (E.pre g.now.expr) (E.post g.now.expr)
-        (N.pre g.now.pat) (N.post g.now.pat) }
+fn import_head<P: Cursor, T: BuildsCall + BuildsOperator, G: Readers<P, T>>(
+    g: &G,
+    t: &MakerOf<T>,
+    p: &mut P,
+) -> PResult<T::Expr>
+    requires { G.ready g.now }
     ensures { GivesAs (T.expr_of)
-        (exprs.import_head (rules.expr g.now.depth) (rules.cover g.now.depth) (P.seen p.old)) result
-        (P.seen p.new) }
+        (exprs.import_head (rules.expr (G.depth g.now)) (rules.cover (G.depth g.now))
+        (P.seen p.old)) result (P.seen p.new) }
 {
     let start = p.span();
     p.skip()?;
@@ -536,16 +483,12 @@ fn begins_import<P: Cursor>(p: &P, calls: bool) -> bool
 fn left_head<
     P: Cursor,
     T: BuildsExpr + BuildsCall + BuildsMethod + BuildsOperator + BuildsPattern,
-    S: Fn(&MakerOf<T>, &mut P, usize, Position) -> PResult<T::Stmt>,
-    E: Fn(&MakerOf<T>, &mut P, usize, Reading) -> PResult<Cover<T::Expr>>,
-    N: Fn(&MakerOf<T>, &mut P, usize, Part) -> PResult<T::Pat>,
->(g: &Grammar<S, E, N>, t: &MakerOf<T>, p: &mut P, calls: bool) -> PResult<T::Expr>
-    requires { Nests P.seen T.expr_of T.pat_of T.stmt_of g.now.depth
-        (S.pre g.now.stmt) (S.post g.now.stmt) (E.pre g.now.expr) (E.post g.now.expr)
-        (N.pre g.now.pat) (N.post g.now.pat) }
+    G: Readers<P, T>,
+>(g: &G, t: &MakerOf<T>, p: &mut P, calls: bool) -> PResult<T::Expr>
+    requires { G.ready g.now }
     ensures { GivesAs (T.expr_of)
-        (exprs.left_head (rules.expr g.now.depth) (rules.cover g.now.depth)
-        (rules.function g.now.depth) calls (P.seen p.old)) result (P.seen p.new) }
+        (exprs.left_head (rules.expr (G.depth g.now)) (rules.cover (G.depth g.now))
+        (rules.function (G.depth g.now)) calls (P.seen p.old)) result (P.seen p.new) }
 {
     if p.sees(TokenKind::Super) {
         return super_head(g, t, p, calls);
@@ -564,16 +507,12 @@ fn left_head<
 pub fn left<
     P: Cursor,
     T: BuildsExpr + BuildsCall + BuildsMethod + BuildsOperator + BuildsPattern,
-    S: Fn(&MakerOf<T>, &mut P, usize, Position) -> PResult<T::Stmt>,
-    E: Fn(&MakerOf<T>, &mut P, usize, Reading) -> PResult<Cover<T::Expr>>,
-    N: Fn(&MakerOf<T>, &mut P, usize, Part) -> PResult<T::Pat>,
->(g: &Grammar<S, E, N>, t: &MakerOf<T>, p: &mut P, calls: bool) -> PResult<T::Expr>
-    requires { Nests P.seen T.expr_of T.pat_of T.stmt_of g.now.depth
-        (S.pre g.now.stmt) (S.post g.now.stmt) (E.pre g.now.expr) (E.post g.now.expr)
-        (N.pre g.now.pat) (N.post g.now.pat) }
+    G: Readers<P, T>,
+>(g: &G, t: &MakerOf<T>, p: &mut P, calls: bool) -> PResult<T::Expr>
+    requires { G.ready g.now }
     ensures { GivesAs (T.expr_of)
-        (exprs.left (rules.expr g.now.depth) (rules.cover g.now.depth) (rules.function g.now.depth)
-        calls (P.seen p.old)) result (P.seen p.new) }
+        (exprs.left (rules.expr (G.depth g.now)) (rules.cover (G.depth g.now))
+        (rules.function (G.depth g.now)) calls (P.seen p.old)) result (P.seen p.new) }
 {
     let start = p.span();
     let x = left_head(g, t, p, calls)?;
@@ -585,16 +524,12 @@ pub fn left<
 pub fn left_expr<
     P: Cursor,
     T: BuildsExpr + BuildsCall + BuildsMethod + BuildsOperator + BuildsPattern,
-    S: Fn(&MakerOf<T>, &mut P, usize, Position) -> PResult<T::Stmt>,
-    E: Fn(&MakerOf<T>, &mut P, usize, Reading) -> PResult<Cover<T::Expr>>,
-    N: Fn(&MakerOf<T>, &mut P, usize, Part) -> PResult<T::Pat>,
->(g: &Grammar<S, E, N>, t: &MakerOf<T>, p: &mut P) -> PResult<T::Expr>
-    requires { Nests P.seen T.expr_of T.pat_of T.stmt_of g.now.depth
-        (S.pre g.now.stmt) (S.post g.now.stmt) (E.pre g.now.expr) (E.post g.now.expr)
-        (N.pre g.now.pat) (N.post g.now.pat) }
+    G: Readers<P, T>,
+>(g: &G, t: &MakerOf<T>, p: &mut P) -> PResult<T::Expr>
+    requires { G.ready g.now }
     ensures { GivesAs (T.expr_of)
-        (exprs.left_expr (rules.expr g.now.depth) (rules.cover g.now.depth)
-        (rules.function g.now.depth) (P.seen p.old)) result (P.seen p.new) }
+        (exprs.left_expr (rules.expr (G.depth g.now)) (rules.cover (G.depth g.now))
+        (rules.function (G.depth g.now)) (P.seen p.old)) result (P.seen p.new) }
 {
     let x = left(g, t, p, true)?;
     if p.continues_left_side() {

@@ -2,7 +2,6 @@
 
 ghost use Rattle.std.specs.Prelude.{◌≡◌, true, IfOk};
 ghost use Rattle.swc_ecma_parser_shared.specs.Covers.{cover_of, covers_of};
-ghost use Rattle.swc_ecma_parser_shared.specs.Nests.{Nests};
 ghost use Rattle.swc_ecma_parser_reader.specs.Expressions as exprs;
 ghost use Rattle.swc_ecma_parser_reader.specs.Expressions.{is_literal};
 ghost use Rattle.swc_ecma_parser_reader.specs.Reader as rules;
@@ -11,9 +10,8 @@ ghost use Rattle.swc_ecma_parser_trees.specs.Parts.{part_of};
 
 use swc_ecma_parser_cursor::Cursor;
 use swc_ecma_parser_error::PResult;
-use swc_ecma_parser_grammar::Position;
-use swc_ecma_parser_shared::cover::{Cover, Covers, Reading, behind_comma, covered, done, joined};
-use swc_ecma_parser_shared::grammar::{Grammar, Part};
+use swc_ecma_parser_shared::cover::{Cover, Covers, behind_comma, covered, done, joined};
+use swc_ecma_parser_shared::readers::Readers;
 use swc_ecma_parser_shared::steps::{grown, since};
 use swc_ecma_parser_token::TokenKind;
 use swc_ecma_parser_trees::{BuildsCall, MakerOf};
@@ -21,19 +19,15 @@ use swc_ecma_parser_trees::{BuildsCall, MakerOf};
 /// A spread element, with the place of its dots.
 #[tactic(auto, unfolding(swc_ecma_parser_reader::specs::Expressions::spread_item))]
 #[inline(never)]
-fn spread_item<
-    P: Cursor,
-    T: BuildsCall,
-    S: Fn(&MakerOf<T>, &mut P, usize, Position) -> PResult<T::Stmt>,
-    E: Fn(&MakerOf<T>, &mut P, usize, Reading) -> PResult<Cover<T::Expr>>,
-    N: Fn(&MakerOf<T>, &mut P, usize, Part) -> PResult<T::Pat>,
->(g: &Grammar<S, E, N>, t: &MakerOf<T>, p: &mut P) -> PResult<Cover<Option<T::Arg>>>
-    requires { Nests P.seen T.expr_of T.pat_of T.stmt_of g.now.depth
-        (S.pre g.now.stmt) (S.post g.now.stmt) (E.pre g.now.expr) (E.post g.now.expr)
-        (N.pre g.now.pat) (N.post g.now.pat) }
+fn spread_item<P: Cursor, T: BuildsCall, G: Readers<P, T>>(
+    g: &G,
+    t: &MakerOf<T>,
+    p: &mut P,
+) -> PResult<Cover<Option<T::Arg>>>
+    requires { G.ready g.now }
     ensures { GivesAs (cover_of (part_of T.arg_of))
-        (exprs.spread_item (rules.expr g.now.depth) (rules.cover g.now.depth) (P.seen p.old)) result
-        (P.seen p.new) }
+        (exprs.spread_item (rules.expr (G.depth g.now)) (rules.cover (G.depth g.now))
+        (P.seen p.old)) result (P.seen p.new) }
 {
     let dots = p.span();
     p.skip()?;
@@ -48,19 +42,15 @@ fn spread_item<
 
 /// An element that is not spread.
 #[tactic(auto, unfolding(swc_ecma_parser_reader::specs::Expressions::plain_item))]
-fn plain_item<
-    P: Cursor,
-    T: BuildsCall,
-    S: Fn(&MakerOf<T>, &mut P, usize, Position) -> PResult<T::Stmt>,
-    E: Fn(&MakerOf<T>, &mut P, usize, Reading) -> PResult<Cover<T::Expr>>,
-    N: Fn(&MakerOf<T>, &mut P, usize, Part) -> PResult<T::Pat>,
->(g: &Grammar<S, E, N>, t: &MakerOf<T>, p: &mut P) -> PResult<Cover<Option<T::Arg>>>
-    requires { Nests P.seen T.expr_of T.pat_of T.stmt_of g.now.depth
-        (S.pre g.now.stmt) (S.post g.now.stmt) (E.pre g.now.expr) (E.post g.now.expr)
-        (N.pre g.now.pat) (N.post g.now.pat) }
+fn plain_item<P: Cursor, T: BuildsCall, G: Readers<P, T>>(
+    g: &G,
+    t: &MakerOf<T>,
+    p: &mut P,
+) -> PResult<Cover<Option<T::Arg>>>
+    requires { G.ready g.now }
     ensures { GivesAs (cover_of (part_of T.arg_of))
-        (exprs.plain_item (rules.expr g.now.depth) (rules.cover g.now.depth) (P.seen p.old)) result
-        (P.seen p.new) }
+        (exprs.plain_item (rules.expr (G.depth g.now)) (rules.cover (G.depth g.now)) (P.seen p.old))
+        result (P.seen p.new) }
 {
     let Cover { tree, mark, comma } = covered(g, t, p)?;
     let tree = grown(p, T::element(t.alloc, None, tree))?;
@@ -73,19 +63,15 @@ fn plain_item<
 
 /// An element.
 #[tactic(auto, unfolding(swc_ecma_parser_reader::specs::Expressions::item))]
-fn item<
-    P: Cursor,
-    T: BuildsCall,
-    S: Fn(&MakerOf<T>, &mut P, usize, Position) -> PResult<T::Stmt>,
-    E: Fn(&MakerOf<T>, &mut P, usize, Reading) -> PResult<Cover<T::Expr>>,
-    N: Fn(&MakerOf<T>, &mut P, usize, Part) -> PResult<T::Pat>,
->(g: &Grammar<S, E, N>, t: &MakerOf<T>, p: &mut P) -> PResult<Cover<Option<T::Arg>>>
-    requires { Nests P.seen T.expr_of T.pat_of T.stmt_of g.now.depth
-        (S.pre g.now.stmt) (S.post g.now.stmt) (E.pre g.now.expr) (E.post g.now.expr)
-        (N.pre g.now.pat) (N.post g.now.pat) }
+fn item<P: Cursor, T: BuildsCall, G: Readers<P, T>>(
+    g: &G,
+    t: &MakerOf<T>,
+    p: &mut P,
+) -> PResult<Cover<Option<T::Arg>>>
+    requires { G.ready g.now }
     ensures { GivesAs (cover_of (part_of T.arg_of))
-        (exprs.item (rules.expr g.now.depth) (rules.cover g.now.depth) (P.seen p.old)) result
-        (P.seen p.new) }
+        (exprs.item (rules.expr (G.depth g.now)) (rules.cover (G.depth g.now)) (P.seen p.old))
+        result (P.seen p.new) }
 {
     if p.sees(TokenKind::DotDotDot) {
         return spread_item(g, t, p);
@@ -95,19 +81,15 @@ fn item<
 
 /// Elements, from `[` on. A comma with nothing before it makes a hole.
 #[tactic(auto, unfolding(swc_ecma_parser_reader::specs::Expressions::elements), using(swc_ecma_parser_reader::proofs::expressions::Loops::elements_done, swc_ecma_parser_reader::proofs::expressions::Loops::elements_hole, swc_ecma_parser_reader::proofs::expressions::Loops::elements_err, swc_ecma_parser_reader::proofs::expressions::Loops::elements_last, swc_ecma_parser_reader::proofs::expressions::Loops::elements_more, swc_ecma_parser_reader::proofs::expressions::Loops::elements_comma_err, swc_ecma_parser_reader::proofs::expressions::Loops::hole_shorter, swc_ecma_parser_reader::proofs::expressions::Loops::item_shorter, swc_ecma_parser_reader::proofs::expressions::Loops::items_shorter))]
-fn elements<
-    P: Cursor,
-    T: BuildsCall,
-    S: Fn(&MakerOf<T>, &mut P, usize, Position) -> PResult<T::Stmt>,
-    E: Fn(&MakerOf<T>, &mut P, usize, Reading) -> PResult<Cover<T::Expr>>,
-    N: Fn(&MakerOf<T>, &mut P, usize, Part) -> PResult<T::Pat>,
->(g: &Grammar<S, E, N>, t: &MakerOf<T>, p: &mut P) -> PResult<Covers<Option<T::Arg>>>
-    requires { Nests P.seen T.expr_of T.pat_of T.stmt_of g.now.depth
-        (S.pre g.now.stmt) (S.post g.now.stmt) (E.pre g.now.expr) (E.post g.now.expr)
-        (N.pre g.now.pat) (N.post g.now.pat) }
+fn elements<P: Cursor, T: BuildsCall, G: Readers<P, T>>(
+    g: &G,
+    t: &MakerOf<T>,
+    p: &mut P,
+) -> PResult<Covers<Option<T::Arg>>>
+    requires { G.ready g.now }
     ensures { GivesAs (covers_of (part_of T.arg_of))
-        (exprs.elements (rules.expr g.now.depth) (rules.cover g.now.depth) (P.seen p.old)) result
-        (P.seen p.new) }
+        (exprs.elements (rules.expr (G.depth g.now)) (rules.cover (G.depth g.now)) (P.seen p.old))
+        result (P.seen p.new) }
 {
     p.skip()?;
     let mut found = Covers {
@@ -138,19 +120,15 @@ fn elements<
 /// An array.
 #[tactic(auto, unfolding(swc_ecma_parser_reader::specs::Expressions::array))]
 #[inline(never)]
-pub fn array<
-    P: Cursor,
-    T: BuildsCall,
-    S: Fn(&MakerOf<T>, &mut P, usize, Position) -> PResult<T::Stmt>,
-    E: Fn(&MakerOf<T>, &mut P, usize, Reading) -> PResult<Cover<T::Expr>>,
-    N: Fn(&MakerOf<T>, &mut P, usize, Part) -> PResult<T::Pat>,
->(g: &Grammar<S, E, N>, t: &MakerOf<T>, p: &mut P) -> PResult<Cover<T::Expr>>
-    requires { Nests P.seen T.expr_of T.pat_of T.stmt_of g.now.depth
-        (S.pre g.now.stmt) (S.post g.now.stmt) (E.pre g.now.expr) (E.post g.now.expr)
-        (N.pre g.now.pat) (N.post g.now.pat) }
+pub fn array<P: Cursor, T: BuildsCall, G: Readers<P, T>>(
+    g: &G,
+    t: &MakerOf<T>,
+    p: &mut P,
+) -> PResult<Cover<T::Expr>>
+    requires { G.ready g.now }
     ensures gives { GivesAs (cover_of T.expr_of)
-        (exprs.array (rules.expr g.now.depth) (rules.cover g.now.depth) (P.seen p.old)) result
-        (P.seen p.new) }
+        (exprs.array (rules.expr (G.depth g.now)) (rules.cover (G.depth g.now)) (P.seen p.old))
+        result (P.seen p.new) }
     ensures literal { IfOk result (λ v. is_literal (T.expr_of v.tree) ≡ true) }
 {
     let start = p.span();

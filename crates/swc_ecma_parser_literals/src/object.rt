@@ -4,7 +4,6 @@ ghost use Rattle.std.specs.Prelude.{◌≡◌, true, IfOk};
 ghost use Rattle.swc_ecma_parser_functions.specs.Methods.{form_of};
 ghost use Rattle.swc_ecma_parser_shared.specs.Covers.{bare, cover_of, covers_of};
 ghost use Rattle.swc_ecma_parser_shared.specs.Keys.{key_of, word_of};
-ghost use Rattle.swc_ecma_parser_shared.specs.Nests.{Nests};
 ghost use Rattle.swc_ecma_parser_reader.specs.Expressions as exprs;
 ghost use Rattle.swc_ecma_parser_reader.specs.Expressions.{is_literal};
 ghost use Rattle.swc_ecma_parser_reader.specs.Reader as rules;
@@ -15,13 +14,13 @@ use swc_ecma_parser_common::Span;
 use swc_ecma_parser_cursor::{Cursor, Wanted, may_refer_to_await};
 use swc_ecma_parser_error::PResult;
 use swc_ecma_parser_functions::methods::{MethodForm, method, method_words};
-use swc_ecma_parser_grammar::{Class, Position};
+use swc_ecma_parser_grammar::Class;
 use swc_ecma_parser_model::Ident;
 use swc_ecma_parser_shared::cover::{
     Cover, Covers, Reading, behind_comma, close, covered, done, inside, joined, no_brace,
 };
-use swc_ecma_parser_shared::grammar::{Grammar, Part};
 use swc_ecma_parser_shared::keys::{Key, made_key, property_key};
+use swc_ecma_parser_shared::readers::Readers;
 use swc_ecma_parser_shared::steps::{as_name, grown, since};
 use swc_ecma_parser_token::TokenKind;
 use swc_ecma_parser_trees::{BuildsMethod, BuildsObject, BuildsPattern, MakerOf};
@@ -44,24 +43,16 @@ fn shorthand_name<P: Cursor, T: BuildsObject>(
 /// A key and its value, from `:` on.
 #[tactic(auto, unfolding(swc_ecma_parser_reader::specs::Expressions::key_value))]
 #[inline(never)]
-fn key_value<
-    P: Cursor,
-    T: BuildsObject,
-    S: Fn(&MakerOf<T>, &mut P, usize, Position) -> PResult<T::Stmt>,
-    E: Fn(&MakerOf<T>, &mut P, usize, Reading) -> PResult<Cover<T::Expr>>,
-    N: Fn(&MakerOf<T>, &mut P, usize, Part) -> PResult<T::Pat>,
->(
-    g: &Grammar<S, E, N>,
+fn key_value<P: Cursor, T: BuildsObject, G: Readers<P, T>>(
+    g: &G,
     t: &MakerOf<T>,
     p: &mut P,
     start: Span,
     key: Key<T::Expr>,
 ) -> PResult<Cover<T::Prop>>
-    requires { Nests P.seen T.expr_of T.pat_of T.stmt_of g.now.depth
-        (S.pre g.now.stmt) (S.post g.now.stmt) (E.pre g.now.expr) (E.post g.now.expr)
-        (N.pre g.now.pat) (N.post g.now.pat) }
+    requires { G.ready g.now }
     ensures { GivesAs (cover_of T.prop_of)
-        (exprs.key_value (rules.expr g.now.depth) (rules.cover g.now.depth) start
+        (exprs.key_value (rules.expr (G.depth g.now)) (rules.cover (G.depth g.now)) start
         (key_of T.expr_of key) (P.seen p.old)) result (P.seen p.new) }
 {
     p.skip()?;
@@ -74,25 +65,17 @@ fn key_value<
 
 /// A name and its default, from `=` on: a part that only a pattern has.
 #[tactic(auto, unfolding(swc_ecma_parser_reader::specs::Expressions::initialized))]
-fn initialized<
-    P: Cursor,
-    T: BuildsObject,
-    S: Fn(&MakerOf<T>, &mut P, usize, Position) -> PResult<T::Stmt>,
-    E: Fn(&MakerOf<T>, &mut P, usize, Reading) -> PResult<Cover<T::Expr>>,
-    N: Fn(&MakerOf<T>, &mut P, usize, Part) -> PResult<T::Pat>,
->(
-    g: &Grammar<S, E, N>,
+fn initialized<P: Cursor, T: BuildsObject, G: Readers<P, T>>(
+    g: &G,
     t: &MakerOf<T>,
     p: &mut P,
     start: Span,
     name: Ident,
 ) -> PResult<Cover<T::Prop>>
-    requires { Nests P.seen T.expr_of T.pat_of T.stmt_of g.now.depth
-        (S.pre g.now.stmt) (S.post g.now.stmt) (E.pre g.now.expr) (E.post g.now.expr)
-        (N.pre g.now.pat) (N.post g.now.pat) }
+    requires { G.ready g.now }
     ensures { GivesAs (cover_of T.prop_of)
-        (exprs.initialized (rules.expr g.now.depth) (rules.cover g.now.depth) start (word_of name)
-        (P.seen p.old)) result (P.seen p.new) }
+        (exprs.initialized (rules.expr (G.depth g.now)) (rules.cover (G.depth g.now)) start
+        (word_of name) (P.seen p.old)) result (P.seen p.new) }
 {
     p.skip()?;
     let value = inside(g, t, p, Class::Assignment)?;
@@ -107,25 +90,17 @@ fn initialized<
 
 /// The same where it is a name.
 #[tactic(auto, unfolding(swc_ecma_parser_reader::specs::Expressions::initialized_name, swc_ecma_parser_reader::specs::State::as_name))]
-fn initialized_name<
-    P: Cursor,
-    T: BuildsObject,
-    S: Fn(&MakerOf<T>, &mut P, usize, Position) -> PResult<T::Stmt>,
-    E: Fn(&MakerOf<T>, &mut P, usize, Reading) -> PResult<Cover<T::Expr>>,
-    N: Fn(&MakerOf<T>, &mut P, usize, Part) -> PResult<T::Pat>,
->(
-    g: &Grammar<S, E, N>,
+fn initialized_name<P: Cursor, T: BuildsObject, G: Readers<P, T>>(
+    g: &G,
     t: &MakerOf<T>,
     p: &mut P,
     start: Span,
     name: Ident,
 ) -> PResult<Cover<T::Prop>>
-    requires { Nests P.seen T.expr_of T.pat_of T.stmt_of g.now.depth
-        (S.pre g.now.stmt) (S.post g.now.stmt) (E.pre g.now.expr) (E.post g.now.expr)
-        (N.pre g.now.pat) (N.post g.now.pat) }
+    requires { G.ready g.now }
     ensures { GivesAs (cover_of T.prop_of)
-        (exprs.initialized_name (rules.expr g.now.depth) (rules.cover g.now.depth) start name.span
-        name.sym (P.seen p.old)) result (P.seen p.new) }
+        (exprs.initialized_name (rules.expr (G.depth g.now)) (rules.cover (G.depth g.now)) start
+        name.span name.sym (P.seen p.old)) result (P.seen p.new) }
 {
     let may_await = may_refer_to_await(p.flags());
     as_name(p, may_await, &name)?;
@@ -151,24 +126,16 @@ fn bare_key<P: Cursor, T: BuildsObject>(
 /// A key and its default, from `=` on, which only a name has.
 #[tactic(auto, using(crate::proofs::Refusals::wanted_cover))]
 #[inline(never)]
-fn initialized_key<
-    P: Cursor,
-    T: BuildsObject,
-    S: Fn(&MakerOf<T>, &mut P, usize, Position) -> PResult<T::Stmt>,
-    E: Fn(&MakerOf<T>, &mut P, usize, Reading) -> PResult<Cover<T::Expr>>,
-    N: Fn(&MakerOf<T>, &mut P, usize, Part) -> PResult<T::Pat>,
->(
-    g: &Grammar<S, E, N>,
+fn initialized_key<P: Cursor, T: BuildsObject, G: Readers<P, T>>(
+    g: &G,
     t: &MakerOf<T>,
     p: &mut P,
     start: Span,
     key: Key<T::Expr>,
 ) -> PResult<Cover<T::Prop>>
-    requires { Nests P.seen T.expr_of T.pat_of T.stmt_of g.now.depth
-        (S.pre g.now.stmt) (S.post g.now.stmt) (E.pre g.now.expr) (E.post g.now.expr)
-        (N.pre g.now.pat) (N.post g.now.pat) }
+    requires { G.ready g.now }
     ensures { GivesAs (cover_of T.prop_of)
-        (exprs.initialized_key (rules.expr g.now.depth) (rules.cover g.now.depth) start
+        (exprs.initialized_key (rules.expr (G.depth g.now)) (rules.cover (G.depth g.now)) start
         (key_of T.expr_of key) (P.seen p.old)) result (P.seen p.new) }
 {
     match key {
@@ -179,24 +146,16 @@ fn initialized_key<
 
 /// What stands behind a key.
 #[tactic(auto, unfolding(swc_ecma_parser_reader::specs::Expressions::behind_key, swc_ecma_parser_reader::specs::Expressions::bare_key))]
-fn behind_key<
-    P: Cursor,
-    T: BuildsObject,
-    S: Fn(&MakerOf<T>, &mut P, usize, Position) -> PResult<T::Stmt>,
-    E: Fn(&MakerOf<T>, &mut P, usize, Reading) -> PResult<Cover<T::Expr>>,
-    N: Fn(&MakerOf<T>, &mut P, usize, Part) -> PResult<T::Pat>,
->(
-    g: &Grammar<S, E, N>,
+fn behind_key<P: Cursor, T: BuildsObject, G: Readers<P, T>>(
+    g: &G,
     t: &MakerOf<T>,
     p: &mut P,
     start: Span,
     key: Key<T::Expr>,
 ) -> PResult<Cover<T::Prop>>
-    requires { Nests P.seen T.expr_of T.pat_of T.stmt_of g.now.depth
-        (S.pre g.now.stmt) (S.post g.now.stmt) (E.pre g.now.expr) (E.post g.now.expr)
-        (N.pre g.now.pat) (N.post g.now.pat) }
+    requires { G.ready g.now }
     ensures { GivesAs (cover_of T.prop_of)
-        (exprs.behind_key (rules.expr g.now.depth) (rules.cover g.now.depth) start
+        (exprs.behind_key (rules.expr (G.depth g.now)) (rules.cover (G.depth g.now)) start
         (key_of T.expr_of key) (P.seen p.old)) result (P.seen p.new) }
 {
     if p.sees(TokenKind::Colon) {
@@ -210,26 +169,18 @@ fn behind_key<
 
 /// What stands behind a key, where words of a method stand before it or not.
 #[tactic(auto, unfolding(swc_ecma_parser_reader::specs::Expressions::behind_words, swc_ecma_parser_reader::specs::Expressions::method))]
-fn behind_words<
-    P: Cursor,
-    T: BuildsMethod + BuildsPattern,
-    S: Fn(&MakerOf<T>, &mut P, usize, Position) -> PResult<T::Stmt>,
-    E: Fn(&MakerOf<T>, &mut P, usize, Reading) -> PResult<Cover<T::Expr>>,
-    N: Fn(&MakerOf<T>, &mut P, usize, Part) -> PResult<T::Pat>,
->(
-    g: &Grammar<S, E, N>,
+fn behind_words<P: Cursor, T: BuildsMethod + BuildsPattern, G: Readers<P, T>>(
+    g: &G,
     t: &MakerOf<T>,
     p: &mut P,
     form: MethodForm,
     start: Span,
     key: Key<T::Expr>,
 ) -> PResult<Cover<T::Prop>>
-    requires { Nests P.seen T.expr_of T.pat_of T.stmt_of g.now.depth
-        (S.pre g.now.stmt) (S.post g.now.stmt) (E.pre g.now.expr) (E.post g.now.expr)
-        (N.pre g.now.pat) (N.post g.now.pat) }
+    requires { G.ready g.now }
     ensures { GivesAs (cover_of T.prop_of)
-        (exprs.behind_words (rules.expr g.now.depth) (rules.cover g.now.depth)
-        (rules.function g.now.depth) (form_of form) start (key_of T.expr_of key) (P.seen p.old))
+        (exprs.behind_words (rules.expr (G.depth g.now)) (rules.cover (G.depth g.now))
+        (rules.function (G.depth g.now)) (form_of form) start (key_of T.expr_of key) (P.seen p.old))
         result (P.seen p.new) }
 {
     if form.is_bare() && !p.sees(TokenKind::LParen) {
@@ -240,19 +191,15 @@ fn behind_words<
 
 /// A property that begins with a key, or with the words of a method before it.
 #[tactic(auto, unfolding(swc_ecma_parser_reader::specs::Expressions::keyed_property))]
-fn keyed_property<
-    P: Cursor,
-    T: BuildsMethod + BuildsPattern,
-    S: Fn(&MakerOf<T>, &mut P, usize, Position) -> PResult<T::Stmt>,
-    E: Fn(&MakerOf<T>, &mut P, usize, Reading) -> PResult<Cover<T::Expr>>,
-    N: Fn(&MakerOf<T>, &mut P, usize, Part) -> PResult<T::Pat>,
->(g: &Grammar<S, E, N>, t: &MakerOf<T>, p: &mut P) -> PResult<Cover<T::Prop>>
-    requires { Nests P.seen T.expr_of T.pat_of T.stmt_of g.now.depth
-        (S.pre g.now.stmt) (S.post g.now.stmt) (E.pre g.now.expr) (E.post g.now.expr)
-        (N.pre g.now.pat) (N.post g.now.pat) }
+fn keyed_property<P: Cursor, T: BuildsMethod + BuildsPattern, G: Readers<P, T>>(
+    g: &G,
+    t: &MakerOf<T>,
+    p: &mut P,
+) -> PResult<Cover<T::Prop>>
+    requires { G.ready g.now }
     ensures { GivesAs (cover_of T.prop_of)
-        (exprs.keyed_property (rules.expr g.now.depth) (rules.cover g.now.depth)
-        (rules.function g.now.depth) (P.seen p.old)) result (P.seen p.new) }
+        (exprs.keyed_property (rules.expr (G.depth g.now)) (rules.cover (G.depth g.now))
+        (rules.function (G.depth g.now)) (P.seen p.old)) result (P.seen p.new) }
 {
     let start = p.span();
     let form = method_words(p)?;
@@ -263,19 +210,15 @@ fn keyed_property<
 /// A spread property, with the place of its dots.
 #[tactic(auto, unfolding(swc_ecma_parser_reader::specs::Expressions::spread_property))]
 #[inline(never)]
-fn spread_property<
-    P: Cursor,
-    T: BuildsObject,
-    S: Fn(&MakerOf<T>, &mut P, usize, Position) -> PResult<T::Stmt>,
-    E: Fn(&MakerOf<T>, &mut P, usize, Reading) -> PResult<Cover<T::Expr>>,
-    N: Fn(&MakerOf<T>, &mut P, usize, Part) -> PResult<T::Pat>,
->(g: &Grammar<S, E, N>, t: &MakerOf<T>, p: &mut P) -> PResult<Cover<T::Prop>>
-    requires { Nests P.seen T.expr_of T.pat_of T.stmt_of g.now.depth
-        (S.pre g.now.stmt) (S.post g.now.stmt) (E.pre g.now.expr) (E.post g.now.expr)
-        (N.pre g.now.pat) (N.post g.now.pat) }
+fn spread_property<P: Cursor, T: BuildsObject, G: Readers<P, T>>(
+    g: &G,
+    t: &MakerOf<T>,
+    p: &mut P,
+) -> PResult<Cover<T::Prop>>
+    requires { G.ready g.now }
     ensures { GivesAs (cover_of T.prop_of)
-        (exprs.spread_property (rules.expr g.now.depth) (rules.cover g.now.depth) (P.seen p.old))
-        result (P.seen p.new) }
+        (exprs.spread_property (rules.expr (G.depth g.now)) (rules.cover (G.depth g.now))
+        (P.seen p.old)) result (P.seen p.new) }
 {
     let dots = p.span();
     p.skip()?;
@@ -286,19 +229,15 @@ fn spread_property<
 
 /// A property.
 #[tactic(auto, unfolding(swc_ecma_parser_reader::specs::Expressions::property))]
-fn property<
-    P: Cursor,
-    T: BuildsMethod + BuildsPattern,
-    S: Fn(&MakerOf<T>, &mut P, usize, Position) -> PResult<T::Stmt>,
-    E: Fn(&MakerOf<T>, &mut P, usize, Reading) -> PResult<Cover<T::Expr>>,
-    N: Fn(&MakerOf<T>, &mut P, usize, Part) -> PResult<T::Pat>,
->(g: &Grammar<S, E, N>, t: &MakerOf<T>, p: &mut P) -> PResult<Cover<T::Prop>>
-    requires { Nests P.seen T.expr_of T.pat_of T.stmt_of g.now.depth
-        (S.pre g.now.stmt) (S.post g.now.stmt) (E.pre g.now.expr) (E.post g.now.expr)
-        (N.pre g.now.pat) (N.post g.now.pat) }
+fn property<P: Cursor, T: BuildsMethod + BuildsPattern, G: Readers<P, T>>(
+    g: &G,
+    t: &MakerOf<T>,
+    p: &mut P,
+) -> PResult<Cover<T::Prop>>
+    requires { G.ready g.now }
     ensures { GivesAs (cover_of T.prop_of)
-        (exprs.property (rules.expr g.now.depth) (rules.cover g.now.depth)
-        (rules.function g.now.depth) (P.seen p.old)) result (P.seen p.new) }
+        (exprs.property (rules.expr (G.depth g.now)) (rules.cover (G.depth g.now))
+        (rules.function (G.depth g.now)) (P.seen p.old)) result (P.seen p.new) }
 {
     if p.sees(TokenKind::DotDotDot) {
         return spread_property(g, t, p);
@@ -308,19 +247,15 @@ fn property<
 
 /// Properties, from `{` on.
 #[tactic(auto, unfolding(swc_ecma_parser_reader::specs::Expressions::properties), using(swc_ecma_parser_reader::proofs::expressions::Loops::properties_done, swc_ecma_parser_reader::proofs::expressions::Loops::properties_err, swc_ecma_parser_reader::proofs::expressions::Loops::properties_last, swc_ecma_parser_reader::proofs::expressions::Loops::properties_more, swc_ecma_parser_reader::proofs::expressions::Loops::properties_comma_err, swc_ecma_parser_reader::proofs::expressions::Loops::property_shorter, swc_ecma_parser_reader::proofs::expressions::Loops::properties_shorter))]
-fn properties<
-    P: Cursor,
-    T: BuildsMethod + BuildsPattern,
-    S: Fn(&MakerOf<T>, &mut P, usize, Position) -> PResult<T::Stmt>,
-    E: Fn(&MakerOf<T>, &mut P, usize, Reading) -> PResult<Cover<T::Expr>>,
-    N: Fn(&MakerOf<T>, &mut P, usize, Part) -> PResult<T::Pat>,
->(g: &Grammar<S, E, N>, t: &MakerOf<T>, p: &mut P) -> PResult<Covers<T::Prop>>
-    requires { Nests P.seen T.expr_of T.pat_of T.stmt_of g.now.depth
-        (S.pre g.now.stmt) (S.post g.now.stmt) (E.pre g.now.expr) (E.post g.now.expr)
-        (N.pre g.now.pat) (N.post g.now.pat) }
+fn properties<P: Cursor, T: BuildsMethod + BuildsPattern, G: Readers<P, T>>(
+    g: &G,
+    t: &MakerOf<T>,
+    p: &mut P,
+) -> PResult<Covers<T::Prop>>
+    requires { G.ready g.now }
     ensures { GivesAs (covers_of T.prop_of)
-        (exprs.properties (rules.expr g.now.depth) (rules.cover g.now.depth)
-        (rules.function g.now.depth) (P.seen p.old)) result (P.seen p.new) }
+        (exprs.properties (rules.expr (G.depth g.now)) (rules.cover (G.depth g.now))
+        (rules.function (G.depth g.now)) (P.seen p.old)) result (P.seen p.new) }
 {
     p.skip()?;
     let mut found = Covers {
@@ -346,19 +281,15 @@ fn properties<
 /// An object.
 #[tactic(auto, unfolding(swc_ecma_parser_reader::specs::Expressions::object))]
 #[inline(never)]
-pub fn object<
-    P: Cursor,
-    T: BuildsMethod + BuildsPattern,
-    S: Fn(&MakerOf<T>, &mut P, usize, Position) -> PResult<T::Stmt>,
-    E: Fn(&MakerOf<T>, &mut P, usize, Reading) -> PResult<Cover<T::Expr>>,
-    N: Fn(&MakerOf<T>, &mut P, usize, Part) -> PResult<T::Pat>,
->(g: &Grammar<S, E, N>, t: &MakerOf<T>, p: &mut P) -> PResult<Cover<T::Expr>>
-    requires { Nests P.seen T.expr_of T.pat_of T.stmt_of g.now.depth
-        (S.pre g.now.stmt) (S.post g.now.stmt) (E.pre g.now.expr) (E.post g.now.expr)
-        (N.pre g.now.pat) (N.post g.now.pat) }
+pub fn object<P: Cursor, T: BuildsMethod + BuildsPattern, G: Readers<P, T>>(
+    g: &G,
+    t: &MakerOf<T>,
+    p: &mut P,
+) -> PResult<Cover<T::Expr>>
+    requires { G.ready g.now }
     ensures gives { GivesAs (cover_of T.expr_of)
-        (exprs.object (rules.expr g.now.depth) (rules.cover g.now.depth)
-        (rules.function g.now.depth) (P.seen p.old)) result (P.seen p.new) }
+        (exprs.object (rules.expr (G.depth g.now)) (rules.cover (G.depth g.now))
+        (rules.function (G.depth g.now)) (P.seen p.old)) result (P.seen p.new) }
     ensures literal { IfOk result (λ v. is_literal (T.expr_of v.tree) ≡ true) }
 {
     let start = p.span();
@@ -370,19 +301,15 @@ pub fn object<
 
 /// An object alone, whatever goes on behind it.
 #[tactic(auto, unfolding(swc_ecma_parser_reader::specs::Expressions::object_level))]
-pub fn object_level<
-    P: Cursor,
-    T: BuildsMethod + BuildsPattern,
-    S: Fn(&MakerOf<T>, &mut P, usize, Position) -> PResult<T::Stmt>,
-    E: Fn(&MakerOf<T>, &mut P, usize, Reading) -> PResult<Cover<T::Expr>>,
-    N: Fn(&MakerOf<T>, &mut P, usize, Part) -> PResult<T::Pat>,
->(g: &Grammar<S, E, N>, t: &MakerOf<T>, p: &mut P) -> PResult<T::Expr>
-    requires { Nests P.seen T.expr_of T.pat_of T.stmt_of g.now.depth
-        (S.pre g.now.stmt) (S.post g.now.stmt) (E.pre g.now.expr) (E.post g.now.expr)
-        (N.pre g.now.pat) (N.post g.now.pat) }
+pub fn object_level<P: Cursor, T: BuildsMethod + BuildsPattern, G: Readers<P, T>>(
+    g: &G,
+    t: &MakerOf<T>,
+    p: &mut P,
+) -> PResult<T::Expr>
+    requires { G.ready g.now }
     ensures { GivesAs T.expr_of
-        (exprs.object_level (rules.expr g.now.depth) (rules.cover g.now.depth)
-        (rules.function g.now.depth) (P.seen p.old)) result (P.seen p.new) }
+        (exprs.object_level (rules.expr (G.depth g.now)) (rules.cover (G.depth g.now))
+        (rules.function (G.depth g.now)) (P.seen p.old)) result (P.seen p.new) }
 {
     if !p.sees(TokenKind::LBrace) {
         return Err(no_brace(p));

@@ -3,7 +3,6 @@
 ghost use Rattle.std.specs.Prelude.{◌≡◌, Some};
 ghost use Rattle.swc_ecma_parser_grammar.specs.language.Goals.{expression};
 ghost use Rattle.swc_ecma_parser_grammar.specs.language.Items.{sub_statement};
-ghost use Rattle.swc_ecma_parser_shared.specs.Nests.{Nests};
 ghost use Rattle.swc_ecma_parser_loops.specs.Made as made;
 ghost use Rattle.swc_ecma_parser_loops.specs.Openings.{opening_of, left_of, IsBare};
 ghost use Rattle.swc_ecma_parser_reader.specs.Reader as rules;
@@ -15,27 +14,24 @@ use crate::while_do::looped;
 use swc_ecma_parser_common::Span;
 use swc_ecma_parser_cursor::Cursor;
 use swc_ecma_parser_error::{PResult, SyntaxError};
-use swc_ecma_parser_grammar::{Class, Position};
-use swc_ecma_parser_shared::cover::{Cover, Reading, inside};
-use swc_ecma_parser_shared::grammar::{Grammar, Part};
+use swc_ecma_parser_grammar::Class;
+use swc_ecma_parser_shared::cover::inside;
+use swc_ecma_parser_shared::readers::Readers;
 use swc_ecma_parser_shared::steps::{grown, since};
 use swc_ecma_parser_token::TokenKind;
 use swc_ecma_parser_trees::{BuildsFor, BuildsPattern, MakerOf, Trees};
 
 /// A further part of a head, if what stands behind it does not stand here.
 #[tactic(auto, unfolding(swc_ecma_parser_reader::specs::Reader::head_part, swc_ecma_parser_reader::specs::Expressions::inside))]
-fn head_part<
-    P: Cursor,
-    T: Trees,
-    S: Fn(&MakerOf<T>, &mut P, usize, Position) -> PResult<T::Stmt>,
-    E: Fn(&MakerOf<T>, &mut P, usize, Reading) -> PResult<Cover<T::Expr>>,
-    N: Fn(&MakerOf<T>, &mut P, usize, Part) -> PResult<T::Pat>,
->(g: &Grammar<S, E, N>, t: &MakerOf<T>, p: &mut P, behind: TokenKind) -> PResult<Option<T::Expr>>
-    requires { Nests P.seen T.expr_of T.pat_of T.stmt_of g.now.depth
-        (S.pre g.now.stmt) (S.post g.now.stmt) (E.pre g.now.expr) (E.post g.now.expr)
-        (N.pre g.now.pat) (N.post g.now.pat) }
+fn head_part<P: Cursor, T: Trees, G: Readers<P, T>>(
+    g: &G,
+    t: &MakerOf<T>,
+    p: &mut P,
+    behind: TokenKind,
+) -> PResult<Option<T::Expr>>
+    requires { G.ready g.now }
     ensures { GivesAs (part_of T.expr_of)
-        (rules.head_part behind (rules.expr g.now.depth expression) (P.seen p.old)) result
+        (rules.head_part behind (rules.expr (G.depth g.now) expression) (P.seen p.old)) result
         (P.seen p.new) }
 {
     if p.sees(behind) {
@@ -106,25 +102,17 @@ fn made_for_of<P: Cursor, T: BuildsPattern + BuildsFor>(
 /// A `for` of three parts, from behind the first.
 #[tactic(auto, unfolding(swc_ecma_parser_reader::specs::Reader::for_parts))]
 #[inline(never)]
-fn for_parts<
-    P: Cursor,
-    T: BuildsFor,
-    S: Fn(&MakerOf<T>, &mut P, usize, Position) -> PResult<T::Stmt>,
-    E: Fn(&MakerOf<T>, &mut P, usize, Reading) -> PResult<Cover<T::Expr>>,
-    N: Fn(&MakerOf<T>, &mut P, usize, Part) -> PResult<T::Pat>,
->(
-    g: &Grammar<S, E, N>,
+fn for_parts<P: Cursor, T: BuildsFor, G: Readers<P, T>>(
+    g: &G,
     t: &MakerOf<T>,
     p: &mut P,
     start: Span,
     first: Opening<T::Declarator, T::Expr, T::Pat>,
 ) -> PResult<T::Stmt>
-    requires { Nests P.seen T.expr_of T.pat_of T.stmt_of g.now.depth
-        (S.pre g.now.stmt) (S.post g.now.stmt) (E.pre g.now.expr) (E.post g.now.expr)
-        (N.pre g.now.pat) (N.post g.now.pat) }
+    requires { G.ready g.now }
     ensures { GivesAs T.stmt_of
-        (rules.for_parts (rules.stmt g.now.depth sub_statement) (rules.expr g.now.depth) start
-        (opening_of T.declarator_of T.expr_of T.pat_of first) (P.seen p.old)) result
+        (rules.for_parts (rules.stmt (G.depth g.now) sub_statement) (rules.expr (G.depth g.now))
+        start (opening_of T.declarator_of T.expr_of T.pat_of first) (P.seen p.old)) result
         (P.seen p.new) }
 {
     let init = as_init(t, p, first)?;
@@ -140,25 +128,17 @@ fn for_parts<
 /// A `for` with `in`, from there on.
 #[tactic(auto, unfolding(swc_ecma_parser_reader::specs::Reader::for_in, swc_ecma_parser_reader::specs::Expressions::inside))]
 #[inline(never)]
-fn for_in<
-    P: Cursor,
-    T: BuildsPattern + BuildsFor,
-    S: Fn(&MakerOf<T>, &mut P, usize, Position) -> PResult<T::Stmt>,
-    E: Fn(&MakerOf<T>, &mut P, usize, Reading) -> PResult<Cover<T::Expr>>,
-    N: Fn(&MakerOf<T>, &mut P, usize, Part) -> PResult<T::Pat>,
->(
-    g: &Grammar<S, E, N>,
+fn for_in<P: Cursor, T: BuildsPattern + BuildsFor, G: Readers<P, T>>(
+    g: &G,
     t: &MakerOf<T>,
     p: &mut P,
     start: Span,
     first: Opening<T::Declarator, T::Expr, T::Pat>,
 ) -> PResult<T::Stmt>
-    requires readers { Nests P.seen T.expr_of T.pat_of T.stmt_of g.now.depth
-        (S.pre g.now.stmt) (S.post g.now.stmt) (E.pre g.now.expr) (E.post g.now.expr)
-        (N.pre g.now.pat) (N.post g.now.pat) }
+    requires readers { G.ready g.now }
     requires bare { IsBare T.pat_of first }
     ensures { GivesAs T.stmt_of
-        (rules.for_in (rules.stmt g.now.depth sub_statement) (rules.expr g.now.depth) start
+        (rules.for_in (rules.stmt (G.depth g.now) sub_statement) (rules.expr (G.depth g.now)) start
         (opening_of T.declarator_of T.expr_of T.pat_of first) (P.seen p.old)) result
         (P.seen p.new) }
 {
@@ -175,27 +155,19 @@ fn for_in<
 /// A `for` with `of`, from there on.
 #[tactic(auto, unfolding(swc_ecma_parser_reader::specs::Reader::for_of, swc_ecma_parser_reader::specs::Expressions::inside))]
 #[inline(never)]
-fn for_of<
-    P: Cursor,
-    T: BuildsPattern + BuildsFor,
-    S: Fn(&MakerOf<T>, &mut P, usize, Position) -> PResult<T::Stmt>,
-    E: Fn(&MakerOf<T>, &mut P, usize, Reading) -> PResult<Cover<T::Expr>>,
-    N: Fn(&MakerOf<T>, &mut P, usize, Part) -> PResult<T::Pat>,
->(
-    g: &Grammar<S, E, N>,
+fn for_of<P: Cursor, T: BuildsPattern + BuildsFor, G: Readers<P, T>>(
+    g: &G,
     t: &MakerOf<T>,
     p: &mut P,
     is_await: bool,
     start: Span,
     first: Opening<T::Declarator, T::Expr, T::Pat>,
 ) -> PResult<T::Stmt>
-    requires readers { Nests P.seen T.expr_of T.pat_of T.stmt_of g.now.depth
-        (S.pre g.now.stmt) (S.post g.now.stmt) (E.pre g.now.expr) (E.post g.now.expr)
-        (N.pre g.now.pat) (N.post g.now.pat) }
+    requires readers { G.ready g.now }
     requires bare { IsBare T.pat_of first }
     ensures { GivesAs T.stmt_of
-        (rules.for_of (rules.stmt g.now.depth sub_statement) (rules.expr g.now.depth) is_await start
-        (opening_of T.declarator_of T.expr_of T.pat_of first) (P.seen p.old)) result
+        (rules.for_of (rules.stmt (G.depth g.now) sub_statement) (rules.expr (G.depth g.now))
+        is_await start (opening_of T.declarator_of T.expr_of T.pat_of first) (P.seen p.old)) result
         (P.seen p.new) }
 {
     let left = as_left(t, p, first)?;
@@ -222,27 +194,19 @@ fn await_here<P: Cursor>(p: &mut P) -> PResult<Option<Span>>
 
 /// A `for` with `in`, behind `for await`, which is refused behind it.
 #[inline(never)]
-fn awaited_in<
-    P: Cursor,
-    T: BuildsPattern + BuildsFor,
-    S: Fn(&MakerOf<T>, &mut P, usize, Position) -> PResult<T::Stmt>,
-    E: Fn(&MakerOf<T>, &mut P, usize, Reading) -> PResult<Cover<T::Expr>>,
-    N: Fn(&MakerOf<T>, &mut P, usize, Part) -> PResult<T::Pat>,
->(
-    g: &Grammar<S, E, N>,
+fn awaited_in<P: Cursor, T: BuildsPattern + BuildsFor, G: Readers<P, T>>(
+    g: &G,
     t: &MakerOf<T>,
     p: &mut P,
     start: Span,
     word: Span,
     first: Opening<T::Declarator, T::Expr, T::Pat>,
 ) -> PResult<T::Stmt>
-    requires readers { Nests P.seen T.expr_of T.pat_of T.stmt_of g.now.depth
-        (S.pre g.now.stmt) (S.post g.now.stmt) (E.pre g.now.expr) (E.post g.now.expr)
-        (N.pre g.now.pat) (N.post g.now.pat) }
+    requires readers { G.ready g.now }
     requires bare { IsBare T.pat_of first }
     ensures { GivesAs T.stmt_of
         (rules.unless_awaited (Some word)
-        (rules.for_in (rules.stmt g.now.depth sub_statement) (rules.expr g.now.depth) start
+        (rules.for_in (rules.stmt (G.depth g.now) sub_statement) (rules.expr (G.depth g.now)) start
         (opening_of T.declarator_of T.expr_of T.pat_of first)) (P.seen p.old)) result
         (P.seen p.new) }
 {
@@ -252,27 +216,19 @@ fn awaited_in<
 
 /// A `for` of three parts, behind `for await`, which is refused behind it.
 #[inline(never)]
-fn awaited_parts<
-    P: Cursor,
-    T: BuildsPattern + BuildsFor,
-    S: Fn(&MakerOf<T>, &mut P, usize, Position) -> PResult<T::Stmt>,
-    E: Fn(&MakerOf<T>, &mut P, usize, Reading) -> PResult<Cover<T::Expr>>,
-    N: Fn(&MakerOf<T>, &mut P, usize, Part) -> PResult<T::Pat>,
->(
-    g: &Grammar<S, E, N>,
+fn awaited_parts<P: Cursor, T: BuildsPattern + BuildsFor, G: Readers<P, T>>(
+    g: &G,
     t: &MakerOf<T>,
     p: &mut P,
     start: Span,
     word: Span,
     first: Opening<T::Declarator, T::Expr, T::Pat>,
 ) -> PResult<T::Stmt>
-    requires readers { Nests P.seen T.expr_of T.pat_of T.stmt_of g.now.depth
-        (S.pre g.now.stmt) (S.post g.now.stmt) (E.pre g.now.expr) (E.post g.now.expr)
-        (N.pre g.now.pat) (N.post g.now.pat) }
+    requires readers { G.ready g.now }
     ensures { GivesAs T.stmt_of
         (rules.unless_awaited (Some word)
-        (rules.for_parts (rules.stmt g.now.depth sub_statement) (rules.expr g.now.depth) start
-        (opening_of T.declarator_of T.expr_of T.pat_of first)) (P.seen p.old)) result
+        (rules.for_parts (rules.stmt (G.depth g.now) sub_statement) (rules.expr (G.depth g.now))
+        start (opening_of T.declarator_of T.expr_of T.pat_of first)) (P.seen p.old)) result
         (P.seen p.new) }
 {
     let _refused = for_parts(g, t, p, start, first)?;
@@ -281,27 +237,19 @@ fn awaited_parts<
 
 /// A `for` statement, from behind its first part.
 #[tactic(auto, unfolding(swc_ecma_parser_reader::specs::Reader::for_behind))]
-fn for_behind<
-    P: Cursor,
-    T: BuildsPattern + BuildsFor,
-    S: Fn(&MakerOf<T>, &mut P, usize, Position) -> PResult<T::Stmt>,
-    E: Fn(&MakerOf<T>, &mut P, usize, Reading) -> PResult<Cover<T::Expr>>,
-    N: Fn(&MakerOf<T>, &mut P, usize, Part) -> PResult<T::Pat>,
->(
-    g: &Grammar<S, E, N>,
+fn for_behind<P: Cursor, T: BuildsPattern + BuildsFor, G: Readers<P, T>>(
+    g: &G,
     t: &MakerOf<T>,
     p: &mut P,
     start: Span,
     word: Option<Span>,
     first: Opening<T::Declarator, T::Expr, T::Pat>,
 ) -> PResult<T::Stmt>
-    requires readers { Nests P.seen T.expr_of T.pat_of T.stmt_of g.now.depth
-        (S.pre g.now.stmt) (S.post g.now.stmt) (E.pre g.now.expr) (E.post g.now.expr)
-        (N.pre g.now.pat) (N.post g.now.pat) }
+    requires readers { G.ready g.now }
     requires bare { IsBare T.pat_of first }
     ensures { GivesAs T.stmt_of
-        (rules.for_behind (rules.stmt g.now.depth sub_statement) (rules.expr g.now.depth) start word
-        (opening_of T.declarator_of T.expr_of T.pat_of first) (P.seen p.old)) result
+        (rules.for_behind (rules.stmt (G.depth g.now) sub_statement) (rules.expr (G.depth g.now))
+        start word (opening_of T.declarator_of T.expr_of T.pat_of first) (P.seen p.old)) result
         (P.seen p.new) }
 {
     if p.sees(TokenKind::In) {
@@ -322,19 +270,15 @@ fn for_behind<
 /// A `for` statement.
 #[tactic(auto, unfolding(swc_ecma_parser_reader::specs::Reader::for_stmt))]
 #[inline(never)]
-pub fn for_stmt<
-    P: Cursor,
-    T: BuildsPattern + BuildsFor,
-    S: Fn(&MakerOf<T>, &mut P, usize, Position) -> PResult<T::Stmt>,
-    E: Fn(&MakerOf<T>, &mut P, usize, Reading) -> PResult<Cover<T::Expr>>,
-    N: Fn(&MakerOf<T>, &mut P, usize, Part) -> PResult<T::Pat>,
->(g: &Grammar<S, E, N>, t: &MakerOf<T>, p: &mut P) -> PResult<T::Stmt>
-    requires { Nests P.seen T.expr_of T.pat_of T.stmt_of g.now.depth
-        (S.pre g.now.stmt) (S.post g.now.stmt) (E.pre g.now.expr) (E.post g.now.expr)
-        (N.pre g.now.pat) (N.post g.now.pat) }
+pub fn for_stmt<P: Cursor, T: BuildsPattern + BuildsFor, G: Readers<P, T>>(
+    g: &G,
+    t: &MakerOf<T>,
+    p: &mut P,
+) -> PResult<T::Stmt>
+    requires { G.ready g.now }
     ensures { GivesAs T.stmt_of
-        (rules.for_stmt (rules.stmt g.now.depth sub_statement) (rules.expr g.now.depth)
-        (rules.pattern g.now.depth) (rules.head_cover g.now.depth) (P.seen p.old)) result
+        (rules.for_stmt (rules.stmt (G.depth g.now) sub_statement) (rules.expr (G.depth g.now))
+        (rules.pattern (G.depth g.now)) (rules.head_cover (G.depth g.now)) (P.seen p.old)) result
         (P.seen p.new) }
 {
     let start = p.span();

@@ -7,7 +7,6 @@ ghost use Rattle.swc_ecma_parser_grammar.specs.Follows as follows;
 ghost use Rattle.swc_ecma_parser_grammar.specs.Looks as looks;
 ghost use Rattle.swc_ecma_parser_grammar.specs.Own as own;
 ghost use Rattle.swc_ecma_parser_grammar.specs.scaffold.Using as using;
-ghost use Rattle.swc_ecma_parser_shared.specs.Nests.{Nests};
 ghost use Rattle.swc_ecma_parser_loops.specs.Flags as flags_of;
 ghost use Rattle.swc_ecma_parser_input.specs.Place as place;
 ghost use Rattle.swc_ecma_parser_loops.specs.Openings.{declared_of, opening_of, left_of, IsTarget, IsBare};
@@ -22,11 +21,11 @@ ghost use Rattle.swc_ecma_parser_trees.specs.Parts.{part_of};
 use swc_ecma_parser_common::Span;
 use swc_ecma_parser_cursor::{Cursor, Wanted};
 use swc_ecma_parser_error::{PResult, SyntaxError};
-use swc_ecma_parser_grammar::Position;
 use swc_ecma_parser_input::Context;
 use swc_ecma_parser_model::VarDeclKind;
 use swc_ecma_parser_shared::cover::{Cover, Reading, close, target};
-use swc_ecma_parser_shared::grammar::{Grammar, Part};
+use swc_ecma_parser_shared::grammar::Part;
+use swc_ecma_parser_shared::readers::Readers;
 use swc_ecma_parser_shared::steps::{grown, pushed, since, with_in};
 use swc_ecma_parser_statements::variables::declarators;
 use swc_ecma_parser_token::TokenKind;
@@ -92,23 +91,15 @@ fn head_flags(word: VarDeclKind, flags: Context) -> Context
 
 /// What a head declares, without an end.
 #[tactic(auto, unfolding(swc_ecma_parser_reader::specs::Reader::head_variables), using(crate::proofs::Flags::head_code_is, crate::proofs::Flags::head_module))]
-fn head_variables<
-    P: Cursor,
-    T: BuildsPattern + BuildsVariables,
-    S: Fn(&MakerOf<T>, &mut P, usize, Position) -> PResult<T::Stmt>,
-    E: Fn(&MakerOf<T>, &mut P, usize, Reading) -> PResult<Cover<T::Expr>>,
-    N: Fn(&MakerOf<T>, &mut P, usize, Part) -> PResult<T::Pat>,
->(
-    g: &Grammar<S, E, N>,
+fn head_variables<P: Cursor, T: BuildsPattern + BuildsVariables, G: Readers<P, T>>(
+    g: &G,
     t: &MakerOf<T>,
     p: &mut P,
     word: VarDeclKind,
 ) -> PResult<Opening<T::Declarator, T::Expr, T::Pat>>
-    requires { Nests P.seen T.expr_of T.pat_of T.stmt_of g.now.depth
-        (S.pre g.now.stmt) (S.post g.now.stmt) (E.pre g.now.expr) (E.post g.now.expr)
-        (N.pre g.now.pat) (N.post g.now.pat) }
+    requires { G.ready g.now }
     ensures gives { GivesAs (opening_of T.declarator_of T.expr_of T.pat_of)
-        (rules.head_variables (rules.expr g.now.depth) (rules.pattern g.now.depth) word
+        (rules.head_variables (rules.expr (G.depth g.now)) (rules.pattern (G.depth g.now)) word
         (P.seen p.old)) result (P.seen p.new) }
     ensures bare { IfOk result (λ o. IsBare T.pat_of o) }
 {
@@ -124,28 +115,20 @@ fn head_variables<
 
 /// An expression that a head begins with.
 #[tactic(auto, unfolding(swc_ecma_parser_reader::specs::Reader::head_expression))]
-fn head_expression<
-    P: Cursor,
-    T: BuildsVariables,
-    S: Fn(&MakerOf<T>, &mut P, usize, Position) -> PResult<T::Stmt>,
-    E: Fn(&MakerOf<T>, &mut P, usize, Reading) -> PResult<Cover<T::Expr>>,
-    N: Fn(&MakerOf<T>, &mut P, usize, Part) -> PResult<T::Pat>,
->(
-    g: &Grammar<S, E, N>,
+fn head_expression<P: Cursor, T: BuildsVariables, G: Readers<P, T>>(
+    g: &G,
     t: &MakerOf<T>,
     p: &mut P,
 ) -> PResult<Opening<T::Declarator, T::Expr, T::Pat>>
-    requires { Nests P.seen T.expr_of T.pat_of T.stmt_of g.now.depth
-        (S.pre g.now.stmt) (S.post g.now.stmt) (E.pre g.now.expr) (E.post g.now.expr)
-        (N.pre g.now.pat) (N.post g.now.pat) }
+    requires { G.ready g.now }
     ensures gives { GivesAs (opening_of T.declarator_of T.expr_of T.pat_of)
-        (rules.head_expression (rules.expr g.now.depth) (rules.pattern g.now.depth)
-        (rules.head_cover g.now.depth) (P.seen p.old)) result (P.seen p.new) }
+        (rules.head_expression (rules.expr (G.depth g.now)) (rules.pattern (G.depth g.now))
+        (rules.head_cover (G.depth g.now)) (P.seen p.old)) result (P.seen p.new) }
     ensures bare { IfOk result (λ o. IsBare T.pat_of o) }
 {
     let outer = p.flags();
     p.set_flags(without_in(outer));
-    let v = (g.expr)(t, p, g.depth, Reading::Head)?;
+    let v = g.expr(t, p, Reading::Head)?;
     p.set_flags(outer);
     Ok(Opening::Expression(v))
 }
@@ -163,29 +146,21 @@ fn undeclared<P: Cursor>(p: &mut P, span: Span) -> PResult<()>
 
 /// What `using` declares, behind `await` or not, from the name on.
 #[tactic(auto, unfolding(swc_ecma_parser_reader::specs::Reader::using_head))]
-fn using_head<
-    P: Cursor,
-    T: BuildsPattern + BuildsVariables,
-    S: Fn(&MakerOf<T>, &mut P, usize, Position) -> PResult<T::Stmt>,
-    E: Fn(&MakerOf<T>, &mut P, usize, Reading) -> PResult<Cover<T::Expr>>,
-    N: Fn(&MakerOf<T>, &mut P, usize, Part) -> PResult<T::Pat>,
->(
-    g: &Grammar<S, E, N>,
+fn using_head<P: Cursor, T: BuildsPattern + BuildsVariables, G: Readers<P, T>>(
+    g: &G,
     t: &MakerOf<T>,
     p: &mut P,
     is_await: bool,
     start: Span,
 ) -> PResult<Opening<T::Declarator, T::Expr, T::Pat>>
-    requires { Nests P.seen T.expr_of T.pat_of T.stmt_of g.now.depth
-        (S.pre g.now.stmt) (S.post g.now.stmt) (E.pre g.now.expr) (E.post g.now.expr)
-        (N.pre g.now.pat) (N.post g.now.pat) }
+    requires { G.ready g.now }
     ensures gives { GivesAs (opening_of T.declarator_of T.expr_of T.pat_of)
-        (rules.using_head (rules.expr g.now.depth) (rules.pattern g.now.depth) is_await start
-        (P.seen p.old)) result (P.seen p.new) }
+        (rules.using_head (rules.expr (G.depth g.now)) (rules.pattern (G.depth g.now)) is_await
+        start (P.seen p.old)) result (P.seen p.new) }
     ensures bare { IfOk result (λ o. IsBare T.pat_of o) }
 {
     let first = p.span();
-    let name = (g.pat)(t, p, g.depth, Part::Pattern)?;
+    let name = g.pat(t, p, Part::Pattern)?;
     let own = since(p, first);
     let span = since(p, start);
     undeclared(p, span)?;
@@ -201,27 +176,19 @@ fn using_head<
 
 /// A name before another: `using` declares where `in` or `of` stands behind that.
 #[tactic(auto, unfolding(swc_ecma_parser_reader::specs::Reader::named_head, swc_ecma_parser_grammar::specs::scaffold::Using::stands_in_head), using(swc_ecma_parser_reader::proofs::HeadWords::pattern_declares))]
-fn named_head<
-    P: Cursor,
-    T: BuildsPattern + BuildsVariables,
-    S: Fn(&MakerOf<T>, &mut P, usize, Position) -> PResult<T::Stmt>,
-    E: Fn(&MakerOf<T>, &mut P, usize, Reading) -> PResult<Cover<T::Expr>>,
-    N: Fn(&MakerOf<T>, &mut P, usize, Part) -> PResult<T::Pat>,
->(
-    g: &Grammar<S, E, N>,
+fn named_head<P: Cursor, T: BuildsPattern + BuildsVariables, G: Readers<P, T>>(
+    g: &G,
     t: &MakerOf<T>,
     p: &mut P,
 ) -> PResult<Opening<T::Declarator, T::Expr, T::Pat>>
-    requires { Nests P.seen T.expr_of T.pat_of T.stmt_of g.now.depth
-        (S.pre g.now.stmt) (S.post g.now.stmt) (E.pre g.now.expr) (E.post g.now.expr)
-        (N.pre g.now.pat) (N.post g.now.pat) }
+    requires { G.ready g.now }
     ensures gives { GivesAs (opening_of T.declarator_of T.expr_of T.pat_of)
-        (rules.named_head (rules.expr g.now.depth) (rules.pattern g.now.depth) (P.seen p.old))
-        result (P.seen p.new) }
+        (rules.named_head (rules.expr (G.depth g.now)) (rules.pattern (G.depth g.now))
+        (P.seen p.old)) result (P.seen p.new) }
     ensures bare { IfOk result (λ o. IsBare T.pat_of o) }
 {
     let start = p.span();
-    let name = (g.pat)(t, p, g.depth, Part::Pattern)?;
+    let name = g.pat(t, p, Part::Pattern)?;
     if p.next_sees(TokenKind::In) || p.next_word_at("of") {
         return using_head(g, t, p, false, start);
     }
@@ -257,29 +224,21 @@ fn begins_await<P: Cursor>(p: &P) -> bool
 
 /// What `await` begins: an expression, or, where it is `await using` and a name stands behind it, what that declares.
 #[tactic(auto, unfolding(swc_ecma_parser_reader::specs::Reader::await_head, swc_ecma_parser_reader::specs::Reader::await_or_expression))]
-fn await_head<
-    P: Cursor,
-    T: BuildsPattern + BuildsVariables,
-    S: Fn(&MakerOf<T>, &mut P, usize, Position) -> PResult<T::Stmt>,
-    E: Fn(&MakerOf<T>, &mut P, usize, Reading) -> PResult<Cover<T::Expr>>,
-    N: Fn(&MakerOf<T>, &mut P, usize, Part) -> PResult<T::Pat>,
->(
-    g: &Grammar<S, E, N>,
+fn await_head<P: Cursor, T: BuildsPattern + BuildsVariables, G: Readers<P, T>>(
+    g: &G,
     t: &MakerOf<T>,
     p: &mut P,
 ) -> PResult<Opening<T::Declarator, T::Expr, T::Pat>>
-    requires { Nests P.seen T.expr_of T.pat_of T.stmt_of g.now.depth
-        (S.pre g.now.stmt) (S.post g.now.stmt) (E.pre g.now.expr) (E.post g.now.expr)
-        (N.pre g.now.pat) (N.post g.now.pat) }
+    requires { G.ready g.now }
     ensures gives { GivesAs (opening_of T.declarator_of T.expr_of T.pat_of)
-        (rules.await_head (rules.expr g.now.depth) (rules.pattern g.now.depth)
-        (rules.head_cover g.now.depth) (P.seen p.old)) result (P.seen p.new) }
+        (rules.await_head (rules.expr (G.depth g.now)) (rules.pattern (G.depth g.now))
+        (rules.head_cover (G.depth g.now)) (P.seen p.old)) result (P.seen p.new) }
     ensures bare { IfOk result (λ o. IsBare T.pat_of o) }
 {
     let start = p.span();
     let outer = p.flags();
     p.set_flags(without_in(outer));
-    let v = (g.expr)(t, p, g.depth, Reading::Head)?;
+    let v = g.expr(t, p, Reading::Head)?;
     p.set_flags(outer);
     if awaits_using::<T>(&v.tree) && declares_behind(p) {
         return using_head(g, t, p, true, start);
@@ -289,30 +248,22 @@ fn await_head<
 
 /// Behind `async`, which was read as a name: it is one, unless `=>` stands behind `of`.
 #[tactic(auto, unfolding(swc_ecma_parser_reader::specs::HeadWords::behind_async))]
-fn behind_async<
-    P: Cursor,
-    T: BuildsPattern + BuildsVariables,
-    S: Fn(&MakerOf<T>, &mut P, usize, Position) -> PResult<T::Stmt>,
-    E: Fn(&MakerOf<T>, &mut P, usize, Reading) -> PResult<Cover<T::Expr>>,
-    N: Fn(&MakerOf<T>, &mut P, usize, Part) -> PResult<T::Pat>,
->(
-    g: &Grammar<S, E, N>,
+fn behind_async<P: Cursor, T: BuildsPattern + BuildsVariables, G: Readers<P, T>>(
+    g: &G,
     t: &MakerOf<T>,
     p: &mut P,
     start: Span,
     name: T::Pat,
 ) -> PResult<Opening<T::Declarator, T::Expr, T::Pat>>
-    requires readers { Nests P.seen T.expr_of T.pat_of T.stmt_of g.now.depth
-        (S.pre g.now.stmt) (S.post g.now.stmt) (E.pre g.now.expr) (E.post g.now.expr)
-        (N.pre g.now.pat) (N.post g.now.pat) }
+    requires readers { G.ready g.now }
     requires bare { (refused : Bool) → own.head_faults refused (T.pat_of name) ≡ [] }
     ensures gives { GivesAs (opening_of T.declarator_of T.expr_of T.pat_of)
-        (words.behind_async g.now.depth start (T.pat_of name) (P.seen p.old)) result
+        (words.behind_async (G.depth g.now) start (T.pat_of name) (P.seen p.old)) result
         (P.seen p.new) }
     ensures bare { IfOk result (λ o. IsBare T.pat_of o) }
 {
     if p.next_sees(TokenKind::Arrow) {
-        let v = (g.expr)(t, p, g.depth, Reading::Behind(start))?;
+        let v = g.expr(t, p, Reading::Behind(start))?;
         return Ok(Opening::Expression(v));
     }
     Ok(Opening::Named(name))
@@ -320,32 +271,24 @@ fn behind_async<
 
 /// `async` before `of` on its line: the name alone, or an arrow function whose parameter is `of`.
 #[tactic(auto, using(swc_ecma_parser_reader::proofs::HeadWords::async_refused, swc_ecma_parser_reader::proofs::HeadWords::async_reads, swc_ecma_parser_reader::proofs::HeadWords::async_refused_behind, swc_ecma_parser_reader::proofs::HeadWords::pattern_declares))]
-fn async_head<
-    P: Cursor,
-    T: BuildsPattern + BuildsVariables,
-    S: Fn(&MakerOf<T>, &mut P, usize, Position) -> PResult<T::Stmt>,
-    E: Fn(&MakerOf<T>, &mut P, usize, Reading) -> PResult<Cover<T::Expr>>,
-    N: Fn(&MakerOf<T>, &mut P, usize, Part) -> PResult<T::Pat>,
->(
-    g: &Grammar<S, E, N>,
+fn async_head<P: Cursor, T: BuildsPattern + BuildsVariables, G: Readers<P, T>>(
+    g: &G,
     t: &MakerOf<T>,
     p: &mut P,
 ) -> PResult<Opening<T::Declarator, T::Expr, T::Pat>>
-    requires readers { Nests P.seen T.expr_of T.pat_of T.stmt_of g.now.depth
-        (S.pre g.now.stmt) (S.post g.now.stmt) (E.pre g.now.expr) (E.post g.now.expr)
-        (N.pre g.now.pat) (N.post g.now.pat) }
+    requires readers { G.ready g.now }
     requires word { follows.word_at (codes "async") (P.seen p.now).at ≡ true }
     requires of { follows.word_at (codes "of") (place.after (P.seen p.now).at) ≡ true }
     requires on_line { looks.breaks_at (place.after (P.seen p.now).at) ≡ false }
     ensures gives { GivesAs (opening_of T.declarator_of T.expr_of T.pat_of)
-        (rules.async_or_expression (rules.expr g.now.depth) (rules.pattern g.now.depth)
-        (rules.head_cover g.now.depth) (P.seen p.old)) result (P.seen p.new) }
+        (rules.async_or_expression (rules.expr (G.depth g.now)) (rules.pattern (G.depth g.now))
+        (rules.head_cover (G.depth g.now)) (P.seen p.old)) result (P.seen p.new) }
     ensures bare { IfOk result (λ o. IsBare T.pat_of o) }
 {
     let start = p.span();
     let outer = p.flags();
     p.set_flags(without_in(outer));
-    let name = (g.pat)(t, p, g.depth, Part::Pattern)?;
+    let name = g.pat(t, p, Part::Pattern)?;
     let opening = behind_async(g, t, p, start, name)?;
     p.set_flags(outer);
     Ok(opening)
@@ -353,24 +296,16 @@ fn async_head<
 
 /// An expression that may still become a target, or `async` alone.
 #[tactic(auto, using(swc_ecma_parser_reader::proofs::HeadWords::other_target, swc_ecma_parser_reader::proofs::HeadWords::async_target))]
-fn head_target<
-    P: Cursor,
-    T: BuildsPattern + BuildsVariables,
-    S: Fn(&MakerOf<T>, &mut P, usize, Position) -> PResult<T::Stmt>,
-    E: Fn(&MakerOf<T>, &mut P, usize, Reading) -> PResult<Cover<T::Expr>>,
-    N: Fn(&MakerOf<T>, &mut P, usize, Part) -> PResult<T::Pat>,
->(
-    g: &Grammar<S, E, N>,
+fn head_target<P: Cursor, T: BuildsPattern + BuildsVariables, G: Readers<P, T>>(
+    g: &G,
     t: &MakerOf<T>,
     p: &mut P,
     is_await: bool,
 ) -> PResult<Opening<T::Declarator, T::Expr, T::Pat>>
-    requires { Nests P.seen T.expr_of T.pat_of T.stmt_of g.now.depth
-        (S.pre g.now.stmt) (S.post g.now.stmt) (E.pre g.now.expr) (E.post g.now.expr)
-        (N.pre g.now.pat) (N.post g.now.pat) }
+    requires { G.ready g.now }
     ensures gives { GivesAs (opening_of T.declarator_of T.expr_of T.pat_of)
-        (rules.head_target (rules.expr g.now.depth) (rules.pattern g.now.depth)
-        (rules.head_cover g.now.depth) is_await (P.seen p.old)) result (P.seen p.new) }
+        (rules.head_target (rules.expr (G.depth g.now)) (rules.pattern (G.depth g.now))
+        (rules.head_cover (G.depth g.now)) is_await (P.seen p.old)) result (P.seen p.new) }
     ensures bare { IfOk result (λ o. IsBare T.pat_of o) }
 {
     if is_await && p.word_at("async") && p.next_word_at("of") && !p.next_had_line_break() {
@@ -382,24 +317,16 @@ fn head_target<
 /// What a head begins with.
 #[tactic(auto, unfolding(swc_ecma_parser_reader::specs::Reader::opening))]
 #[inline(never)]
-pub(crate) fn head_opening<
-    P: Cursor,
-    T: BuildsPattern + BuildsVariables,
-    S: Fn(&MakerOf<T>, &mut P, usize, Position) -> PResult<T::Stmt>,
-    E: Fn(&MakerOf<T>, &mut P, usize, Reading) -> PResult<Cover<T::Expr>>,
-    N: Fn(&MakerOf<T>, &mut P, usize, Part) -> PResult<T::Pat>,
->(
-    g: &Grammar<S, E, N>,
+pub(crate) fn head_opening<P: Cursor, T: BuildsPattern + BuildsVariables, G: Readers<P, T>>(
+    g: &G,
     t: &MakerOf<T>,
     p: &mut P,
     is_await: bool,
 ) -> PResult<Opening<T::Declarator, T::Expr, T::Pat>>
-    requires { Nests P.seen T.expr_of T.pat_of T.stmt_of g.now.depth
-        (S.pre g.now.stmt) (S.post g.now.stmt) (E.pre g.now.expr) (E.post g.now.expr)
-        (N.pre g.now.pat) (N.post g.now.pat) }
+    requires { G.ready g.now }
     ensures gives { GivesAs (opening_of T.declarator_of T.expr_of T.pat_of)
-        (rules.opening (rules.expr g.now.depth) (rules.pattern g.now.depth)
-        (rules.head_cover g.now.depth) is_await (P.seen p.old)) result (P.seen p.new) }
+        (rules.opening (rules.expr (G.depth g.now)) (rules.pattern (G.depth g.now))
+        (rules.head_cover (G.depth g.now)) is_await (P.seen p.old)) result (P.seen p.new) }
     ensures bare { IfOk result (λ o. IsBare T.pat_of o) }
 {
     if p.sees(TokenKind::Semi) {

@@ -4,16 +4,15 @@ ghost use Rattle.std.specs.Prelude.{◌≡◌, true};
 ghost use Rattle.swc_ecma_parser_grammar.specs.language.Contexts as contexts;
 ghost use Rattle.swc_ecma_parser_grammar.specs.language.Goals.{expression};
 ghost use Rattle.swc_ecma_parser_grammar.specs.language.Items.{sub_statement};
-ghost use Rattle.swc_ecma_parser_shared.specs.Nests.{Nests};
 ghost use Rattle.swc_ecma_parser_reader.specs.Reader as rules;
 ghost use Rattle.swc_ecma_parser_reader.specs.State.{GivesAs, within};
 
 use swc_ecma_parser_cursor::Cursor;
 use swc_ecma_parser_error::PResult;
-use swc_ecma_parser_grammar::{Class, Position};
+use swc_ecma_parser_grammar::Class;
 use swc_ecma_parser_input::Context;
-use swc_ecma_parser_shared::cover::{Cover, Reading, inside};
-use swc_ecma_parser_shared::grammar::{Grammar, Part};
+use swc_ecma_parser_shared::cover::inside;
+use swc_ecma_parser_shared::readers::Readers;
 use swc_ecma_parser_shared::steps::{grown, since};
 use swc_ecma_parser_statements::simple::{SUB_STATEMENT, optional_end};
 use swc_ecma_parser_token::TokenKind;
@@ -21,17 +20,13 @@ use swc_ecma_parser_trees::{BuildsLoop, MakerOf, Trees};
 
 /// `( Expression )` behind the word of a statement.
 #[tactic(auto, unfolding(swc_ecma_parser_reader::specs::Reader::head, swc_ecma_parser_reader::specs::Expressions::inside))]
-pub fn head<
-    P: Cursor,
-    T: Trees,
-    S: Fn(&MakerOf<T>, &mut P, usize, Position) -> PResult<T::Stmt>,
-    E: Fn(&MakerOf<T>, &mut P, usize, Reading) -> PResult<Cover<T::Expr>>,
-    N: Fn(&MakerOf<T>, &mut P, usize, Part) -> PResult<T::Pat>,
->(g: &Grammar<S, E, N>, t: &MakerOf<T>, p: &mut P) -> PResult<T::Expr>
-    requires { Nests P.seen T.expr_of T.pat_of T.stmt_of g.now.depth
-        (S.pre g.now.stmt) (S.post g.now.stmt) (E.pre g.now.expr) (E.post g.now.expr)
-        (N.pre g.now.pat) (N.post g.now.pat) }
-    ensures { GivesAs T.expr_of (rules.head (rules.expr g.now.depth expression) (P.seen p.old))
+pub fn head<P: Cursor, T: Trees, G: Readers<P, T>>(
+    g: &G,
+    t: &MakerOf<T>,
+    p: &mut P,
+) -> PResult<T::Expr>
+    requires { G.ready g.now }
+    ensures { GivesAs T.expr_of (rules.head (rules.expr (G.depth g.now) expression) (P.seen p.old))
         result (P.seen p.new) }
 {
     p.expect(TokenKind::LParen, "(")?;
@@ -52,23 +47,19 @@ fn in_loop(flags: Context) -> Context
 }
 
 /// The body of a loop.
-pub(crate) fn looped<
-    P: Cursor,
-    T: Trees,
-    S: Fn(&MakerOf<T>, &mut P, usize, Position) -> PResult<T::Stmt>,
-    E: Fn(&MakerOf<T>, &mut P, usize, Reading) -> PResult<Cover<T::Expr>>,
-    N: Fn(&MakerOf<T>, &mut P, usize, Part) -> PResult<T::Pat>,
->(g: &Grammar<S, E, N>, t: &MakerOf<T>, p: &mut P) -> PResult<T::Stmt>
-    requires { Nests P.seen T.expr_of T.pat_of T.stmt_of g.now.depth
-        (S.pre g.now.stmt) (S.post g.now.stmt) (E.pre g.now.expr) (E.post g.now.expr)
-        (N.pre g.now.pat) (N.post g.now.pat) }
+pub(crate) fn looped<P: Cursor, T: Trees, G: Readers<P, T>>(
+    g: &G,
+    t: &MakerOf<T>,
+    p: &mut P,
+) -> PResult<T::Stmt>
+    requires { G.ready g.now }
     ensures { GivesAs T.stmt_of
-        (within contexts.in_loop (rules.stmt g.now.depth sub_statement) (P.seen p.old)) result
+        (within contexts.in_loop (rules.stmt (G.depth g.now) sub_statement) (P.seen p.old)) result
         (P.seen p.new) }
 {
     let outer = p.flags();
     p.set_flags(in_loop(outer));
-    let body = (g.stmt)(t, p, g.depth, SUB_STATEMENT)?;
+    let body = g.stmt(t, p, SUB_STATEMENT)?;
     p.set_flags(outer);
     Ok(body)
 }
@@ -76,19 +67,15 @@ pub(crate) fn looped<
 /// A `while` statement.
 #[tactic(auto, unfolding(swc_ecma_parser_reader::specs::Reader::while_stmt, swc_ecma_parser_grammar::specs::Looks::spanned))]
 #[inline(never)]
-pub fn while_stmt<
-    P: Cursor,
-    T: BuildsLoop,
-    S: Fn(&MakerOf<T>, &mut P, usize, Position) -> PResult<T::Stmt>,
-    E: Fn(&MakerOf<T>, &mut P, usize, Reading) -> PResult<Cover<T::Expr>>,
-    N: Fn(&MakerOf<T>, &mut P, usize, Part) -> PResult<T::Pat>,
->(g: &Grammar<S, E, N>, t: &MakerOf<T>, p: &mut P) -> PResult<T::Stmt>
-    requires { Nests P.seen T.expr_of T.pat_of T.stmt_of g.now.depth
-        (S.pre g.now.stmt) (S.post g.now.stmt) (E.pre g.now.expr) (E.post g.now.expr)
-        (N.pre g.now.pat) (N.post g.now.pat) }
+pub fn while_stmt<P: Cursor, T: BuildsLoop, G: Readers<P, T>>(
+    g: &G,
+    t: &MakerOf<T>,
+    p: &mut P,
+) -> PResult<T::Stmt>
+    requires { G.ready g.now }
     ensures { GivesAs T.stmt_of
-        (rules.while_stmt (rules.stmt g.now.depth sub_statement) (rules.expr g.now.depth expression)
-        (P.seen p.old)) result (P.seen p.new) }
+        (rules.while_stmt (rules.stmt (G.depth g.now) sub_statement)
+        (rules.expr (G.depth g.now) expression) (P.seen p.old)) result (P.seen p.new) }
 {
     let start = p.span();
     p.skip()?;
@@ -101,19 +88,15 @@ pub fn while_stmt<
 /// A `do` statement.
 #[tactic(auto, unfolding(swc_ecma_parser_reader::specs::Reader::do_while, swc_ecma_parser_grammar::specs::Looks::spanned))]
 #[inline(never)]
-pub fn do_while<
-    P: Cursor,
-    T: BuildsLoop,
-    S: Fn(&MakerOf<T>, &mut P, usize, Position) -> PResult<T::Stmt>,
-    E: Fn(&MakerOf<T>, &mut P, usize, Reading) -> PResult<Cover<T::Expr>>,
-    N: Fn(&MakerOf<T>, &mut P, usize, Part) -> PResult<T::Pat>,
->(g: &Grammar<S, E, N>, t: &MakerOf<T>, p: &mut P) -> PResult<T::Stmt>
-    requires { Nests P.seen T.expr_of T.pat_of T.stmt_of g.now.depth
-        (S.pre g.now.stmt) (S.post g.now.stmt) (E.pre g.now.expr) (E.post g.now.expr)
-        (N.pre g.now.pat) (N.post g.now.pat) }
+pub fn do_while<P: Cursor, T: BuildsLoop, G: Readers<P, T>>(
+    g: &G,
+    t: &MakerOf<T>,
+    p: &mut P,
+) -> PResult<T::Stmt>
+    requires { G.ready g.now }
     ensures { GivesAs T.stmt_of
-        (rules.do_while (rules.stmt g.now.depth sub_statement) (rules.expr g.now.depth expression)
-        (P.seen p.old)) result (P.seen p.new) }
+        (rules.do_while (rules.stmt (G.depth g.now) sub_statement)
+        (rules.expr (G.depth g.now) expression) (P.seen p.old)) result (P.seen p.new) }
 {
     let start = p.span();
     p.skip()?;

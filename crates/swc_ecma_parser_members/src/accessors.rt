@@ -5,7 +5,6 @@ ghost use Rattle.swc_ecma_parser_members.specs.Keys.{member_key_of};
 ghost use Rattle.swc_ecma_parser_members.specs.Leading.{leading_of};
 ghost use Rattle.swc_ecma_parser_error.specs.Kind as kinds;
 ghost use Rattle.swc_ecma_parser_grammar.specs.language.Items.{nested_item};
-ghost use Rattle.swc_ecma_parser_shared.specs.Nests.{Nests};
 ghost use Rattle.swc_ecma_parser_reader.specs.Members as members;
 ghost use Rattle.swc_ecma_parser_reader.specs.Reader as rules;
 ghost use Rattle.swc_ecma_parser_reader.specs.State.{Gives, GivesAs, fault, fault_at};
@@ -19,9 +18,7 @@ use swc_ecma_parser_classes::words::{begins_block, begins_words};
 use swc_ecma_parser_common::Span;
 use swc_ecma_parser_cursor::Cursor;
 use swc_ecma_parser_error::{PResult, SyntaxError};
-use swc_ecma_parser_grammar::Position;
-use swc_ecma_parser_shared::cover::{Cover, Reading};
-use swc_ecma_parser_shared::grammar::{Grammar, Part};
+use swc_ecma_parser_shared::readers::Readers;
 use swc_ecma_parser_token::TokenKind;
 use swc_ecma_parser_trees::{BuildsClass, BuildsPattern, MakerOf};
 
@@ -34,19 +31,16 @@ fn accessor_fault<P: Cursor>(p: &mut P, accessor: Span) -> PResult<()>
 
 /// `static` and a block, which is a fault of the `static` before `accessor` too, if one stands there.
 #[tactic(auto, unfolding(swc_ecma_parser_reader::specs::Members::static_behind))]
-fn static_behind<
-    P: Cursor,
-    T: BuildsClass + BuildsPattern,
-    S: Fn(&MakerOf<T>, &mut P, usize, Position) -> PResult<T::Stmt>,
-    E: Fn(&MakerOf<T>, &mut P, usize, Reading) -> PResult<Cover<T::Expr>>,
-    N: Fn(&MakerOf<T>, &mut P, usize, Part) -> PResult<T::Pat>,
->(g: &Grammar<S, E, N>, t: &MakerOf<T>, p: &mut P, begin: Begin) -> PResult<T::Member>
-    requires { Nests P.seen T.expr_of T.pat_of T.stmt_of g.now.depth
-        (S.pre g.now.stmt) (S.post g.now.stmt) (E.pre g.now.expr) (E.post g.now.expr)
-        (N.pre g.now.pat) (N.post g.now.pat) }
+fn static_behind<P: Cursor, T: BuildsClass + BuildsPattern, G: Readers<P, T>>(
+    g: &G,
+    t: &MakerOf<T>,
+    p: &mut P,
+    begin: Begin,
+) -> PResult<T::Member>
+    requires { G.ready g.now }
     ensures { GivesAs T.member_of
-        (members.static_behind (rules.expr g.now.depth) (rules.cover g.now.depth)
-        (rules.stmt g.now.depth nested_item) (rules.parameters g.now.depth) begin.is_static
+        (members.static_behind (rules.expr (G.depth g.now)) (rules.cover (G.depth g.now))
+        (rules.stmt (G.depth g.now) nested_item) (rules.parameters (G.depth g.now)) begin.is_static
         begin.start begin.first (P.seen p.old)) result (P.seen p.new) }
 {
     if begin.is_static {
@@ -58,19 +52,16 @@ fn static_behind<
 
 /// A static block, with a `static` of its own or without it.
 #[tactic(auto, unfolding(swc_ecma_parser_reader::specs::Members::block_behind))]
-fn block_behind<
-    P: Cursor,
-    T: BuildsClass + BuildsPattern,
-    S: Fn(&MakerOf<T>, &mut P, usize, Position) -> PResult<T::Stmt>,
-    E: Fn(&MakerOf<T>, &mut P, usize, Reading) -> PResult<Cover<T::Expr>>,
-    N: Fn(&MakerOf<T>, &mut P, usize, Part) -> PResult<T::Pat>,
->(g: &Grammar<S, E, N>, t: &MakerOf<T>, p: &mut P, begin: Begin) -> PResult<T::Member>
-    requires { Nests P.seen T.expr_of T.pat_of T.stmt_of g.now.depth
-        (S.pre g.now.stmt) (S.post g.now.stmt) (E.pre g.now.expr) (E.post g.now.expr)
-        (N.pre g.now.pat) (N.post g.now.pat) }
+fn block_behind<P: Cursor, T: BuildsClass + BuildsPattern, G: Readers<P, T>>(
+    g: &G,
+    t: &MakerOf<T>,
+    p: &mut P,
+    begin: Begin,
+) -> PResult<T::Member>
+    requires { G.ready g.now }
     ensures { GivesAs T.member_of
-        (members.block_behind (rules.expr g.now.depth) (rules.cover g.now.depth)
-        (rules.stmt g.now.depth nested_item) (rules.parameters g.now.depth) begin.is_static
+        (members.block_behind (rules.expr (G.depth g.now)) (rules.cover (G.depth g.now))
+        (rules.stmt (G.depth g.now) nested_item) (rules.parameters (G.depth g.now)) begin.is_static
         begin.start begin.first (P.seen p.old)) result (P.seen p.new) }
 {
     if begin.is_static && p.sees(TokenKind::LBrace) {
@@ -81,14 +72,8 @@ fn block_behind<
 
 /// What stands behind a key without words: a method is a fault of `accessor`.
 #[tactic(auto, unfolding(swc_ecma_parser_reader::specs::Members::behind_accessed_key))]
-fn behind_accessed_key<
-    P: Cursor,
-    T: BuildsClass + BuildsPattern,
-    S: Fn(&MakerOf<T>, &mut P, usize, Position) -> PResult<T::Stmt>,
-    E: Fn(&MakerOf<T>, &mut P, usize, Reading) -> PResult<Cover<T::Expr>>,
-    N: Fn(&MakerOf<T>, &mut P, usize, Part) -> PResult<T::Pat>,
->(
-    g: &Grammar<S, E, N>,
+fn behind_accessed_key<P: Cursor, T: BuildsClass + BuildsPattern, G: Readers<P, T>>(
+    g: &G,
     t: &MakerOf<T>,
     p: &mut P,
     leading: Leading<T::Decorator>,
@@ -97,12 +82,10 @@ fn behind_accessed_key<
     word: Span,
     key: MemberKey<T::Expr>,
 ) -> PResult<T::Member>
-    requires { Nests P.seen T.expr_of T.pat_of T.stmt_of g.now.depth
-        (S.pre g.now.stmt) (S.post g.now.stmt) (E.pre g.now.expr) (E.post g.now.expr)
-        (N.pre g.now.pat) (N.post g.now.pat) }
+    requires { G.ready g.now }
     ensures { GivesAs T.member_of
-        (members.behind_accessed_key (rules.expr g.now.depth) (rules.cover g.now.depth)
-        (rules.stmt g.now.depth nested_item) (rules.parameters g.now.depth)
+        (members.behind_accessed_key (rules.expr (G.depth g.now)) (rules.cover (G.depth g.now))
+        (rules.stmt (G.depth g.now) nested_item) (rules.parameters (G.depth g.now))
         (leading_of T.decorator_of leading) begin.is_static begin.start begin.first accessor word
         (member_key_of T.expr_of key) (P.seen p.old)) result (P.seen p.new) }
 {
@@ -121,26 +104,18 @@ fn behind_accessed_key<
 
 /// What begins with a key, and may be a field.
 #[tactic(auto, unfolding(swc_ecma_parser_reader::specs::Members::accessed_key))]
-fn accessed_key<
-    P: Cursor,
-    T: BuildsClass + BuildsPattern,
-    S: Fn(&MakerOf<T>, &mut P, usize, Position) -> PResult<T::Stmt>,
-    E: Fn(&MakerOf<T>, &mut P, usize, Reading) -> PResult<Cover<T::Expr>>,
-    N: Fn(&MakerOf<T>, &mut P, usize, Part) -> PResult<T::Pat>,
->(
-    g: &Grammar<S, E, N>,
+fn accessed_key<P: Cursor, T: BuildsClass + BuildsPattern, G: Readers<P, T>>(
+    g: &G,
     t: &MakerOf<T>,
     p: &mut P,
     leading: Leading<T::Decorator>,
     begin: Begin,
     accessor: Span,
 ) -> PResult<T::Member>
-    requires { Nests P.seen T.expr_of T.pat_of T.stmt_of g.now.depth
-        (S.pre g.now.stmt) (S.post g.now.stmt) (E.pre g.now.expr) (E.post g.now.expr)
-        (N.pre g.now.pat) (N.post g.now.pat) }
+    requires { G.ready g.now }
     ensures { GivesAs T.member_of
-        (members.accessed_key (rules.expr g.now.depth) (rules.cover g.now.depth)
-        (rules.stmt g.now.depth nested_item) (rules.parameters g.now.depth)
+        (members.accessed_key (rules.expr (G.depth g.now)) (rules.cover (G.depth g.now))
+        (rules.stmt (G.depth g.now) nested_item) (rules.parameters (G.depth g.now))
         (leading_of T.decorator_of leading) begin.is_static begin.start begin.first accessor
         (P.seen p.old)) result (P.seen p.new) }
 {
@@ -151,26 +126,18 @@ fn accessed_key<
 
 /// What stands behind `accessor`.
 #[tactic(auto, unfolding(swc_ecma_parser_reader::specs::Members::accessed))]
-fn accessed<
-    P: Cursor,
-    T: BuildsClass + BuildsPattern,
-    S: Fn(&MakerOf<T>, &mut P, usize, Position) -> PResult<T::Stmt>,
-    E: Fn(&MakerOf<T>, &mut P, usize, Reading) -> PResult<Cover<T::Expr>>,
-    N: Fn(&MakerOf<T>, &mut P, usize, Part) -> PResult<T::Pat>,
->(
-    g: &Grammar<S, E, N>,
+fn accessed<P: Cursor, T: BuildsClass + BuildsPattern, G: Readers<P, T>>(
+    g: &G,
     t: &MakerOf<T>,
     p: &mut P,
     leading: Leading<T::Decorator>,
     begin: Begin,
     accessor: Span,
 ) -> PResult<T::Member>
-    requires { Nests P.seen T.expr_of T.pat_of T.stmt_of g.now.depth
-        (S.pre g.now.stmt) (S.post g.now.stmt) (E.pre g.now.expr) (E.post g.now.expr)
-        (N.pre g.now.pat) (N.post g.now.pat) }
+    requires { G.ready g.now }
     ensures { GivesAs T.member_of
-        (members.accessed (rules.expr g.now.depth) (rules.cover g.now.depth)
-        (rules.stmt g.now.depth nested_item) (rules.parameters g.now.depth)
+        (members.accessed (rules.expr (G.depth g.now)) (rules.cover (G.depth g.now))
+        (rules.stmt (G.depth g.now) nested_item) (rules.parameters (G.depth g.now))
         (leading_of T.decorator_of leading) begin.is_static begin.start begin.first accessor
         (P.seen p.old)) result (P.seen p.new) }
 {
@@ -189,25 +156,17 @@ fn accessed<
 /// A member with the word `accessor`, from that word on.
 #[tactic(auto, unfolding(swc_ecma_parser_reader::specs::Members::accessor_member))]
 #[inline(never)]
-pub(crate) fn accessor_member<
-    P: Cursor,
-    T: BuildsClass + BuildsPattern,
-    S: Fn(&MakerOf<T>, &mut P, usize, Position) -> PResult<T::Stmt>,
-    E: Fn(&MakerOf<T>, &mut P, usize, Reading) -> PResult<Cover<T::Expr>>,
-    N: Fn(&MakerOf<T>, &mut P, usize, Part) -> PResult<T::Pat>,
->(
-    g: &Grammar<S, E, N>,
+pub(crate) fn accessor_member<P: Cursor, T: BuildsClass + BuildsPattern, G: Readers<P, T>>(
+    g: &G,
     t: &MakerOf<T>,
     p: &mut P,
     leading: Leading<T::Decorator>,
     begin: Begin,
 ) -> PResult<T::Member>
-    requires { Nests P.seen T.expr_of T.pat_of T.stmt_of g.now.depth
-        (S.pre g.now.stmt) (S.post g.now.stmt) (E.pre g.now.expr) (E.post g.now.expr)
-        (N.pre g.now.pat) (N.post g.now.pat) }
+    requires { G.ready g.now }
     ensures { GivesAs T.member_of
-        (members.accessor_member (rules.expr g.now.depth) (rules.cover g.now.depth)
-        (rules.stmt g.now.depth nested_item) (rules.parameters g.now.depth)
+        (members.accessor_member (rules.expr (G.depth g.now)) (rules.cover (G.depth g.now))
+        (rules.stmt (G.depth g.now) nested_item) (rules.parameters (G.depth g.now))
         (leading_of T.decorator_of leading) begin.is_static begin.start begin.first (P.seen p.old))
         result (P.seen p.new) }
 {

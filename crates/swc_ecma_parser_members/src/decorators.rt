@@ -1,7 +1,6 @@
 //! Decorators, one behind another, also before it is known whose they are: the proposal of decorators.
 
 ghost use Rattle.std.specs.Prelude.{◌≡◌, [], map};
-ghost use Rattle.swc_ecma_parser_shared.specs.Nests.{Nests};
 ghost use Rattle.swc_ecma_parser_members.specs.Leading.{leading_of};
 ghost use Rattle.swc_ecma_parser_reader.specs.DecoratorLevels as levels;
 ghost use Rattle.swc_ecma_parser_reader.specs.Decorators as decorators;
@@ -11,46 +10,37 @@ use std::alloc::Global;
 use swc_ecma_parser_common::Span;
 use swc_ecma_parser_cursor::Cursor;
 use swc_ecma_parser_error::{PResult, SyntaxError};
-use swc_ecma_parser_grammar::Position;
-use swc_ecma_parser_shared::cover::{Cover, Reading};
+use swc_ecma_parser_shared::cover::Reading;
 use swc_ecma_parser_shared::found::{found_module_item, set_found_module_item};
-use swc_ecma_parser_shared::grammar::{Grammar, Part};
+use swc_ecma_parser_shared::readers::Readers;
 use swc_ecma_parser_shared::steps::{grown, pushed, since};
 use swc_ecma_parser_token::TokenKind;
 use swc_ecma_parser_trees::{BuildsFunction, MakerOf, Trees};
 
 /// What stands behind `@`, which the reader of expressions reads one level further in.
-fn decorated<
-    P: Cursor,
-    T: Trees,
-    S: Fn(&MakerOf<T>, &mut P, usize, Position) -> PResult<T::Stmt>,
-    E: Fn(&MakerOf<T>, &mut P, usize, Reading) -> PResult<Cover<T::Expr>>,
-    N: Fn(&MakerOf<T>, &mut P, usize, Part) -> PResult<T::Pat>,
->(g: &Grammar<S, E, N>, t: &MakerOf<T>, p: &mut P) -> PResult<T::Expr>
-    requires { Nests P.seen T.expr_of T.pat_of T.stmt_of g.now.depth
-        (S.pre g.now.stmt) (S.post g.now.stmt) (E.pre g.now.expr) (E.post g.now.expr)
-        (N.pre g.now.pat) (N.post g.now.pat) }
-    ensures { GivesAs T.expr_of (levels.decorated_in g.now.depth (P.seen p.old)) result
+fn decorated<P: Cursor, T: Trees, G: Readers<P, T>>(
+    g: &G,
+    t: &MakerOf<T>,
+    p: &mut P,
+) -> PResult<T::Expr>
+    requires { G.ready g.now }
+    ensures { GivesAs T.expr_of (levels.decorated_in (G.depth g.now) (P.seen p.old)) result
         (P.seen p.new) }
 {
-    let found = (g.expr)(t, p, g.depth, Reading::Decorated)?;
+    let found = g.expr(t, p, Reading::Decorated)?;
     Ok(found.tree)
 }
 
 /// One decorator, from `@` on.
 #[tactic(auto, unfolding(swc_ecma_parser_reader::specs::Decorators::decorator))]
-fn decorator<
-    P: Cursor,
-    T: BuildsFunction,
-    S: Fn(&MakerOf<T>, &mut P, usize, Position) -> PResult<T::Stmt>,
-    E: Fn(&MakerOf<T>, &mut P, usize, Reading) -> PResult<Cover<T::Expr>>,
-    N: Fn(&MakerOf<T>, &mut P, usize, Part) -> PResult<T::Pat>,
->(g: &Grammar<S, E, N>, t: &MakerOf<T>, p: &mut P) -> PResult<T::Decorator>
-    requires { Nests P.seen T.expr_of T.pat_of T.stmt_of g.now.depth
-        (S.pre g.now.stmt) (S.post g.now.stmt) (E.pre g.now.expr) (E.post g.now.expr)
-        (N.pre g.now.pat) (N.post g.now.pat) }
+fn decorator<P: Cursor, T: BuildsFunction, G: Readers<P, T>>(
+    g: &G,
+    t: &MakerOf<T>,
+    p: &mut P,
+) -> PResult<T::Decorator>
+    requires { G.ready g.now }
     ensures { GivesAs T.decorator_of
-        (decorators.decorator (levels.decorated_in g.now.depth) (P.seen p.old)) result
+        (decorators.decorator (levels.decorated_in (G.depth g.now)) (P.seen p.old)) result
         (P.seen p.new) }
 {
     let start = p.span();
@@ -63,18 +53,14 @@ fn decorator<
 /// Decorators one behind another, where the setting has them.
 #[tactic(auto, using(swc_ecma_parser_reader::proofs::decorators::Loops::decorators_done))]
 #[inline(never)]
-fn all_decorators<
-    P: Cursor,
-    T: BuildsFunction,
-    S: Fn(&MakerOf<T>, &mut P, usize, Position) -> PResult<T::Stmt>,
-    E: Fn(&MakerOf<T>, &mut P, usize, Reading) -> PResult<Cover<T::Expr>>,
-    N: Fn(&MakerOf<T>, &mut P, usize, Part) -> PResult<T::Pat>,
->(g: &Grammar<S, E, N>, t: &MakerOf<T>, p: &mut P) -> PResult<Vec<T::Decorator>>
-    requires { Nests P.seen T.expr_of T.pat_of T.stmt_of g.now.depth
-        (S.pre g.now.stmt) (S.post g.now.stmt) (E.pre g.now.expr) (E.post g.now.expr)
-        (N.pre g.now.pat) (N.post g.now.pat) }
+fn all_decorators<P: Cursor, T: BuildsFunction, G: Readers<P, T>>(
+    g: &G,
+    t: &MakerOf<T>,
+    p: &mut P,
+) -> PResult<Vec<T::Decorator>>
+    requires { G.ready g.now }
     ensures { GivesAs (λ found. map T.decorator_of found.items)
-        (loop (decorators.decorators_turn (levels.decorated_in g.now.depth)) [] (P.seen p.old))
+        (loop (decorators.decorators_turn (levels.decorated_in (G.depth g.now))) [] (P.seen p.old))
         result (P.seen p.new) }
 {
     let mut found = Vec::new(t.alloc);
@@ -87,18 +73,14 @@ fn all_decorators<
 
 /// The decorators that stand here, if any do and the setting has them.
 #[tactic(auto, unfolding(swc_ecma_parser_reader::specs::Decorators::decorators))]
-pub fn decorators<
-    P: Cursor,
-    T: BuildsFunction,
-    S: Fn(&MakerOf<T>, &mut P, usize, Position) -> PResult<T::Stmt>,
-    E: Fn(&MakerOf<T>, &mut P, usize, Reading) -> PResult<Cover<T::Expr>>,
-    N: Fn(&MakerOf<T>, &mut P, usize, Part) -> PResult<T::Pat>,
->(g: &Grammar<S, E, N>, t: &MakerOf<T>, p: &mut P) -> PResult<Vec<T::Decorator>>
-    requires { Nests P.seen T.expr_of T.pat_of T.stmt_of g.now.depth
-        (S.pre g.now.stmt) (S.post g.now.stmt) (E.pre g.now.expr) (E.post g.now.expr)
-        (N.pre g.now.pat) (N.post g.now.pat) }
+pub fn decorators<P: Cursor, T: BuildsFunction, G: Readers<P, T>>(
+    g: &G,
+    t: &MakerOf<T>,
+    p: &mut P,
+) -> PResult<Vec<T::Decorator>>
+    requires { G.ready g.now }
     ensures { GivesAs (λ found. map T.decorator_of found.items)
-        (levels.decorators_in g.now.depth (P.seen p.old)) result (P.seen p.new) }
+        (levels.decorators_in (G.depth g.now) (P.seen p.old)) result (P.seen p.new) }
 {
     if !p.decorators() {
         return Ok(Vec::new(t.alloc));
@@ -119,18 +101,14 @@ pub struct Leading<D> {
 /// The decorators that stand here, with what has to be known of them where nothing takes them.
 #[tactic(auto, unfolding(swc_ecma_parser_reader::specs::Decorators::leading))]
 #[inline(never)]
-pub fn leading_decorators<
-    P: Cursor,
-    T: BuildsFunction,
-    S: Fn(&MakerOf<T>, &mut P, usize, Position) -> PResult<T::Stmt>,
-    E: Fn(&MakerOf<T>, &mut P, usize, Reading) -> PResult<Cover<T::Expr>>,
-    N: Fn(&MakerOf<T>, &mut P, usize, Part) -> PResult<T::Pat>,
->(g: &Grammar<S, E, N>, t: &MakerOf<T>, p: &mut P) -> PResult<Leading<T::Decorator>>
-    requires { Nests P.seen T.expr_of T.pat_of T.stmt_of g.now.depth
-        (S.pre g.now.stmt) (S.post g.now.stmt) (E.pre g.now.expr) (E.post g.now.expr)
-        (N.pre g.now.pat) (N.post g.now.pat) }
+pub fn leading_decorators<P: Cursor, T: BuildsFunction, G: Readers<P, T>>(
+    g: &G,
+    t: &MakerOf<T>,
+    p: &mut P,
+) -> PResult<Leading<T::Decorator>>
+    requires { G.ready g.now }
     ensures { GivesAs (leading_of T.decorator_of)
-        (decorators.leading (levels.decorated_in g.now.depth) (P.seen p.old)) result
+        (decorators.leading (levels.decorated_in (G.depth g.now)) (P.seen p.old)) result
         (P.seen p.new) }
 {
     let module_found = found_module_item(t.alloc, p);

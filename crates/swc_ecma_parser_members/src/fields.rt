@@ -3,7 +3,6 @@
 ghost use Rattle.std.specs.Prelude.{◌≡◌, true, false, map, IfOk};
 ghost use Rattle.swc_ecma_parser_members.specs.Keys.{member_key_of};
 ghost use Rattle.swc_ecma_parser_grammar.specs.language.Classes.{field_member};
-ghost use Rattle.swc_ecma_parser_shared.specs.Nests.{Nests};
 ghost use Rattle.swc_ecma_parser_model.specs.Tree.{listed};
 ghost use Rattle.swc_ecma_parser_reader.specs.Members as members;
 ghost use Rattle.swc_ecma_parser_reader.specs.Reader as rules;
@@ -15,11 +14,11 @@ use std::alloc::{AllocError, Global};
 use swc_ecma_parser_common::Span;
 use swc_ecma_parser_cursor::{Cursor, Wanted};
 use swc_ecma_parser_error::{PResult, SyntaxError};
-use swc_ecma_parser_grammar::{Class, Position};
-use swc_ecma_parser_shared::cover::{Cover, Reading, inside};
+use swc_ecma_parser_grammar::Class;
+use swc_ecma_parser_shared::cover::inside;
 use swc_ecma_parser_shared::ends::{can_end, ends_at};
-use swc_ecma_parser_shared::grammar::{Grammar, Part};
 use swc_ecma_parser_shared::keys::made_key;
+use swc_ecma_parser_shared::readers::Readers;
 use swc_ecma_parser_shared::steps::{grown, since};
 use swc_ecma_parser_token::TokenKind;
 use swc_ecma_parser_trees::{BuildsClass, MakerOf, Trees};
@@ -53,19 +52,15 @@ fn field_named<P: Cursor, T: Trees>(p: &mut P, key: &MemberKey<T::Expr>) -> PRes
 
 /// `=` and what stands behind it, if it stands here.
 #[tactic(auto, unfolding(swc_ecma_parser_reader::specs::Members::field_value))]
-fn field_value<
-    P: Cursor,
-    T: BuildsClass,
-    S: Fn(&MakerOf<T>, &mut P, usize, Position) -> PResult<T::Stmt>,
-    E: Fn(&MakerOf<T>, &mut P, usize, Reading) -> PResult<Cover<T::Expr>>,
-    N: Fn(&MakerOf<T>, &mut P, usize, Part) -> PResult<T::Pat>,
->(g: &Grammar<S, E, N>, t: &MakerOf<T>, p: &mut P) -> PResult<Option<T::Expr>>
-    requires { Nests P.seen T.expr_of T.pat_of T.stmt_of g.now.depth
-        (S.pre g.now.stmt) (S.post g.now.stmt) (E.pre g.now.expr) (E.post g.now.expr)
-        (N.pre g.now.pat) (N.post g.now.pat) }
+fn field_value<P: Cursor, T: BuildsClass, G: Readers<P, T>>(
+    g: &G,
+    t: &MakerOf<T>,
+    p: &mut P,
+) -> PResult<Option<T::Expr>>
+    requires { G.ready g.now }
     ensures { GivesAs (part_of T.expr_of)
-        (members.field_value (rules.expr g.now.depth) (rules.cover g.now.depth) (P.seen p.old))
-        result (P.seen p.new) }
+        (members.field_value (rules.expr (G.depth g.now)) (rules.cover (G.depth g.now))
+        (P.seen p.old)) result (P.seen p.new) }
 {
     if !p.sees(TokenKind::Assign) {
         return Ok(None);
@@ -156,25 +151,17 @@ fn made_field<T: BuildsClass>(
 
 /// A field that goes on as one.
 #[tactic(auto, unfolding(swc_ecma_parser_reader::specs::Members::field_from))]
-fn field_from<
-    P: Cursor,
-    T: BuildsClass,
-    S: Fn(&MakerOf<T>, &mut P, usize, Position) -> PResult<T::Stmt>,
-    E: Fn(&MakerOf<T>, &mut P, usize, Reading) -> PResult<Cover<T::Expr>>,
-    N: Fn(&MakerOf<T>, &mut P, usize, Part) -> PResult<T::Pat>,
->(
-    g: &Grammar<S, E, N>,
+fn field_from<P: Cursor, T: BuildsClass, G: Readers<P, T>>(
+    g: &G,
     t: &MakerOf<T>,
     p: &mut P,
     head: FieldHead,
     decorators: Vec<T::Decorator>,
     key: MemberKey<T::Expr>,
 ) -> PResult<T::Member>
-    requires { Nests P.seen T.expr_of T.pat_of T.stmt_of g.now.depth
-        (S.pre g.now.stmt) (S.post g.now.stmt) (E.pre g.now.expr) (E.post g.now.expr)
-        (N.pre g.now.pat) (N.post g.now.pat) }
+    requires { G.ready g.now }
     ensures { GivesAs T.member_of
-        (members.field_from (rules.expr g.now.depth) (rules.cover g.now.depth)
+        (members.field_from (rules.expr (G.depth g.now)) (rules.cover (G.depth g.now))
         (map T.decorator_of decorators.items) head.is_static head.is_accessor head.start
         (member_key_of T.expr_of key) (P.seen p.old)) result (P.seen p.new) }
 {
@@ -189,25 +176,17 @@ fn field_from<
 /// A field, from behind its key.
 #[tactic(auto, unfolding(swc_ecma_parser_reader::specs::Members::field))]
 #[inline(never)]
-pub(crate) fn field<
-    P: Cursor,
-    T: BuildsClass,
-    S: Fn(&MakerOf<T>, &mut P, usize, Position) -> PResult<T::Stmt>,
-    E: Fn(&MakerOf<T>, &mut P, usize, Reading) -> PResult<Cover<T::Expr>>,
-    N: Fn(&MakerOf<T>, &mut P, usize, Part) -> PResult<T::Pat>,
->(
-    g: &Grammar<S, E, N>,
+pub(crate) fn field<P: Cursor, T: BuildsClass, G: Readers<P, T>>(
+    g: &G,
     t: &MakerOf<T>,
     p: &mut P,
     head: FieldHead,
     decorators: Vec<T::Decorator>,
     key: MemberKey<T::Expr>,
 ) -> PResult<T::Member>
-    requires { Nests P.seen T.expr_of T.pat_of T.stmt_of g.now.depth
-        (S.pre g.now.stmt) (S.post g.now.stmt) (E.pre g.now.expr) (E.post g.now.expr)
-        (N.pre g.now.pat) (N.post g.now.pat) }
+    requires { G.ready g.now }
     ensures { GivesAs T.member_of
-        (members.field (rules.expr g.now.depth) (rules.cover g.now.depth)
+        (members.field (rules.expr (G.depth g.now)) (rules.cover (G.depth g.now))
         (map T.decorator_of decorators.items) head.is_static head.is_accessor head.start
         (member_key_of T.expr_of key) (P.seen p.old)) result (P.seen p.new) }
 {

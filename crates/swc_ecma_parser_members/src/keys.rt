@@ -3,7 +3,6 @@
 ghost use Rattle.std.specs.Prelude.{◌≡◌};
 ghost use Rattle.swc_ecma_parser_members.specs.Keys.{member_key_of};
 ghost use Rattle.swc_ecma_parser_shared.specs.Keys.{key_of, private_of};
-ghost use Rattle.swc_ecma_parser_shared.specs.Nests.{Nests};
 ghost use Rattle.swc_ecma_parser_model.specs.Forms as forms;
 ghost use Rattle.swc_ecma_parser_reader.specs.Jumps.{told};
 ghost use Rattle.swc_ecma_parser_reader.specs.Members as members;
@@ -13,11 +12,9 @@ ghost use Rattle.swc_ecma_parser_reader.specs.State.{Gives, GivesAs};
 use swc_ecma_parser_common::Span;
 use swc_ecma_parser_cursor::Cursor;
 use swc_ecma_parser_error::{PResult, SyntaxError};
-use swc_ecma_parser_grammar::Position;
 use swc_ecma_parser_model::PrivateName;
-use swc_ecma_parser_shared::cover::{Cover, Reading};
-use swc_ecma_parser_shared::grammar::{Grammar, Part};
 use swc_ecma_parser_shared::keys::{Key, private_name, property_key};
+use swc_ecma_parser_shared::readers::Readers;
 use swc_ecma_parser_shared::steps::told_if;
 use swc_ecma_parser_token::TokenKind;
 use swc_ecma_parser_trees::{MakerOf, Trees};
@@ -82,19 +79,15 @@ fn private_faults<P: Cursor>(p: &mut P, name: &PrivateName) -> PResult<()>
 
 /// A private name as a key.
 #[tactic(auto, unfolding(swc_ecma_parser_reader::specs::Members::private_key))]
-fn private_key<
-    P: Cursor,
-    T: Trees,
-    S: Fn(&MakerOf<T>, &mut P, usize, Position) -> PResult<T::Stmt>,
-    E: Fn(&MakerOf<T>, &mut P, usize, Reading) -> PResult<Cover<T::Expr>>,
-    N: Fn(&MakerOf<T>, &mut P, usize, Part) -> PResult<T::Pat>,
->(g: &Grammar<S, E, N>, t: &MakerOf<T>, p: &mut P) -> PResult<MemberKey<T::Expr>>
-    requires { Nests P.seen T.expr_of T.pat_of T.stmt_of g.now.depth
-        (S.pre g.now.stmt) (S.post g.now.stmt) (E.pre g.now.expr) (E.post g.now.expr)
-        (N.pre g.now.pat) (N.post g.now.pat) }
+fn private_key<P: Cursor, T: Trees, G: Readers<P, T>>(
+    g: &G,
+    t: &MakerOf<T>,
+    p: &mut P,
+) -> PResult<MemberKey<T::Expr>>
+    requires { G.ready g.now }
     ensures { GivesAs (member_key_of T.expr_of)
-        (members.private_key (rules.expr g.now.depth) (rules.cover g.now.depth) (P.seen p.old))
-        result (P.seen p.new) }
+        (members.private_key (rules.expr (G.depth g.now)) (rules.cover (G.depth g.now))
+        (P.seen p.old)) result (P.seen p.new) }
 {
     let name = private_name(p)?;
     private_faults(p, &name)?;
@@ -104,19 +97,15 @@ fn private_key<
 /// The key of a member.
 #[tactic(auto, unfolding(swc_ecma_parser_reader::specs::Members::member_key))]
 #[inline(never)]
-pub(crate) fn member_key<
-    P: Cursor,
-    T: Trees,
-    S: Fn(&MakerOf<T>, &mut P, usize, Position) -> PResult<T::Stmt>,
-    E: Fn(&MakerOf<T>, &mut P, usize, Reading) -> PResult<Cover<T::Expr>>,
-    N: Fn(&MakerOf<T>, &mut P, usize, Part) -> PResult<T::Pat>,
->(g: &Grammar<S, E, N>, t: &MakerOf<T>, p: &mut P) -> PResult<MemberKey<T::Expr>>
-    requires { Nests P.seen T.expr_of T.pat_of T.stmt_of g.now.depth
-        (S.pre g.now.stmt) (S.post g.now.stmt) (E.pre g.now.expr) (E.post g.now.expr)
-        (N.pre g.now.pat) (N.post g.now.pat) }
+pub(crate) fn member_key<P: Cursor, T: Trees, G: Readers<P, T>>(
+    g: &G,
+    t: &MakerOf<T>,
+    p: &mut P,
+) -> PResult<MemberKey<T::Expr>>
+    requires { G.ready g.now }
     ensures { GivesAs (member_key_of T.expr_of)
-        (members.member_key (rules.expr g.now.depth) (rules.cover g.now.depth) (P.seen p.old))
-        result (P.seen p.new) }
+        (members.member_key (rules.expr (G.depth g.now)) (rules.cover (G.depth g.now))
+        (P.seen p.old)) result (P.seen p.new) }
 {
     if p.sees(TokenKind::Hash) {
         return private_key(g, t, p);

@@ -4,7 +4,6 @@ ghost use Rattle.swc_ecma_parser_members.specs.Keys.{member_key_of};
 ghost use Rattle.swc_ecma_parser_members.specs.Leading.{leading_of};
 ghost use Rattle.swc_ecma_parser_functions.specs.Methods.{form_of};
 ghost use Rattle.swc_ecma_parser_grammar.specs.language.Items.{nested_item};
-ghost use Rattle.swc_ecma_parser_shared.specs.Nests.{Nests};
 ghost use Rattle.swc_ecma_parser_reader.specs.DecoratorLevels as levels;
 ghost use Rattle.swc_ecma_parser_reader.specs.Members as members;
 ghost use Rattle.swc_ecma_parser_reader.specs.Reader as rules;
@@ -21,9 +20,7 @@ use swc_ecma_parser_classes::words::{
 };
 use swc_ecma_parser_cursor::Cursor;
 use swc_ecma_parser_error::PResult;
-use swc_ecma_parser_grammar::Position;
-use swc_ecma_parser_shared::cover::{Cover, Reading};
-use swc_ecma_parser_shared::grammar::{Grammar, Part};
+use swc_ecma_parser_shared::readers::Readers;
 use swc_ecma_parser_shared::steps::{grown, since};
 use swc_ecma_parser_token::TokenKind;
 use swc_ecma_parser_trees::{BuildsClass, BuildsFunction, BuildsPattern, MakerOf};
@@ -49,26 +46,18 @@ pub(crate) fn before_constructor<P: Cursor, T: BuildsFunction>(
 /// What stands behind a key.
 #[tactic(auto, unfolding(swc_ecma_parser_reader::specs::Members::behind_key))]
 #[inline(never)]
-fn behind_key<
-    P: Cursor,
-    T: BuildsClass + BuildsPattern,
-    S: Fn(&MakerOf<T>, &mut P, usize, Position) -> PResult<T::Stmt>,
-    E: Fn(&MakerOf<T>, &mut P, usize, Reading) -> PResult<Cover<T::Expr>>,
-    N: Fn(&MakerOf<T>, &mut P, usize, Part) -> PResult<T::Pat>,
->(
-    g: &Grammar<S, E, N>,
+fn behind_key<P: Cursor, T: BuildsClass + BuildsPattern, G: Readers<P, T>>(
+    g: &G,
     t: &MakerOf<T>,
     p: &mut P,
     leading: Leading<T::Decorator>,
     head: Head,
     key: MemberKey<T::Expr>,
 ) -> PResult<T::Member>
-    requires { Nests P.seen T.expr_of T.pat_of T.stmt_of g.now.depth
-        (S.pre g.now.stmt) (S.post g.now.stmt) (E.pre g.now.expr) (E.post g.now.expr)
-        (N.pre g.now.pat) (N.post g.now.pat) }
+    requires { G.ready g.now }
     ensures { GivesAs T.member_of
-        (members.behind_key (rules.expr g.now.depth) (rules.cover g.now.depth)
-        (rules.stmt g.now.depth nested_item) (rules.parameters g.now.depth)
+        (members.behind_key (rules.expr (G.depth g.now)) (rules.cover (G.depth g.now))
+        (rules.stmt (G.depth g.now) nested_item) (rules.parameters (G.depth g.now))
         (leading_of T.decorator_of leading) head.is_static (form_of head.form) head.start head.first
         head.word (member_key_of T.expr_of key) (P.seen p.old)) result (P.seen p.new) }
 {
@@ -95,25 +84,17 @@ fn behind_key<
 /// A member that has a key, from the words before it on.
 #[tactic(auto, unfolding(swc_ecma_parser_reader::specs::Members::keyed_member))]
 #[inline(never)]
-pub(crate) fn keyed_member<
-    P: Cursor,
-    T: BuildsClass + BuildsPattern,
-    S: Fn(&MakerOf<T>, &mut P, usize, Position) -> PResult<T::Stmt>,
-    E: Fn(&MakerOf<T>, &mut P, usize, Reading) -> PResult<Cover<T::Expr>>,
-    N: Fn(&MakerOf<T>, &mut P, usize, Part) -> PResult<T::Pat>,
->(
-    g: &Grammar<S, E, N>,
+pub(crate) fn keyed_member<P: Cursor, T: BuildsClass + BuildsPattern, G: Readers<P, T>>(
+    g: &G,
     t: &MakerOf<T>,
     p: &mut P,
     leading: Leading<T::Decorator>,
     begin: Begin,
 ) -> PResult<T::Member>
-    requires { Nests P.seen T.expr_of T.pat_of T.stmt_of g.now.depth
-        (S.pre g.now.stmt) (S.post g.now.stmt) (E.pre g.now.expr) (E.post g.now.expr)
-        (N.pre g.now.pat) (N.post g.now.pat) }
+    requires { G.ready g.now }
     ensures { GivesAs T.member_of
-        (members.keyed_member (rules.expr g.now.depth) (rules.cover g.now.depth)
-        (rules.stmt g.now.depth nested_item) (rules.parameters g.now.depth)
+        (members.keyed_member (rules.expr (G.depth g.now)) (rules.cover (G.depth g.now))
+        (rules.stmt (G.depth g.now) nested_item) (rules.parameters (G.depth g.now))
         (leading_of T.decorator_of leading) begin.is_static begin.start begin.first (P.seen p.old))
         result (P.seen p.new) }
 {
@@ -132,25 +113,17 @@ pub(crate) fn keyed_member<
 
 /// A member, from behind `static` if it stands there.
 #[tactic(auto, unfolding(swc_ecma_parser_reader::specs::Members::behind_static))]
-fn behind_static<
-    P: Cursor,
-    T: BuildsClass + BuildsPattern,
-    S: Fn(&MakerOf<T>, &mut P, usize, Position) -> PResult<T::Stmt>,
-    E: Fn(&MakerOf<T>, &mut P, usize, Reading) -> PResult<Cover<T::Expr>>,
-    N: Fn(&MakerOf<T>, &mut P, usize, Part) -> PResult<T::Pat>,
->(
-    g: &Grammar<S, E, N>,
+fn behind_static<P: Cursor, T: BuildsClass + BuildsPattern, G: Readers<P, T>>(
+    g: &G,
     t: &MakerOf<T>,
     p: &mut P,
     leading: Leading<T::Decorator>,
     begin: Begin,
 ) -> PResult<T::Member>
-    requires { Nests P.seen T.expr_of T.pat_of T.stmt_of g.now.depth
-        (S.pre g.now.stmt) (S.post g.now.stmt) (E.pre g.now.expr) (E.post g.now.expr)
-        (N.pre g.now.pat) (N.post g.now.pat) }
+    requires { G.ready g.now }
     ensures { GivesAs T.member_of
-        (members.behind_static (rules.expr g.now.depth) (rules.cover g.now.depth)
-        (rules.stmt g.now.depth nested_item) (rules.parameters g.now.depth)
+        (members.behind_static (rules.expr (G.depth g.now)) (rules.cover (G.depth g.now))
+        (rules.stmt (G.depth g.now) nested_item) (rules.parameters (G.depth g.now))
         (leading_of T.decorator_of leading) begin.is_static begin.start begin.first (P.seen p.old))
         result (P.seen p.new) }
 {
@@ -170,20 +143,16 @@ fn behind_static<
 
 /// A member that is more than a `;`.
 #[tactic(auto, unfolding(swc_ecma_parser_reader::specs::Members::full_member))]
-fn full_member<
-    P: Cursor,
-    T: BuildsClass + BuildsPattern,
-    S: Fn(&MakerOf<T>, &mut P, usize, Position) -> PResult<T::Stmt>,
-    E: Fn(&MakerOf<T>, &mut P, usize, Reading) -> PResult<Cover<T::Expr>>,
-    N: Fn(&MakerOf<T>, &mut P, usize, Part) -> PResult<T::Pat>,
->(g: &Grammar<S, E, N>, t: &MakerOf<T>, p: &mut P) -> PResult<T::Member>
-    requires { Nests P.seen T.expr_of T.pat_of T.stmt_of g.now.depth
-        (S.pre g.now.stmt) (S.post g.now.stmt) (E.pre g.now.expr) (E.post g.now.expr)
-        (N.pre g.now.pat) (N.post g.now.pat) }
+fn full_member<P: Cursor, T: BuildsClass + BuildsPattern, G: Readers<P, T>>(
+    g: &G,
+    t: &MakerOf<T>,
+    p: &mut P,
+) -> PResult<T::Member>
+    requires { G.ready g.now }
     ensures { GivesAs T.member_of
-        (members.full_member (rules.expr g.now.depth) (rules.cover g.now.depth)
-        (rules.stmt g.now.depth nested_item) (rules.parameters g.now.depth)
-        (levels.decorated_in g.now.depth) (P.seen p.old)) result (P.seen p.new) }
+        (members.full_member (rules.expr (G.depth g.now)) (rules.cover (G.depth g.now))
+        (rules.stmt (G.depth g.now) nested_item) (rules.parameters (G.depth g.now))
+        (levels.decorated_in (G.depth g.now)) (P.seen p.old)) result (P.seen p.new) }
 {
     let start = p.span();
     let leading = leading_decorators(g, t, p)?;
@@ -200,20 +169,16 @@ fn full_member<
 /// `;` by itself.
 #[tactic(auto, unfolding(swc_ecma_parser_reader::specs::Members::empty_member))]
 #[inline(never)]
-fn empty_member<
-    P: Cursor,
-    T: BuildsClass,
-    S: Fn(&MakerOf<T>, &mut P, usize, Position) -> PResult<T::Stmt>,
-    E: Fn(&MakerOf<T>, &mut P, usize, Reading) -> PResult<Cover<T::Expr>>,
-    N: Fn(&MakerOf<T>, &mut P, usize, Part) -> PResult<T::Pat>,
->(g: &Grammar<S, E, N>, t: &MakerOf<T>, p: &mut P) -> PResult<T::Member>
-    requires { Nests P.seen T.expr_of T.pat_of T.stmt_of g.now.depth
-        (S.pre g.now.stmt) (S.post g.now.stmt) (E.pre g.now.expr) (E.post g.now.expr)
-        (N.pre g.now.pat) (N.post g.now.pat) }
+fn empty_member<P: Cursor, T: BuildsClass, G: Readers<P, T>>(
+    g: &G,
+    t: &MakerOf<T>,
+    p: &mut P,
+) -> PResult<T::Member>
+    requires { G.ready g.now }
     ensures { GivesAs T.member_of
-        (members.empty_member (rules.expr g.now.depth) (rules.cover g.now.depth)
-        (rules.stmt g.now.depth nested_item) (rules.parameters g.now.depth) (P.seen p.old)) result
-        (P.seen p.new) }
+        (members.empty_member (rules.expr (G.depth g.now)) (rules.cover (G.depth g.now))
+        (rules.stmt (G.depth g.now) nested_item) (rules.parameters (G.depth g.now)) (P.seen p.old))
+        result (P.seen p.new) }
 {
     let start = p.span();
     p.skip()?;
@@ -223,20 +188,16 @@ fn empty_member<
 
 /// A member of a class.
 #[tactic(auto, unfolding(swc_ecma_parser_reader::specs::Members::member_level))]
-pub fn member_level<
-    P: Cursor,
-    T: BuildsClass + BuildsPattern,
-    S: Fn(&MakerOf<T>, &mut P, usize, Position) -> PResult<T::Stmt>,
-    E: Fn(&MakerOf<T>, &mut P, usize, Reading) -> PResult<Cover<T::Expr>>,
-    N: Fn(&MakerOf<T>, &mut P, usize, Part) -> PResult<T::Pat>,
->(g: &Grammar<S, E, N>, t: &MakerOf<T>, p: &mut P) -> PResult<T::Member>
-    requires { Nests P.seen T.expr_of T.pat_of T.stmt_of g.now.depth
-        (S.pre g.now.stmt) (S.post g.now.stmt) (E.pre g.now.expr) (E.post g.now.expr)
-        (N.pre g.now.pat) (N.post g.now.pat) }
+pub fn member_level<P: Cursor, T: BuildsClass + BuildsPattern, G: Readers<P, T>>(
+    g: &G,
+    t: &MakerOf<T>,
+    p: &mut P,
+) -> PResult<T::Member>
+    requires { G.ready g.now }
     ensures { GivesAs T.member_of
-        (members.member_level (rules.expr g.now.depth) (rules.cover g.now.depth)
-        (rules.stmt g.now.depth nested_item) (rules.parameters g.now.depth)
-        (levels.decorated_in g.now.depth) (P.seen p.old)) result (P.seen p.new) }
+        (members.member_level (rules.expr (G.depth g.now)) (rules.cover (G.depth g.now))
+        (rules.stmt (G.depth g.now) nested_item) (rules.parameters (G.depth g.now))
+        (levels.decorated_in (G.depth g.now)) (P.seen p.old)) result (P.seen p.new) }
 {
     if p.sees(TokenKind::Semi) {
         return empty_member(g, t, p);

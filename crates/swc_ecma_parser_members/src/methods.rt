@@ -11,7 +11,6 @@ ghost use Rattle.swc_ecma_parser_grammar.specs.Own as own;
 ghost use Rattle.swc_ecma_parser_grammar.specs.Own.{only};
 ghost use Rattle.swc_ecma_parser_grammar.specs.language.Items.{nested_item};
 ghost use Rattle.swc_ecma_parser_grammar.specs.language.Classes.{method_member};
-ghost use Rattle.swc_ecma_parser_shared.specs.Nests.{Nests};
 ghost use Rattle.swc_ecma_parser_model.specs.Forms as forms;
 ghost use Rattle.swc_ecma_parser_reader.specs.Jumps.{told};
 ghost use Rattle.swc_ecma_parser_reader.specs.Members as members;
@@ -28,13 +27,11 @@ use swc_ecma_parser_cursor::Cursor;
 use swc_ecma_parser_error::{PResult, SyntaxError};
 use swc_ecma_parser_functions::function::{FunctionBody, Manner, function_body, parameters_inside};
 use swc_ecma_parser_functions::methods::MethodForm;
-use swc_ecma_parser_grammar::Position;
 use swc_ecma_parser_input::Context;
 use swc_ecma_parser_model::MethodKind;
 use swc_ecma_parser_patterns::params::parameters;
-use swc_ecma_parser_shared::cover::{Cover, Reading};
-use swc_ecma_parser_shared::grammar::{Grammar, Part};
 use swc_ecma_parser_shared::keys::made_key;
+use swc_ecma_parser_shared::readers::Readers;
 use swc_ecma_parser_shared::steps::{grown, since, told_if};
 use swc_ecma_parser_trees::{BuildsClass, BuildsPattern, MakerOf, Trees};
 
@@ -160,26 +157,18 @@ fn parameter_faults<P: Cursor, T: BuildsPattern>(
 /// The function of a method, from behind its key.
 #[tactic(auto, unfolding(swc_ecma_parser_reader::specs::Members::method_parts))]
 #[inline(never)]
-fn method_parts<
-    P: Cursor,
-    T: BuildsClass + BuildsPattern,
-    S: Fn(&MakerOf<T>, &mut P, usize, Position) -> PResult<T::Stmt>,
-    E: Fn(&MakerOf<T>, &mut P, usize, Reading) -> PResult<Cover<T::Expr>>,
-    N: Fn(&MakerOf<T>, &mut P, usize, Part) -> PResult<T::Pat>,
->(
-    g: &Grammar<S, E, N>,
+fn method_parts<P: Cursor, T: BuildsClass + BuildsPattern, G: Readers<P, T>>(
+    g: &G,
     t: &MakerOf<T>,
     p: &mut P,
     head: Head,
     decorators: Vec<T::Decorator>,
 ) -> PResult<T::Function>
-    requires { Nests P.seen T.expr_of T.pat_of T.stmt_of g.now.depth
-        (S.pre g.now.stmt) (S.post g.now.stmt) (E.pre g.now.expr) (E.post g.now.expr)
-        (N.pre g.now.pat) (N.post g.now.pat) }
+    requires { G.ready g.now }
     ensures { GivesAs T.function_of
-        (members.method_parts (rules.stmt g.now.depth nested_item) (rules.parameters g.now.depth)
-        (map T.decorator_of decorators.items) (form_of head.form) head.start head.word
-        (P.seen p.old)) result (P.seen p.new) }
+        (members.method_parts (rules.stmt (G.depth g.now) nested_item)
+        (rules.parameters (G.depth g.now)) (map T.decorator_of decorators.items) (form_of head.form)
+        head.start head.word (P.seen p.old)) result (P.seen p.new) }
 {
     let manner = manner_of(head.form);
     let pats = parameters_inside(g, t, p, manner)?;
@@ -280,25 +269,17 @@ fn made_method<T: BuildsClass>(
 /// A method that is no constructor, from behind its key.
 #[tactic(auto, unfolding(swc_ecma_parser_reader::specs::Members::method))]
 #[inline(never)]
-pub(crate) fn method<
-    P: Cursor,
-    T: BuildsClass + BuildsPattern,
-    S: Fn(&MakerOf<T>, &mut P, usize, Position) -> PResult<T::Stmt>,
-    E: Fn(&MakerOf<T>, &mut P, usize, Reading) -> PResult<Cover<T::Expr>>,
-    N: Fn(&MakerOf<T>, &mut P, usize, Part) -> PResult<T::Pat>,
->(
-    g: &Grammar<S, E, N>,
+pub(crate) fn method<P: Cursor, T: BuildsClass + BuildsPattern, G: Readers<P, T>>(
+    g: &G,
     t: &MakerOf<T>,
     p: &mut P,
     head: Head,
     decorators: Vec<T::Decorator>,
     key: MemberKey<T::Expr>,
 ) -> PResult<T::Member>
-    requires { Nests P.seen T.expr_of T.pat_of T.stmt_of g.now.depth
-        (S.pre g.now.stmt) (S.post g.now.stmt) (E.pre g.now.expr) (E.post g.now.expr)
-        (N.pre g.now.pat) (N.post g.now.pat) }
+    requires { G.ready g.now }
     ensures { GivesAs T.member_of
-        (members.method (rules.stmt g.now.depth nested_item) (rules.parameters g.now.depth)
+        (members.method (rules.stmt (G.depth g.now) nested_item) (rules.parameters (G.depth g.now))
         (map T.decorator_of decorators.items) head.is_static (form_of head.form) head.start
         head.word (member_key_of T.expr_of key) (P.seen p.old)) result (P.seen p.new) }
 {
@@ -337,20 +318,18 @@ fn unstatic<P: Cursor>(alloc: Global, p: &mut P, is_static: bool, first: Span) -
 /// A constructor, from behind its key.
 #[tactic(auto, unfolding(swc_ecma_parser_reader::specs::Members::constructor))]
 #[inline(never)]
-fn constructor<
-    P: Cursor,
-    T: BuildsClass + BuildsPattern,
-    S: Fn(&MakerOf<T>, &mut P, usize, Position) -> PResult<T::Stmt>,
-    E: Fn(&MakerOf<T>, &mut P, usize, Reading) -> PResult<Cover<T::Expr>>,
-    N: Fn(&MakerOf<T>, &mut P, usize, Part) -> PResult<T::Pat>,
->(g: &Grammar<S, E, N>, t: &MakerOf<T>, p: &mut P, begin: Begin, key: T::Key) -> PResult<T::Member>
-    requires { Nests P.seen T.expr_of T.pat_of T.stmt_of g.now.depth
-        (S.pre g.now.stmt) (S.post g.now.stmt) (E.pre g.now.expr) (E.post g.now.expr)
-        (N.pre g.now.pat) (N.post g.now.pat) }
+fn constructor<P: Cursor, T: BuildsClass + BuildsPattern, G: Readers<P, T>>(
+    g: &G,
+    t: &MakerOf<T>,
+    p: &mut P,
+    begin: Begin,
+    key: T::Key,
+) -> PResult<T::Member>
+    requires { G.ready g.now }
     ensures { GivesAs T.member_of
-        (members.constructor (rules.stmt g.now.depth nested_item) (rules.parameters g.now.depth)
-        begin.is_static begin.start begin.first (T.key_of key) (P.seen p.old)) result
-        (P.seen p.new) }
+        (members.constructor (rules.stmt (G.depth g.now) nested_item)
+        (rules.parameters (G.depth g.now)) begin.is_static begin.start begin.first (T.key_of key)
+        (P.seen p.old)) result (P.seen p.new) }
 {
     let pats = parameters(g, t, p)?;
     let body = function_body(g, t, p, PLAIN)?;
@@ -383,14 +362,8 @@ fn made_constructor<P: Cursor, T: BuildsClass + BuildsPattern>(
 /// A method or a constructor, where no word and no `*` stand before its key.
 #[tactic(auto, unfolding(swc_ecma_parser_reader::specs::Members::plain_method))]
 #[inline(never)]
-pub(crate) fn plain_method<
-    P: Cursor,
-    T: BuildsClass + BuildsPattern,
-    S: Fn(&MakerOf<T>, &mut P, usize, Position) -> PResult<T::Stmt>,
-    E: Fn(&MakerOf<T>, &mut P, usize, Reading) -> PResult<Cover<T::Expr>>,
-    N: Fn(&MakerOf<T>, &mut P, usize, Part) -> PResult<T::Pat>,
->(
-    g: &Grammar<S, E, N>,
+pub(crate) fn plain_method<P: Cursor, T: BuildsClass + BuildsPattern, G: Readers<P, T>>(
+    g: &G,
     t: &MakerOf<T>,
     p: &mut P,
     decorators: Vec<T::Decorator>,
@@ -398,13 +371,12 @@ pub(crate) fn plain_method<
     word: Span,
     key: MemberKey<T::Expr>,
 ) -> PResult<T::Member>
-    requires { Nests P.seen T.expr_of T.pat_of T.stmt_of g.now.depth
-        (S.pre g.now.stmt) (S.post g.now.stmt) (E.pre g.now.expr) (E.post g.now.expr)
-        (N.pre g.now.pat) (N.post g.now.pat) }
+    requires { G.ready g.now }
     ensures { GivesAs T.member_of
-        (members.plain_method (rules.stmt g.now.depth nested_item) (rules.parameters g.now.depth)
-        (map T.decorator_of decorators.items) begin.is_static begin.start begin.first word
-        (member_key_of T.expr_of key) (P.seen p.old)) result (P.seen p.new) }
+        (members.plain_method (rules.stmt (G.depth g.now) nested_item)
+        (rules.parameters (G.depth g.now)) (map T.decorator_of decorators.items) begin.is_static
+        begin.start begin.first word (member_key_of T.expr_of key) (P.seen p.old)) result
+        (P.seen p.new) }
 {
     let head = Head {
         is_static: begin.is_static,
@@ -439,19 +411,16 @@ fn in_static_block(flags: Context) -> Context
 /// The statements of a static block, which run with the class.
 #[tactic(auto, unfolding(swc_ecma_parser_reader::specs::Members::static_block))]
 #[inline(never)]
-pub(crate) fn static_block<
-    P: Cursor,
-    T: BuildsClass,
-    S: Fn(&MakerOf<T>, &mut P, usize, Position) -> PResult<T::Stmt>,
-    E: Fn(&MakerOf<T>, &mut P, usize, Reading) -> PResult<Cover<T::Expr>>,
-    N: Fn(&MakerOf<T>, &mut P, usize, Part) -> PResult<T::Pat>,
->(g: &Grammar<S, E, N>, t: &MakerOf<T>, p: &mut P, start: Span) -> PResult<T::Member>
-    requires { Nests P.seen T.expr_of T.pat_of T.stmt_of g.now.depth
-        (S.pre g.now.stmt) (S.post g.now.stmt) (E.pre g.now.expr) (E.post g.now.expr)
-        (N.pre g.now.pat) (N.post g.now.pat) }
+pub(crate) fn static_block<P: Cursor, T: BuildsClass, G: Readers<P, T>>(
+    g: &G,
+    t: &MakerOf<T>,
+    p: &mut P,
+    start: Span,
+) -> PResult<T::Member>
+    requires { G.ready g.now }
     ensures { GivesAs T.member_of
-        (members.static_block (rules.stmt g.now.depth nested_item) (rules.parameters g.now.depth)
-        start (P.seen p.old)) result (P.seen p.new) }
+        (members.static_block (rules.stmt (G.depth g.now) nested_item)
+        (rules.parameters (G.depth g.now)) start (P.seen p.old)) result (P.seen p.new) }
 {
     let outer = p.flags();
     p.set_flags(in_static_block(outer));
@@ -464,19 +433,17 @@ pub(crate) fn static_block<
 /// A static block behind a second `static`, which is a fault of the first.
 #[tactic(auto, unfolding(swc_ecma_parser_reader::specs::Members::second_static))]
 #[inline(never)]
-pub(crate) fn second_static<
-    P: Cursor,
-    T: BuildsClass,
-    S: Fn(&MakerOf<T>, &mut P, usize, Position) -> PResult<T::Stmt>,
-    E: Fn(&MakerOf<T>, &mut P, usize, Reading) -> PResult<Cover<T::Expr>>,
-    N: Fn(&MakerOf<T>, &mut P, usize, Part) -> PResult<T::Pat>,
->(g: &Grammar<S, E, N>, t: &MakerOf<T>, p: &mut P, begin: Begin) -> PResult<T::Member>
-    requires { Nests P.seen T.expr_of T.pat_of T.stmt_of g.now.depth
-        (S.pre g.now.stmt) (S.post g.now.stmt) (E.pre g.now.expr) (E.post g.now.expr)
-        (N.pre g.now.pat) (N.post g.now.pat) }
+pub(crate) fn second_static<P: Cursor, T: BuildsClass, G: Readers<P, T>>(
+    g: &G,
+    t: &MakerOf<T>,
+    p: &mut P,
+    begin: Begin,
+) -> PResult<T::Member>
+    requires { G.ready g.now }
     ensures { GivesAs T.member_of
-        (members.second_static (rules.stmt g.now.depth nested_item) (rules.parameters g.now.depth)
-        begin.start begin.first (P.seen p.old)) result (P.seen p.new) }
+        (members.second_static (rules.stmt (G.depth g.now) nested_item)
+        (rules.parameters (G.depth g.now)) begin.start begin.first (P.seen p.old)) result
+        (P.seen p.new) }
 {
     p.fault(SyntaxError::TS1184, begin.first)?;
     p.skip()?;

@@ -1,6 +1,5 @@
 //! What stands in parentheses, behind `async` too, and arrow functions that begin there: ECMA-262, sections 13.2.9, 15.3 and 15.9.
 
-ghost use Rattle.swc_ecma_parser_shared.specs.Nests.{Nests};
 ghost use Rattle.swc_ecma_parser_reader.specs.Arrows as arrows;
 ghost use Rattle.swc_ecma_parser_reader.specs.AsyncArrows as async_arrows;
 ghost use Rattle.swc_ecma_parser_reader.specs.Reader as rules;
@@ -10,14 +9,12 @@ use crate::assignment::continued;
 use swc_ecma_parser_arrows::arrows::arrow_from;
 use swc_ecma_parser_cursor::Cursor;
 use swc_ecma_parser_error::PResult;
-use swc_ecma_parser_grammar::Position;
 use swc_ecma_parser_left_sides::left::ident_expr;
 use swc_ecma_parser_parentheses::arguments::{argument_parameters, async_called, either_arguments};
 use swc_ecma_parser_parentheses::closed::closed_group;
 use swc_ecma_parser_parentheses::group::parenthesized;
 use swc_ecma_parser_parentheses::parameters::parameters_of;
-use swc_ecma_parser_shared::cover::{Cover, Reading};
-use swc_ecma_parser_shared::grammar::{Grammar, Part};
+use swc_ecma_parser_shared::readers::Readers;
 use swc_ecma_parser_token::TokenKind;
 use swc_ecma_parser_trees::{
     BuildsCall, BuildsExpr, BuildsMethod, BuildsOperator, BuildsPattern, MakerOf,
@@ -29,16 +26,12 @@ use swc_ecma_parser_trees::{
 pub(crate) fn grouped<
     P: Cursor,
     T: BuildsExpr + BuildsCall + BuildsMethod + BuildsOperator + BuildsPattern,
-    S: Fn(&MakerOf<T>, &mut P, usize, Position) -> PResult<T::Stmt>,
-    E: Fn(&MakerOf<T>, &mut P, usize, Reading) -> PResult<Cover<T::Expr>>,
-    N: Fn(&MakerOf<T>, &mut P, usize, Part) -> PResult<T::Pat>,
->(g: &Grammar<S, E, N>, t: &MakerOf<T>, p: &mut P) -> PResult<T::Expr>
-    requires { Nests P.seen T.expr_of T.pat_of T.stmt_of g.now.depth
-        (S.pre g.now.stmt) (S.post g.now.stmt) (E.pre g.now.expr) (E.post g.now.expr)
-        (N.pre g.now.pat) (N.post g.now.pat) }
+    G: Readers<P, T>,
+>(g: &G, t: &MakerOf<T>, p: &mut P) -> PResult<T::Expr>
+    requires { G.ready g.now }
     ensures { GivesAs T.expr_of
-        (arrows.grouped (rules.expr g.now.depth) (rules.function g.now.depth)
-        (rules.cover g.now.depth) (P.seen p.old)) result (P.seen p.new) }
+        (arrows.grouped (rules.expr (G.depth g.now)) (rules.function (G.depth g.now))
+        (rules.cover (G.depth g.now)) (P.seen p.old)) result (P.seen p.new) }
 {
     let start = p.span();
     let found = parenthesized(g, t, p)?;
@@ -57,16 +50,12 @@ pub(crate) fn grouped<
 pub(crate) fn async_grouped<
     P: Cursor,
     T: BuildsExpr + BuildsCall + BuildsMethod + BuildsOperator + BuildsPattern,
-    S: Fn(&MakerOf<T>, &mut P, usize, Position) -> PResult<T::Stmt>,
-    E: Fn(&MakerOf<T>, &mut P, usize, Reading) -> PResult<Cover<T::Expr>>,
-    N: Fn(&MakerOf<T>, &mut P, usize, Part) -> PResult<T::Pat>,
->(g: &Grammar<S, E, N>, t: &MakerOf<T>, p: &mut P) -> PResult<T::Expr>
-    requires { Nests P.seen T.expr_of T.pat_of T.stmt_of g.now.depth
-        (S.pre g.now.stmt) (S.post g.now.stmt) (E.pre g.now.expr) (E.post g.now.expr)
-        (N.pre g.now.pat) (N.post g.now.pat) }
+    G: Readers<P, T>,
+>(g: &G, t: &MakerOf<T>, p: &mut P) -> PResult<T::Expr>
+    requires { G.ready g.now }
     ensures { GivesAs T.expr_of
-        (async_arrows.async_grouped (rules.expr g.now.depth) (rules.function g.now.depth)
-        (rules.cover g.now.depth) (P.seen p.old)) result (P.seen p.new) }
+        (async_arrows.async_grouped (rules.expr (G.depth g.now)) (rules.function (G.depth g.now))
+        (rules.cover (G.depth g.now)) (P.seen p.old)) result (P.seen p.new) }
 {
     let start = p.span();
     let callee = ident_expr::<P, T>(t.alloc, p)?;

@@ -2,7 +2,6 @@
 
 ghost use Rattle.std.specs.Prelude.{◌≡◌, true};
 ghost use Rattle.swc_ecma_parser_shared.specs.Covers.{cover_of};
-ghost use Rattle.swc_ecma_parser_shared.specs.Nests.{Nests};
 ghost use Rattle.swc_ecma_parser_reader.specs.AwaitWords as words;
 ghost use Rattle.swc_ecma_parser_reader.specs.Expressions as exprs;
 ghost use Rattle.swc_ecma_parser_reader.specs.Expressions.{is_literal};
@@ -16,14 +15,14 @@ use swc_ecma_parser_arrows::awaits::awaited;
 use swc_ecma_parser_common::Span;
 use swc_ecma_parser_cursor::{Cursor, Wanted};
 use swc_ecma_parser_error::PResult;
-use swc_ecma_parser_grammar::{Class, Position};
+use swc_ecma_parser_grammar::Class;
 use swc_ecma_parser_left_sides::left::left_from;
 use swc_ecma_parser_literals::array::array;
 use swc_ecma_parser_literals::object::object;
 use swc_ecma_parser_model::AssignOp;
-use swc_ecma_parser_shared::cover::{Cover, Reading, close, done, nested, target};
-use swc_ecma_parser_shared::grammar::{Grammar, Part};
+use swc_ecma_parser_shared::cover::{Cover, close, done, nested, target};
 use swc_ecma_parser_shared::operators::{Operands, binary_from, operator_here};
+use swc_ecma_parser_shared::readers::Readers;
 use swc_ecma_parser_shared::steps::{grown, since};
 use swc_ecma_parser_token::TokenKind;
 use swc_ecma_parser_trees::{
@@ -43,19 +42,17 @@ fn goes_on<P: Cursor>(p: &P) -> bool
 
 /// What goes on with an array or object, or with what stands in parentheses, that was read from a place on.
 #[tactic(auto, unfolding(swc_ecma_parser_reader::specs::Expressions::continued, swc_ecma_parser_reader::specs::Expressions::postfixed))]
-pub(crate) fn continued<
-    P: Cursor,
-    T: BuildsCall + BuildsOperator,
-    S: Fn(&MakerOf<T>, &mut P, usize, Position) -> PResult<T::Stmt>,
-    E: Fn(&MakerOf<T>, &mut P, usize, Reading) -> PResult<Cover<T::Expr>>,
-    N: Fn(&MakerOf<T>, &mut P, usize, Part) -> PResult<T::Pat>,
->(g: &Grammar<S, E, N>, t: &MakerOf<T>, p: &mut P, start: Span, x: T::Expr) -> PResult<T::Expr>
-    requires { Nests P.seen T.expr_of T.pat_of T.stmt_of g.now.depth
-        (S.pre g.now.stmt) (S.post g.now.stmt) (E.pre g.now.expr) (E.post g.now.expr)
-        (N.pre g.now.pat) (N.post g.now.pat) }
+pub(crate) fn continued<P: Cursor, T: BuildsCall + BuildsOperator, G: Readers<P, T>>(
+    g: &G,
+    t: &MakerOf<T>,
+    p: &mut P,
+    start: Span,
+    x: T::Expr,
+) -> PResult<T::Expr>
+    requires { G.ready g.now }
     ensures { GivesAs (T.expr_of)
-        (exprs.continued (rules.expr g.now.depth) (rules.cover g.now.depth) start (T.expr_of x)
-        (P.seen p.old)) result (P.seen p.new) }
+        (exprs.continued (rules.expr (G.depth g.now)) (rules.cover (G.depth g.now)) start
+        (T.expr_of x) (P.seen p.old)) result (P.seen p.new) }
 {
     let x = left_from(g, t, p, true, start, x)?;
     let x = postfixed::<P, T>(t.alloc, p, start, x)?;
@@ -66,24 +63,16 @@ pub(crate) fn continued<
 /// An array or object, and what goes on with it.
 #[tactic(auto, unfolding(swc_ecma_parser_reader::specs::Expressions::closed))]
 #[inline(never)]
-fn closed<
-    P: Cursor,
-    T: BuildsCall + BuildsOperator,
-    S: Fn(&MakerOf<T>, &mut P, usize, Position) -> PResult<T::Stmt>,
-    E: Fn(&MakerOf<T>, &mut P, usize, Reading) -> PResult<Cover<T::Expr>>,
-    N: Fn(&MakerOf<T>, &mut P, usize, Part) -> PResult<T::Pat>,
->(
-    g: &Grammar<S, E, N>,
+fn closed<P: Cursor, T: BuildsCall + BuildsOperator, G: Readers<P, T>>(
+    g: &G,
     t: &MakerOf<T>,
     p: &mut P,
     start: Span,
     v: Cover<T::Expr>,
 ) -> PResult<Cover<T::Expr>>
-    requires { Nests P.seen T.expr_of T.pat_of T.stmt_of g.now.depth
-        (S.pre g.now.stmt) (S.post g.now.stmt) (E.pre g.now.expr) (E.post g.now.expr)
-        (N.pre g.now.pat) (N.post g.now.pat) }
+    requires { G.ready g.now }
     ensures { GivesAs (cover_of T.expr_of)
-        (exprs.closed (rules.expr g.now.depth) (rules.cover g.now.depth) start
+        (exprs.closed (rules.expr (G.depth g.now)) (rules.cover (G.depth g.now)) start
         (cover_of T.expr_of v) (P.seen p.old)) result (P.seen p.new) }
 {
     let x = close::<P, T>(p, v)?;
@@ -93,25 +82,17 @@ fn closed<
 /// An array or object pattern, and what it is assigned.
 #[tactic(auto, unfolding(swc_ecma_parser_reader::specs::Expressions::assigned_pattern, swc_ecma_parser_reader::specs::Expressions::assigned_to))]
 #[inline(never)]
-fn assigned_pattern<
-    P: Cursor,
-    T: BuildsOperator + BuildsPattern,
-    S: Fn(&MakerOf<T>, &mut P, usize, Position) -> PResult<T::Stmt>,
-    E: Fn(&MakerOf<T>, &mut P, usize, Reading) -> PResult<Cover<T::Expr>>,
-    N: Fn(&MakerOf<T>, &mut P, usize, Part) -> PResult<T::Pat>,
->(
-    g: &Grammar<S, E, N>,
+fn assigned_pattern<P: Cursor, T: BuildsOperator + BuildsPattern, G: Readers<P, T>>(
+    g: &G,
     t: &MakerOf<T>,
     p: &mut P,
     start: Span,
     v: Cover<T::Expr>,
 ) -> PResult<Cover<T::Expr>>
-    requires readers { Nests P.seen T.expr_of T.pat_of T.stmt_of g.now.depth
-        (S.pre g.now.stmt) (S.post g.now.stmt) (E.pre g.now.expr) (E.post g.now.expr)
-        (N.pre g.now.pat) (N.post g.now.pat) }
+    requires readers { G.ready g.now }
     requires literal { is_literal (T.expr_of v.tree) ≡ true }
     ensures { GivesAs (cover_of T.expr_of)
-        (exprs.assigned_pattern (rules.expr g.now.depth) (rules.cover g.now.depth) start
+        (exprs.assigned_pattern (rules.expr (G.depth g.now)) (rules.cover (G.depth g.now)) start
         (cover_of T.expr_of v) (P.seen p.old)) result (P.seen p.new) }
 {
     let left = target::<P, T>(t, p, v)?;
@@ -127,25 +108,17 @@ fn assigned_pattern<
 
 /// What stands behind an array or object, which is left open where nothing goes on with it.
 #[tactic(auto, unfolding(swc_ecma_parser_reader::specs::Expressions::behind_literal))]
-fn behind_literal<
-    P: Cursor,
-    T: BuildsCall + BuildsOperator + BuildsPattern,
-    S: Fn(&MakerOf<T>, &mut P, usize, Position) -> PResult<T::Stmt>,
-    E: Fn(&MakerOf<T>, &mut P, usize, Reading) -> PResult<Cover<T::Expr>>,
-    N: Fn(&MakerOf<T>, &mut P, usize, Part) -> PResult<T::Pat>,
->(
-    g: &Grammar<S, E, N>,
+fn behind_literal<P: Cursor, T: BuildsCall + BuildsOperator + BuildsPattern, G: Readers<P, T>>(
+    g: &G,
     t: &MakerOf<T>,
     p: &mut P,
     start: Span,
     v: Cover<T::Expr>,
 ) -> PResult<Cover<T::Expr>>
-    requires readers { Nests P.seen T.expr_of T.pat_of T.stmt_of g.now.depth
-        (S.pre g.now.stmt) (S.post g.now.stmt) (E.pre g.now.expr) (E.post g.now.expr)
-        (N.pre g.now.pat) (N.post g.now.pat) }
+    requires readers { G.ready g.now }
     requires literal { is_literal (T.expr_of v.tree) ≡ true }
     ensures { GivesAs (cover_of T.expr_of)
-        (exprs.behind_literal (rules.expr g.now.depth) (rules.cover g.now.depth) start
+        (exprs.behind_literal (rules.expr (G.depth g.now)) (rules.cover (G.depth g.now)) start
         (cover_of T.expr_of v) (P.seen p.old)) result (P.seen p.new) }
 {
     if p.sees(TokenKind::Assign) {
@@ -163,16 +136,12 @@ fn behind_literal<
 fn open_literal<
     P: Cursor,
     T: BuildsCall + BuildsMethod + BuildsOperator + BuildsPattern,
-    S: Fn(&MakerOf<T>, &mut P, usize, Position) -> PResult<T::Stmt>,
-    E: Fn(&MakerOf<T>, &mut P, usize, Reading) -> PResult<Cover<T::Expr>>,
-    N: Fn(&MakerOf<T>, &mut P, usize, Part) -> PResult<T::Pat>,
->(g: &Grammar<S, E, N>, t: &MakerOf<T>, p: &mut P) -> PResult<Cover<T::Expr>>
-    requires { Nests P.seen T.expr_of T.pat_of T.stmt_of g.now.depth
-        (S.pre g.now.stmt) (S.post g.now.stmt) (E.pre g.now.expr) (E.post g.now.expr)
-        (N.pre g.now.pat) (N.post g.now.pat) }
+    G: Readers<P, T>,
+>(g: &G, t: &MakerOf<T>, p: &mut P) -> PResult<Cover<T::Expr>>
+    requires { G.ready g.now }
     ensures { GivesAs (cover_of T.expr_of)
-        (exprs.open_literal (rules.expr g.now.depth) (rules.cover g.now.depth)
-        (rules.function g.now.depth) (P.seen p.old)) result (P.seen p.new) }
+        (exprs.open_literal (rules.expr (G.depth g.now)) (rules.cover (G.depth g.now))
+        (rules.function (G.depth g.now)) (P.seen p.old)) result (P.seen p.new) }
 {
     let start = p.span();
     if p.sees(TokenKind::LBracket) {
@@ -188,16 +157,12 @@ fn open_literal<
 pub fn cover_expr<
     P: Cursor,
     T: BuildsExpr + BuildsCall + BuildsMethod + BuildsOperator + BuildsPattern,
-    S: Fn(&MakerOf<T>, &mut P, usize, Position) -> PResult<T::Stmt>,
-    E: Fn(&MakerOf<T>, &mut P, usize, Reading) -> PResult<Cover<T::Expr>>,
-    N: Fn(&MakerOf<T>, &mut P, usize, Part) -> PResult<T::Pat>,
->(g: &Grammar<S, E, N>, t: &MakerOf<T>, p: &mut P) -> PResult<Cover<T::Expr>>
-    requires { Nests P.seen T.expr_of T.pat_of T.stmt_of g.now.depth
-        (S.pre g.now.stmt) (S.post g.now.stmt) (E.pre g.now.expr) (E.post g.now.expr)
-        (N.pre g.now.pat) (N.post g.now.pat) }
+    G: Readers<P, T>,
+>(g: &G, t: &MakerOf<T>, p: &mut P) -> PResult<Cover<T::Expr>>
+    requires { G.ready g.now }
     ensures { GivesAs (cover_of T.expr_of)
-        (exprs.cover_expr (rules.expr g.now.depth) (rules.cover g.now.depth)
-        (rules.function g.now.depth) (P.seen p.old)) result (P.seen p.new) }
+        (exprs.cover_expr (rules.expr (G.depth g.now)) (rules.cover (G.depth g.now))
+        (rules.function (G.depth g.now)) (P.seen p.old)) result (P.seen p.new) }
 {
     if p.sees(TokenKind::LBracket) || p.sees(TokenKind::LBrace) {
         return open_literal(g, t, p);
@@ -210,16 +175,12 @@ pub fn cover_expr<
 pub(crate) fn assignment_expr<
     P: Cursor,
     T: BuildsExpr + BuildsCall + BuildsMethod + BuildsOperator + BuildsPattern,
-    S: Fn(&MakerOf<T>, &mut P, usize, Position) -> PResult<T::Stmt>,
-    E: Fn(&MakerOf<T>, &mut P, usize, Reading) -> PResult<Cover<T::Expr>>,
-    N: Fn(&MakerOf<T>, &mut P, usize, Part) -> PResult<T::Pat>,
->(g: &Grammar<S, E, N>, t: &MakerOf<T>, p: &mut P) -> PResult<T::Expr>
-    requires { Nests P.seen T.expr_of T.pat_of T.stmt_of g.now.depth
-        (S.pre g.now.stmt) (S.post g.now.stmt) (E.pre g.now.expr) (E.post g.now.expr)
-        (N.pre g.now.pat) (N.post g.now.pat) }
+    G: Readers<P, T>,
+>(g: &G, t: &MakerOf<T>, p: &mut P) -> PResult<T::Expr>
+    requires { G.ready g.now }
     ensures { GivesAs (T.expr_of)
-        (exprs.assignment_expr (rules.expr g.now.depth) (rules.cover g.now.depth)
-        (rules.function g.now.depth) (P.seen p.old)) result (P.seen p.new) }
+        (exprs.assignment_expr (rules.expr (G.depth g.now)) (rules.cover (G.depth g.now))
+        (rules.function (G.depth g.now)) (P.seen p.old)) result (P.seen p.new) }
 {
     let v = cover_expr(g, t, p)?;
     close::<P, T>(p, v)
@@ -231,16 +192,12 @@ pub(crate) fn assignment_expr<
 pub fn head_expr<
     P: Cursor,
     T: BuildsExpr + BuildsCall + BuildsMethod + BuildsOperator + BuildsPattern,
-    S: Fn(&MakerOf<T>, &mut P, usize, Position) -> PResult<T::Stmt>,
-    E: Fn(&MakerOf<T>, &mut P, usize, Reading) -> PResult<Cover<T::Expr>>,
-    N: Fn(&MakerOf<T>, &mut P, usize, Part) -> PResult<T::Pat>,
->(g: &Grammar<S, E, N>, t: &MakerOf<T>, p: &mut P) -> PResult<Cover<T::Expr>>
-    requires { Nests P.seen T.expr_of T.pat_of T.stmt_of g.now.depth
-        (S.pre g.now.stmt) (S.post g.now.stmt) (E.pre g.now.expr) (E.post g.now.expr)
-        (N.pre g.now.pat) (N.post g.now.pat) }
+    G: Readers<P, T>,
+>(g: &G, t: &MakerOf<T>, p: &mut P) -> PResult<Cover<T::Expr>>
+    requires { G.ready g.now }
     ensures { GivesAs (cover_of T.expr_of)
-        (heads.head_expr (rules.expr g.now.depth) (rules.cover g.now.depth)
-        (rules.function g.now.depth) (P.seen p.old)) result (P.seen p.new) }
+        (heads.head_expr (rules.expr (G.depth g.now)) (rules.cover (G.depth g.now))
+        (rules.function (G.depth g.now)) (P.seen p.old)) result (P.seen p.new) }
 {
     let start = p.span();
     let v = cover_expr(g, t, p)?;
@@ -257,16 +214,12 @@ pub fn head_expr<
 pub fn head_behind_async<
     P: Cursor,
     T: BuildsExpr + BuildsCall + BuildsMethod + BuildsOperator + BuildsPattern,
-    S: Fn(&MakerOf<T>, &mut P, usize, Position) -> PResult<T::Stmt>,
-    E: Fn(&MakerOf<T>, &mut P, usize, Reading) -> PResult<Cover<T::Expr>>,
-    N: Fn(&MakerOf<T>, &mut P, usize, Part) -> PResult<T::Pat>,
->(g: &Grammar<S, E, N>, t: &MakerOf<T>, p: &mut P, start: Span) -> PResult<Cover<T::Expr>>
-    requires { Nests P.seen T.expr_of T.pat_of T.stmt_of g.now.depth
-        (S.pre g.now.stmt) (S.post g.now.stmt) (E.pre g.now.expr) (E.post g.now.expr)
-        (N.pre g.now.pat) (N.post g.now.pat) }
+    G: Readers<P, T>,
+>(g: &G, t: &MakerOf<T>, p: &mut P, start: Span) -> PResult<Cover<T::Expr>>
+    requires { G.ready g.now }
     ensures { GivesAs (cover_of T.expr_of)
-        (heads.head_behind_async (rules.expr g.now.depth) (rules.cover g.now.depth)
-        (rules.function g.now.depth) start (P.seen p.old)) result (P.seen p.new) }
+        (heads.head_behind_async (rules.expr (G.depth g.now)) (rules.cover (G.depth g.now))
+        (rules.function (G.depth g.now)) start (P.seen p.old)) result (P.seen p.new) }
 {
     let param = only_parameter(g, t, p)?;
     if !p.sees(TokenKind::Arrow) {
@@ -285,16 +238,12 @@ pub fn head_behind_async<
 pub fn expr_behind_await<
     P: Cursor,
     T: BuildsExpr + BuildsCall + BuildsMethod + BuildsOperator + BuildsPattern,
-    S: Fn(&MakerOf<T>, &mut P, usize, Position) -> PResult<T::Stmt>,
-    E: Fn(&MakerOf<T>, &mut P, usize, Reading) -> PResult<Cover<T::Expr>>,
-    N: Fn(&MakerOf<T>, &mut P, usize, Part) -> PResult<T::Pat>,
->(g: &Grammar<S, E, N>, t: &MakerOf<T>, p: &mut P, start: Span) -> PResult<Cover<T::Expr>>
-    requires { Nests P.seen T.expr_of T.pat_of T.stmt_of g.now.depth
-        (S.pre g.now.stmt) (S.post g.now.stmt) (E.pre g.now.expr) (E.post g.now.expr)
-        (N.pre g.now.pat) (N.post g.now.pat) }
+    G: Readers<P, T>,
+>(g: &G, t: &MakerOf<T>, p: &mut P, start: Span) -> PResult<Cover<T::Expr>>
+    requires { G.ready g.now }
     ensures { GivesAs (cover_of T.expr_of)
-        (words.awaited_expr (rules.expr g.now.depth) (rules.cover g.now.depth)
-        (rules.function g.now.depth) start (P.seen p.old)) result (P.seen p.new) }
+        (words.awaited_expr (rules.expr (G.depth g.now)) (rules.cover (G.depth g.now))
+        (rules.function (G.depth g.now)) start (P.seen p.old)) result (P.seen p.new) }
 {
     let x = awaited(g, t, p, start)?;
     let x = binary_from(g, t, p, Operands::Nested, 1, start, x)?;

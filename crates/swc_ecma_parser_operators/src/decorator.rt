@@ -3,7 +3,6 @@
 ghost use Rattle.std.specs.Prelude.{◌≡◌};
 ghost use Rattle.swc_ecma_parser_grammar.specs.Looks.{sees};
 ghost use Rattle.swc_ecma_parser_grammar.specs.language.Goals.{expression};
-ghost use Rattle.swc_ecma_parser_shared.specs.Nests.{Nests};
 ghost use Rattle.swc_ecma_parser_reader.specs.Decorators as decorators;
 ghost use Rattle.swc_ecma_parser_reader.specs.Expressions as exprs;
 ghost use Rattle.swc_ecma_parser_reader.specs.Reader as rules;
@@ -14,10 +13,9 @@ use crate::operator::expr_level;
 use swc_ecma_parser_common::Span;
 use swc_ecma_parser_cursor::{Cursor, Wanted};
 use swc_ecma_parser_error::PResult;
-use swc_ecma_parser_grammar::{Class, Position};
+use swc_ecma_parser_grammar::Class;
 use swc_ecma_parser_left_sides::left::{accessed, called};
-use swc_ecma_parser_shared::cover::{Cover, Reading};
-use swc_ecma_parser_shared::grammar::{Grammar, Part};
+use swc_ecma_parser_shared::readers::Readers;
 use swc_ecma_parser_shared::steps::{grown, with_in};
 use swc_ecma_parser_token::TokenKind;
 use swc_ecma_parser_trees::{
@@ -40,18 +38,16 @@ fn begins_arguments<P: Cursor>(p: &P) -> bool
 
 /// What goes on with a name: accesses by `.`, and arguments.
 #[tactic(auto, unfolding(swc_ecma_parser_reader::specs::Decorators::chain_from), using(swc_ecma_parser_reader::proofs::decorators::Loops::chain_done, swc_ecma_parser_reader::proofs::decorators::Loops::chain_accessed, swc_ecma_parser_reader::proofs::decorators::Loops::chain_access_err, swc_ecma_parser_reader::proofs::decorators::Loops::chain_called, swc_ecma_parser_reader::proofs::decorators::Loops::chain_call_err, swc_ecma_parser_reader::proofs::expressions::Loops::accessed_shorter, swc_ecma_parser_reader::proofs::expressions::Loops::called_shorter))]
-fn chain_from<
-    P: Cursor,
-    T: BuildsCall,
-    S: Fn(&MakerOf<T>, &mut P, usize, Position) -> PResult<T::Stmt>,
-    E: Fn(&MakerOf<T>, &mut P, usize, Reading) -> PResult<Cover<T::Expr>>,
-    N: Fn(&MakerOf<T>, &mut P, usize, Part) -> PResult<T::Pat>,
->(g: &Grammar<S, E, N>, t: &MakerOf<T>, p: &mut P, start: Span, x: T::Expr) -> PResult<T::Expr>
-    requires { Nests P.seen T.expr_of T.pat_of T.stmt_of g.now.depth
-        (S.pre g.now.stmt) (S.post g.now.stmt) (E.pre g.now.expr) (E.post g.now.expr)
-        (N.pre g.now.pat) (N.post g.now.pat) }
+fn chain_from<P: Cursor, T: BuildsCall, G: Readers<P, T>>(
+    g: &G,
+    t: &MakerOf<T>,
+    p: &mut P,
+    start: Span,
+    x: T::Expr,
+) -> PResult<T::Expr>
+    requires { G.ready g.now }
     ensures { GivesAs T.expr_of
-        (decorators.chain_from (rules.expr g.now.depth) (rules.cover g.now.depth) start
+        (decorators.chain_from (rules.expr (G.depth g.now)) (rules.cover (G.depth g.now)) start
         (T.expr_of x) (P.seen p.old)) result (P.seen p.new) }
 {
     let mut x = x;
@@ -68,19 +64,15 @@ fn chain_from<
 
 /// A name, and what goes on with it.
 #[tactic(auto, unfolding(swc_ecma_parser_reader::specs::Decorators::chain))]
-fn chain<
-    P: Cursor,
-    T: BuildsExpr + BuildsCall,
-    S: Fn(&MakerOf<T>, &mut P, usize, Position) -> PResult<T::Stmt>,
-    E: Fn(&MakerOf<T>, &mut P, usize, Reading) -> PResult<Cover<T::Expr>>,
-    N: Fn(&MakerOf<T>, &mut P, usize, Part) -> PResult<T::Pat>,
->(g: &Grammar<S, E, N>, t: &MakerOf<T>, p: &mut P) -> PResult<T::Expr>
-    requires { Nests P.seen T.expr_of T.pat_of T.stmt_of g.now.depth
-        (S.pre g.now.stmt) (S.post g.now.stmt) (E.pre g.now.expr) (E.post g.now.expr)
-        (N.pre g.now.pat) (N.post g.now.pat) }
+fn chain<P: Cursor, T: BuildsExpr + BuildsCall, G: Readers<P, T>>(
+    g: &G,
+    t: &MakerOf<T>,
+    p: &mut P,
+) -> PResult<T::Expr>
+    requires { G.ready g.now }
     ensures { GivesAs T.expr_of
-        (decorators.chain (rules.expr g.now.depth) (rules.cover g.now.depth) (P.seen p.old)) result
-        (P.seen p.new) }
+        (decorators.chain (rules.expr (G.depth g.now)) (rules.cover (G.depth g.now)) (P.seen p.old))
+        result (P.seen p.new) }
 {
     let start = p.span();
     let name = p.name(Wanted::Name)?;
@@ -90,18 +82,16 @@ fn chain<
 
 /// Arguments behind an expression in parentheses, which they call.
 #[tactic(auto, unfolding(swc_ecma_parser_reader::specs::Decorators::behind_group))]
-fn behind_group<
-    P: Cursor,
-    T: BuildsCall,
-    S: Fn(&MakerOf<T>, &mut P, usize, Position) -> PResult<T::Stmt>,
-    E: Fn(&MakerOf<T>, &mut P, usize, Reading) -> PResult<Cover<T::Expr>>,
-    N: Fn(&MakerOf<T>, &mut P, usize, Part) -> PResult<T::Pat>,
->(g: &Grammar<S, E, N>, t: &MakerOf<T>, p: &mut P, start: Span, x: T::Expr) -> PResult<T::Expr>
-    requires { Nests P.seen T.expr_of T.pat_of T.stmt_of g.now.depth
-        (S.pre g.now.stmt) (S.post g.now.stmt) (E.pre g.now.expr) (E.post g.now.expr)
-        (N.pre g.now.pat) (N.post g.now.pat) }
+fn behind_group<P: Cursor, T: BuildsCall, G: Readers<P, T>>(
+    g: &G,
+    t: &MakerOf<T>,
+    p: &mut P,
+    start: Span,
+    x: T::Expr,
+) -> PResult<T::Expr>
+    requires { G.ready g.now }
     ensures { GivesAs T.expr_of
-        (decorators.behind_group (rules.expr g.now.depth) (rules.cover g.now.depth) start
+        (decorators.behind_group (rules.expr (G.depth g.now)) (rules.cover (G.depth g.now)) start
         (T.expr_of x) (P.seen p.old)) result (P.seen p.new) }
 {
     if p.sees(TokenKind::LParen) {
@@ -115,17 +105,13 @@ fn behind_group<
 fn group<
     P: Cursor,
     T: BuildsExpr + BuildsCall + BuildsMethod + BuildsOperator + BuildsPattern,
-    S: Fn(&MakerOf<T>, &mut P, usize, Position) -> PResult<T::Stmt>,
-    E: Fn(&MakerOf<T>, &mut P, usize, Reading) -> PResult<Cover<T::Expr>>,
-    N: Fn(&MakerOf<T>, &mut P, usize, Part) -> PResult<T::Pat>,
->(g: &Grammar<S, E, N>, t: &MakerOf<T>, p: &mut P) -> PResult<T::Expr>
-    requires { Nests P.seen T.expr_of T.pat_of T.stmt_of g.now.depth
-        (S.pre g.now.stmt) (S.post g.now.stmt) (E.pre g.now.expr) (E.post g.now.expr)
-        (N.pre g.now.pat) (N.post g.now.pat) }
+    G: Readers<P, T>,
+>(g: &G, t: &MakerOf<T>, p: &mut P) -> PResult<T::Expr>
+    requires { G.ready g.now }
     ensures { GivesAs T.expr_of
-        (decorators.group (rules.expr g.now.depth) (rules.cover g.now.depth)
-        (exprs.expr_level (rules.expr g.now.depth) (rules.cover g.now.depth)
-        (rules.function g.now.depth) expression) (P.seen p.old)) result (P.seen p.new) }
+        (decorators.group (rules.expr (G.depth g.now)) (rules.cover (G.depth g.now))
+        (exprs.expr_level (rules.expr (G.depth g.now)) (rules.cover (G.depth g.now))
+        (rules.function (G.depth g.now)) expression) (P.seen p.old)) result (P.seen p.new) }
 {
     p.skip()?;
     let start = p.span();
@@ -142,17 +128,13 @@ fn group<
 pub fn decorated_level<
     P: Cursor,
     T: BuildsExpr + BuildsCall + BuildsMethod + BuildsOperator + BuildsPattern,
-    S: Fn(&MakerOf<T>, &mut P, usize, Position) -> PResult<T::Stmt>,
-    E: Fn(&MakerOf<T>, &mut P, usize, Reading) -> PResult<Cover<T::Expr>>,
-    N: Fn(&MakerOf<T>, &mut P, usize, Part) -> PResult<T::Pat>,
->(g: &Grammar<S, E, N>, t: &MakerOf<T>, p: &mut P) -> PResult<T::Expr>
-    requires { Nests P.seen T.expr_of T.pat_of T.stmt_of g.now.depth
-        (S.pre g.now.stmt) (S.post g.now.stmt) (E.pre g.now.expr) (E.post g.now.expr)
-        (N.pre g.now.pat) (N.post g.now.pat) }
+    G: Readers<P, T>,
+>(g: &G, t: &MakerOf<T>, p: &mut P) -> PResult<T::Expr>
+    requires { G.ready g.now }
     ensures { GivesAs T.expr_of
-        (decorators.decorated (rules.expr g.now.depth) (rules.cover g.now.depth)
-        (exprs.expr_level (rules.expr g.now.depth) (rules.cover g.now.depth)
-        (rules.function g.now.depth) expression) (P.seen p.old)) result (P.seen p.new) }
+        (decorators.decorated (rules.expr (G.depth g.now)) (rules.cover (G.depth g.now))
+        (exprs.expr_level (rules.expr (G.depth g.now)) (rules.cover (G.depth g.now))
+        (rules.function (G.depth g.now)) expression) (P.seen p.old)) result (P.seen p.new) }
 {
     if p.sees(TokenKind::LParen) {
         return group(g, t, p);

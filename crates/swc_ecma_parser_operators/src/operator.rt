@@ -3,7 +3,6 @@
 ghost use Rattle.std.specs.Prelude.{◌≡◌, ◌&&◌, IfOk, map};
 ghost use Rattle.swc_ecma_parser_error.specs.Kind.{kind_of};
 ghost use Rattle.swc_ecma_parser_grammar.specs.language.Continues.{continues_conditional};
-ghost use Rattle.swc_ecma_parser_shared.specs.Nests.{Nests};
 ghost use Rattle.swc_ecma_parser_reader.specs.Arrows as arrows;
 ghost use Rattle.swc_ecma_parser_reader.specs.Classes.{class_of};
 ghost use Rattle.swc_ecma_parser_reader.specs.Expressions as exprs;
@@ -19,12 +18,12 @@ use swc_ecma_parser_arrows::yields::{begins_yield, yield_expr};
 use swc_ecma_parser_common::Span;
 use swc_ecma_parser_cursor::{Cursor, Wanted, assign_operator, unary_operator, update_operator};
 use swc_ecma_parser_error::{PResult, SyntaxError};
-use swc_ecma_parser_grammar::{Class, Position};
+use swc_ecma_parser_grammar::Class;
 use swc_ecma_parser_left_sides::left::{left, left_expr};
 use swc_ecma_parser_model::{AssignOp, UnaryOp, UpdateOp};
-use swc_ecma_parser_shared::cover::{Cover, Reading, inside, nested};
-use swc_ecma_parser_shared::grammar::{Grammar, Part};
+use swc_ecma_parser_shared::cover::{inside, nested};
 use swc_ecma_parser_shared::operators::{Operands, binary_from};
+use swc_ecma_parser_shared::readers::Readers;
 use swc_ecma_parser_shared::steps::{grown, pushed, since};
 use swc_ecma_parser_token::TokenKind;
 use swc_ecma_parser_trees::{
@@ -34,19 +33,16 @@ use swc_ecma_parser_trees::{
 /// An operator before its operand.
 #[tactic(auto, unfolding(swc_ecma_parser_reader::specs::Expressions::prefixed))]
 #[inline(never)]
-fn prefixed<
-    P: Cursor,
-    T: BuildsOperator,
-    S: Fn(&MakerOf<T>, &mut P, usize, Position) -> PResult<T::Stmt>,
-    E: Fn(&MakerOf<T>, &mut P, usize, Reading) -> PResult<Cover<T::Expr>>,
-    N: Fn(&MakerOf<T>, &mut P, usize, Part) -> PResult<T::Pat>,
->(g: &Grammar<S, E, N>, t: &MakerOf<T>, p: &mut P, op: UnaryOp) -> PResult<T::Expr>
-    requires { Nests P.seen T.expr_of T.pat_of T.stmt_of g.now.depth
-        (S.pre g.now.stmt) (S.post g.now.stmt) (E.pre g.now.expr) (E.post g.now.expr)
-        (N.pre g.now.pat) (N.post g.now.pat) }
+fn prefixed<P: Cursor, T: BuildsOperator, G: Readers<P, T>>(
+    g: &G,
+    t: &MakerOf<T>,
+    p: &mut P,
+    op: UnaryOp,
+) -> PResult<T::Expr>
+    requires { G.ready g.now }
     ensures { GivesAs (T.expr_of)
-        (exprs.prefixed (rules.expr g.now.depth) (rules.cover g.now.depth) op (P.seen p.old)) result
-        (P.seen p.new) }
+        (exprs.prefixed (rules.expr (G.depth g.now)) (rules.cover (G.depth g.now)) op
+        (P.seen p.old)) result (P.seen p.new) }
 {
     let start = p.span();
     p.skip()?;
@@ -69,19 +65,16 @@ fn simple<P: Cursor, T: BuildsOperator>(p: &mut P, x: &T::Expr) -> PResult<()>
 /// `++` or `--` before its operand.
 #[tactic(auto, unfolding(swc_ecma_parser_reader::specs::Expressions::update_before))]
 #[inline(never)]
-fn update_before<
-    P: Cursor,
-    T: BuildsOperator,
-    S: Fn(&MakerOf<T>, &mut P, usize, Position) -> PResult<T::Stmt>,
-    E: Fn(&MakerOf<T>, &mut P, usize, Reading) -> PResult<Cover<T::Expr>>,
-    N: Fn(&MakerOf<T>, &mut P, usize, Part) -> PResult<T::Pat>,
->(g: &Grammar<S, E, N>, t: &MakerOf<T>, p: &mut P, op: UpdateOp) -> PResult<T::Expr>
-    requires { Nests P.seen T.expr_of T.pat_of T.stmt_of g.now.depth
-        (S.pre g.now.stmt) (S.post g.now.stmt) (E.pre g.now.expr) (E.post g.now.expr)
-        (N.pre g.now.pat) (N.post g.now.pat) }
+fn update_before<P: Cursor, T: BuildsOperator, G: Readers<P, T>>(
+    g: &G,
+    t: &MakerOf<T>,
+    p: &mut P,
+    op: UpdateOp,
+) -> PResult<T::Expr>
+    requires { G.ready g.now }
     ensures { GivesAs (T.expr_of)
-        (exprs.update_before (rules.expr g.now.depth) (rules.cover g.now.depth) op (P.seen p.old))
-        result (P.seen p.new) }
+        (exprs.update_before (rules.expr (G.depth g.now)) (rules.cover (G.depth g.now)) op
+        (P.seen p.old)) result (P.seen p.new) }
 {
     let start = p.span();
     p.skip()?;
@@ -143,16 +136,12 @@ pub(crate) fn postfixed<P: Cursor, T: BuildsOperator>(
 fn postfix<
     P: Cursor,
     T: BuildsExpr + BuildsCall + BuildsMethod + BuildsOperator + BuildsPattern,
-    S: Fn(&MakerOf<T>, &mut P, usize, Position) -> PResult<T::Stmt>,
-    E: Fn(&MakerOf<T>, &mut P, usize, Reading) -> PResult<Cover<T::Expr>>,
-    N: Fn(&MakerOf<T>, &mut P, usize, Part) -> PResult<T::Pat>,
->(g: &Grammar<S, E, N>, t: &MakerOf<T>, p: &mut P) -> PResult<T::Expr>
-    requires { Nests P.seen T.expr_of T.pat_of T.stmt_of g.now.depth
-        (S.pre g.now.stmt) (S.post g.now.stmt) (E.pre g.now.expr) (E.post g.now.expr)
-        (N.pre g.now.pat) (N.post g.now.pat) }
+    G: Readers<P, T>,
+>(g: &G, t: &MakerOf<T>, p: &mut P) -> PResult<T::Expr>
+    requires { G.ready g.now }
     ensures { GivesAs (T.expr_of)
-        (exprs.postfix (rules.expr g.now.depth) (rules.cover g.now.depth)
-        (rules.function g.now.depth) (P.seen p.old)) result (P.seen p.new) }
+        (exprs.postfix (rules.expr (G.depth g.now)) (rules.cover (G.depth g.now))
+        (rules.function (G.depth g.now)) (P.seen p.old)) result (P.seen p.new) }
 {
     let start = p.span();
     let operand = left(g, t, p, true)?;
@@ -165,16 +154,12 @@ fn postfix<
 fn unary_expr<
     P: Cursor,
     T: BuildsExpr + BuildsCall + BuildsMethod + BuildsOperator + BuildsPattern,
-    S: Fn(&MakerOf<T>, &mut P, usize, Position) -> PResult<T::Stmt>,
-    E: Fn(&MakerOf<T>, &mut P, usize, Reading) -> PResult<Cover<T::Expr>>,
-    N: Fn(&MakerOf<T>, &mut P, usize, Part) -> PResult<T::Pat>,
->(g: &Grammar<S, E, N>, t: &MakerOf<T>, p: &mut P) -> PResult<T::Expr>
-    requires { Nests P.seen T.expr_of T.pat_of T.stmt_of g.now.depth
-        (S.pre g.now.stmt) (S.post g.now.stmt) (E.pre g.now.expr) (E.post g.now.expr)
-        (N.pre g.now.pat) (N.post g.now.pat) }
+    G: Readers<P, T>,
+>(g: &G, t: &MakerOf<T>, p: &mut P) -> PResult<T::Expr>
+    requires { G.ready g.now }
     ensures { GivesAs (T.expr_of)
-        (exprs.unary_expr (rules.expr g.now.depth) (rules.cover g.now.depth)
-        (rules.function g.now.depth) (P.seen p.old)) result (P.seen p.new) }
+        (exprs.unary_expr (rules.expr (G.depth g.now)) (rules.cover (G.depth g.now))
+        (rules.function (G.depth g.now)) (P.seen p.old)) result (P.seen p.new) }
 {
     if let Some(op) = unary_operator(p.kind()) {
         return prefixed(g, t, p, op);
@@ -193,16 +178,12 @@ fn unary_expr<
 fn binary_expr<
     P: Cursor,
     T: BuildsExpr + BuildsCall + BuildsMethod + BuildsOperator + BuildsPattern,
-    S: Fn(&MakerOf<T>, &mut P, usize, Position) -> PResult<T::Stmt>,
-    E: Fn(&MakerOf<T>, &mut P, usize, Reading) -> PResult<Cover<T::Expr>>,
-    N: Fn(&MakerOf<T>, &mut P, usize, Part) -> PResult<T::Pat>,
->(g: &Grammar<S, E, N>, t: &MakerOf<T>, p: &mut P, n: usize) -> PResult<T::Expr>
-    requires { Nests P.seen T.expr_of T.pat_of T.stmt_of g.now.depth
-        (S.pre g.now.stmt) (S.post g.now.stmt) (E.pre g.now.expr) (E.post g.now.expr)
-        (N.pre g.now.pat) (N.post g.now.pat) }
+    G: Readers<P, T>,
+>(g: &G, t: &MakerOf<T>, p: &mut P, n: usize) -> PResult<T::Expr>
+    requires { G.ready g.now }
     ensures { GivesAs (T.expr_of)
-        (exprs.binary_expr (rules.expr g.now.depth) (rules.cover g.now.depth)
-        (rules.function g.now.depth) n (P.seen p.old)) result (P.seen p.new) }
+        (exprs.binary_expr (rules.expr (G.depth g.now)) (rules.cover (G.depth g.now))
+        (rules.function (G.depth g.now)) n (P.seen p.old)) result (P.seen p.new) }
 {
     let start = p.span();
     let x = unary_expr(g, t, p)?;
@@ -220,19 +201,17 @@ pub(crate) fn assigns_here<P: Cursor>(p: &P) -> bool
 /// The rest of a conditional, behind its test, which was read from a place on: section 13.14.
 #[tactic(auto, unfolding(swc_ecma_parser_reader::specs::Expressions::conditional, swc_ecma_parser_reader::specs::Expressions::unassigned))]
 #[inline(never)]
-fn conditional<
-    P: Cursor,
-    T: BuildsOperator,
-    S: Fn(&MakerOf<T>, &mut P, usize, Position) -> PResult<T::Stmt>,
-    E: Fn(&MakerOf<T>, &mut P, usize, Reading) -> PResult<Cover<T::Expr>>,
-    N: Fn(&MakerOf<T>, &mut P, usize, Part) -> PResult<T::Pat>,
->(g: &Grammar<S, E, N>, t: &MakerOf<T>, p: &mut P, start: Span, test: T::Expr) -> PResult<T::Expr>
-    requires { Nests P.seen T.expr_of T.pat_of T.stmt_of g.now.depth
-        (S.pre g.now.stmt) (S.post g.now.stmt) (E.pre g.now.expr) (E.post g.now.expr)
-        (N.pre g.now.pat) (N.post g.now.pat) }
+fn conditional<P: Cursor, T: BuildsOperator, G: Readers<P, T>>(
+    g: &G,
+    t: &MakerOf<T>,
+    p: &mut P,
+    start: Span,
+    test: T::Expr,
+) -> PResult<T::Expr>
+    requires { G.ready g.now }
     ensures { GivesAs (T.expr_of)
-        (exprs.conditional (rules.expr g.now.depth) (rules.cover g.now.depth) start (T.expr_of test)
-        (P.seen p.old)) result (P.seen p.new) }
+        (exprs.conditional (rules.expr (G.depth g.now)) (rules.cover (G.depth g.now)) start
+        (T.expr_of test) (P.seen p.old)) result (P.seen p.new) }
 {
     p.skip()?;
     let yes_case = inside(g, t, p, Class::Assignment)?;
@@ -258,26 +237,18 @@ fn unassignable(op: AssignOp) -> SyntaxError
 /// An assignment to what was read from a place on: section 13.15.
 #[tactic(auto, unfolding(swc_ecma_parser_reader::specs::Expressions::assigned, swc_ecma_parser_reader::specs::Expressions::assigned_to))]
 #[inline(never)]
-fn assigned<
-    P: Cursor,
-    T: BuildsOperator,
-    S: Fn(&MakerOf<T>, &mut P, usize, Position) -> PResult<T::Stmt>,
-    E: Fn(&MakerOf<T>, &mut P, usize, Reading) -> PResult<Cover<T::Expr>>,
-    N: Fn(&MakerOf<T>, &mut P, usize, Part) -> PResult<T::Pat>,
->(
-    g: &Grammar<S, E, N>,
+fn assigned<P: Cursor, T: BuildsOperator, G: Readers<P, T>>(
+    g: &G,
     t: &MakerOf<T>,
     p: &mut P,
     start: Span,
     x: T::Expr,
     op: AssignOp,
 ) -> PResult<T::Expr>
-    requires { Nests P.seen T.expr_of T.pat_of T.stmt_of g.now.depth
-        (S.pre g.now.stmt) (S.post g.now.stmt) (E.pre g.now.expr) (E.post g.now.expr)
-        (N.pre g.now.pat) (N.post g.now.pat) }
+    requires { G.ready g.now }
     ensures { GivesAs (T.expr_of)
-        (exprs.assigned (rules.expr g.now.depth) (rules.cover g.now.depth) start (T.expr_of x) op
-        (P.seen p.old)) result (P.seen p.new) }
+        (exprs.assigned (rules.expr (G.depth g.now)) (rules.cover (G.depth g.now)) start
+        (T.expr_of x) op (P.seen p.old)) result (P.seen p.new) }
 {
     if !T::is_simple_target(&x) {
         return Err(p.reject(unassignable(op), T::expr_span(&x)));
@@ -302,26 +273,18 @@ fn heads_arrow<P: Cursor, T: BuildsCall>(p: &P, is_async: bool, x: &T::Expr) -> 
 /// What stands behind operands and operators that were read from a place on.
 #[tactic(auto, unfolding(swc_ecma_parser_reader::specs::Expressions::behind_operators, swc_ecma_parser_reader::specs::Expressions::unheaded))]
 #[inline(never)]
-pub(crate) fn behind_operators<
-    P: Cursor,
-    T: BuildsCall + BuildsOperator,
-    S: Fn(&MakerOf<T>, &mut P, usize, Position) -> PResult<T::Stmt>,
-    E: Fn(&MakerOf<T>, &mut P, usize, Reading) -> PResult<Cover<T::Expr>>,
-    N: Fn(&MakerOf<T>, &mut P, usize, Part) -> PResult<T::Pat>,
->(
-    g: &Grammar<S, E, N>,
+pub(crate) fn behind_operators<P: Cursor, T: BuildsCall + BuildsOperator, G: Readers<P, T>>(
+    g: &G,
     t: &MakerOf<T>,
     p: &mut P,
     is_async: bool,
     start: Span,
     x: T::Expr,
 ) -> PResult<T::Expr>
-    requires { Nests P.seen T.expr_of T.pat_of T.stmt_of g.now.depth
-        (S.pre g.now.stmt) (S.post g.now.stmt) (E.pre g.now.expr) (E.post g.now.expr)
-        (N.pre g.now.pat) (N.post g.now.pat) }
+    requires { G.ready g.now }
     ensures { GivesAs (T.expr_of)
-        (exprs.behind_operators (rules.expr g.now.depth) (rules.cover g.now.depth) is_async start
-        (T.expr_of x) (P.seen p.old)) result (P.seen p.new) }
+        (exprs.behind_operators (rules.expr (G.depth g.now)) (rules.cover (G.depth g.now)) is_async
+        start (T.expr_of x) (P.seen p.old)) result (P.seen p.new) }
 {
     if p.sees(TokenKind::QuestionMark) {
         return conditional(g, t, p, start, x);
@@ -341,16 +304,12 @@ pub(crate) fn behind_operators<
 fn operators_expr<
     P: Cursor,
     T: BuildsExpr + BuildsCall + BuildsMethod + BuildsOperator + BuildsPattern,
-    S: Fn(&MakerOf<T>, &mut P, usize, Position) -> PResult<T::Stmt>,
-    E: Fn(&MakerOf<T>, &mut P, usize, Reading) -> PResult<Cover<T::Expr>>,
-    N: Fn(&MakerOf<T>, &mut P, usize, Part) -> PResult<T::Pat>,
->(g: &Grammar<S, E, N>, t: &MakerOf<T>, p: &mut P) -> PResult<T::Expr>
-    requires { Nests P.seen T.expr_of T.pat_of T.stmt_of g.now.depth
-        (S.pre g.now.stmt) (S.post g.now.stmt) (E.pre g.now.expr) (E.post g.now.expr)
-        (N.pre g.now.pat) (N.post g.now.pat) }
+    G: Readers<P, T>,
+>(g: &G, t: &MakerOf<T>, p: &mut P) -> PResult<T::Expr>
+    requires { G.ready g.now }
     ensures { GivesAs (T.expr_of)
-        (exprs.operators_expr (rules.expr g.now.depth) (rules.cover g.now.depth)
-        (rules.function g.now.depth) (P.seen p.old)) result (P.seen p.new) }
+        (exprs.operators_expr (rules.expr (G.depth g.now)) (rules.cover (G.depth g.now))
+        (rules.function (G.depth g.now)) (P.seen p.old)) result (P.seen p.new) }
 {
     let is_async = p.begins_async_call();
     let start = p.span();
@@ -371,16 +330,12 @@ fn begins_named_arrow<P: Cursor>(p: &P) -> bool
 pub(crate) fn plain_expr<
     P: Cursor,
     T: BuildsExpr + BuildsCall + BuildsMethod + BuildsOperator + BuildsPattern,
-    S: Fn(&MakerOf<T>, &mut P, usize, Position) -> PResult<T::Stmt>,
-    E: Fn(&MakerOf<T>, &mut P, usize, Reading) -> PResult<Cover<T::Expr>>,
-    N: Fn(&MakerOf<T>, &mut P, usize, Part) -> PResult<T::Pat>,
->(g: &Grammar<S, E, N>, t: &MakerOf<T>, p: &mut P) -> PResult<T::Expr>
-    requires { Nests P.seen T.expr_of T.pat_of T.stmt_of g.now.depth
-        (S.pre g.now.stmt) (S.post g.now.stmt) (E.pre g.now.expr) (E.post g.now.expr)
-        (N.pre g.now.pat) (N.post g.now.pat) }
+    G: Readers<P, T>,
+>(g: &G, t: &MakerOf<T>, p: &mut P) -> PResult<T::Expr>
+    requires { G.ready g.now }
     ensures { GivesAs (T.expr_of)
-        (exprs.plain_expr (rules.expr g.now.depth) (rules.cover g.now.depth)
-        (rules.function g.now.depth) (P.seen p.old)) result (P.seen p.new) }
+        (exprs.plain_expr (rules.expr (G.depth g.now)) (rules.cover (G.depth g.now))
+        (rules.function (G.depth g.now)) (P.seen p.old)) result (P.seen p.new) }
 {
     if begins_yield(p) {
         return yield_expr(g, t, p);
@@ -406,16 +361,12 @@ pub(crate) fn plain_expr<
 pub(crate) fn sequence_from<
     P: Cursor,
     T: BuildsExpr + BuildsCall + BuildsMethod + BuildsOperator + BuildsPattern,
-    S: Fn(&MakerOf<T>, &mut P, usize, Position) -> PResult<T::Stmt>,
-    E: Fn(&MakerOf<T>, &mut P, usize, Reading) -> PResult<Cover<T::Expr>>,
-    N: Fn(&MakerOf<T>, &mut P, usize, Part) -> PResult<T::Pat>,
->(g: &Grammar<S, E, N>, t: &MakerOf<T>, p: &mut P, start: Span, x: T::Expr) -> PResult<T::Expr>
-    requires { Nests P.seen T.expr_of T.pat_of T.stmt_of g.now.depth
-        (S.pre g.now.stmt) (S.post g.now.stmt) (E.pre g.now.expr) (E.post g.now.expr)
-        (N.pre g.now.pat) (N.post g.now.pat) }
+    G: Readers<P, T>,
+>(g: &G, t: &MakerOf<T>, p: &mut P, start: Span, x: T::Expr) -> PResult<T::Expr>
+    requires { G.ready g.now }
     ensures { GivesAs (T.expr_of)
-        (exprs.sequence_from (rules.expr g.now.depth) (rules.cover g.now.depth)
-        (rules.function g.now.depth) start (T.expr_of x) (P.seen p.old)) result (P.seen p.new) }
+        (exprs.sequence_from (rules.expr (G.depth g.now)) (rules.cover (G.depth g.now))
+        (rules.function (G.depth g.now)) start (T.expr_of x) (P.seen p.old)) result (P.seen p.new) }
 {
     let mut found = Vec::new(t.alloc);
     pushed(p, &mut found, x)?;
@@ -437,16 +388,12 @@ pub(crate) fn sequence_from<
 fn expression_expr<
     P: Cursor,
     T: BuildsExpr + BuildsCall + BuildsMethod + BuildsOperator + BuildsPattern,
-    S: Fn(&MakerOf<T>, &mut P, usize, Position) -> PResult<T::Stmt>,
-    E: Fn(&MakerOf<T>, &mut P, usize, Reading) -> PResult<Cover<T::Expr>>,
-    N: Fn(&MakerOf<T>, &mut P, usize, Part) -> PResult<T::Pat>,
->(g: &Grammar<S, E, N>, t: &MakerOf<T>, p: &mut P) -> PResult<T::Expr>
-    requires { Nests P.seen T.expr_of T.pat_of T.stmt_of g.now.depth
-        (S.pre g.now.stmt) (S.post g.now.stmt) (E.pre g.now.expr) (E.post g.now.expr)
-        (N.pre g.now.pat) (N.post g.now.pat) }
+    G: Readers<P, T>,
+>(g: &G, t: &MakerOf<T>, p: &mut P) -> PResult<T::Expr>
+    requires { G.ready g.now }
     ensures { GivesAs (T.expr_of)
-        (exprs.expression_expr (rules.expr g.now.depth) (rules.cover g.now.depth)
-        (rules.function g.now.depth) (P.seen p.old)) result (P.seen p.new) }
+        (exprs.expression_expr (rules.expr (G.depth g.now)) (rules.cover (G.depth g.now))
+        (rules.function (G.depth g.now)) (P.seen p.old)) result (P.seen p.new) }
 {
     let start = p.span();
     let x = assignment_expr(g, t, p)?;
@@ -461,16 +408,12 @@ fn expression_expr<
 pub fn expr_level<
     P: Cursor,
     T: BuildsExpr + BuildsCall + BuildsMethod + BuildsOperator + BuildsPattern,
-    S: Fn(&MakerOf<T>, &mut P, usize, Position) -> PResult<T::Stmt>,
-    E: Fn(&MakerOf<T>, &mut P, usize, Reading) -> PResult<Cover<T::Expr>>,
-    N: Fn(&MakerOf<T>, &mut P, usize, Part) -> PResult<T::Pat>,
->(g: &Grammar<S, E, N>, t: &MakerOf<T>, p: &mut P, class: Class) -> PResult<T::Expr>
-    requires { Nests P.seen T.expr_of T.pat_of T.stmt_of g.now.depth
-        (S.pre g.now.stmt) (S.post g.now.stmt) (E.pre g.now.expr) (E.post g.now.expr)
-        (N.pre g.now.pat) (N.post g.now.pat) }
+    G: Readers<P, T>,
+>(g: &G, t: &MakerOf<T>, p: &mut P, class: Class) -> PResult<T::Expr>
+    requires { G.ready g.now }
     ensures { GivesAs (T.expr_of)
-        (exprs.expr_level (rules.expr g.now.depth) (rules.cover g.now.depth)
-        (rules.function g.now.depth) (class_of class) (P.seen p.old)) result (P.seen p.new) }
+        (exprs.expr_level (rules.expr (G.depth g.now)) (rules.cover (G.depth g.now))
+        (rules.function (G.depth g.now)) (class_of class) (P.seen p.old)) result (P.seen p.new) }
 {
     match class {
         Class::Expression => expression_expr(g, t, p),

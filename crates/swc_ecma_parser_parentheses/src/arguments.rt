@@ -4,7 +4,6 @@
 ghost use Rattle.std.specs.Prelude.{◌≡◌, ◌||◌, Some, is_some, map};
 ghost use Rattle.swc_ecma_parser_parentheses.specs.Groups.{argument_of};
 ghost use Rattle.swc_ecma_parser_shared.specs.Covers.{cover_of};
-ghost use Rattle.swc_ecma_parser_shared.specs.Nests.{Nests};
 ghost use Rattle.swc_ecma_parser_reader.specs.AsyncArrows as async_arrows;
 ghost use Rattle.swc_ecma_parser_reader.specs.Reader as rules;
 ghost use Rattle.swc_ecma_parser_reader.specs.State.{GivesAs};
@@ -13,9 +12,8 @@ use crate::parameters::parameter;
 use swc_ecma_parser_common::Span;
 use swc_ecma_parser_cursor::Cursor;
 use swc_ecma_parser_error::{PResult, SyntaxError};
-use swc_ecma_parser_grammar::Position;
-use swc_ecma_parser_shared::cover::{Cover, Reading, close, covered};
-use swc_ecma_parser_shared::grammar::{Grammar, Part};
+use swc_ecma_parser_shared::cover::{Cover, close, covered};
+use swc_ecma_parser_shared::readers::Readers;
 use swc_ecma_parser_shared::steps::{grown, pushed, since};
 use swc_ecma_parser_token::TokenKind;
 use swc_ecma_parser_trees::{BuildsCall, BuildsPattern, MakerOf, Trees};
@@ -30,19 +28,15 @@ pub struct Argument<E> {
 
 /// An argument, with the dots of a spread.
 #[tactic(auto, unfolding(swc_ecma_parser_reader::specs::AsyncArrows::argument, swc_ecma_parser_reader::specs::AsyncArrows::spread_argument, swc_ecma_parser_reader::specs::AsyncArrows::plain_argument))]
-fn one_argument<
-    P: Cursor,
-    T: Trees,
-    S: Fn(&MakerOf<T>, &mut P, usize, Position) -> PResult<T::Stmt>,
-    E: Fn(&MakerOf<T>, &mut P, usize, Reading) -> PResult<Cover<T::Expr>>,
-    N: Fn(&MakerOf<T>, &mut P, usize, Part) -> PResult<T::Pat>,
->(g: &Grammar<S, E, N>, t: &MakerOf<T>, p: &mut P) -> PResult<Argument<T::Expr>>
-    requires { Nests P.seen T.expr_of T.pat_of T.stmt_of g.now.depth
-        (S.pre g.now.stmt) (S.post g.now.stmt) (E.pre g.now.expr) (E.post g.now.expr)
-        (N.pre g.now.pat) (N.post g.now.pat) }
+fn one_argument<P: Cursor, T: Trees, G: Readers<P, T>>(
+    g: &G,
+    t: &MakerOf<T>,
+    p: &mut P,
+) -> PResult<Argument<T::Expr>>
+    requires { G.ready g.now }
     ensures { GivesAs (argument_of T.expr_of)
-        (async_arrows.argument (rules.expr g.now.depth) (rules.cover g.now.depth) (P.seen p.old))
-        result (P.seen p.new) }
+        (async_arrows.argument (rules.expr (G.depth g.now)) (rules.cover (G.depth g.now))
+        (P.seen p.old)) result (P.seen p.new) }
 {
     if p.sees(TokenKind::DotDotDot) {
         let dots = p.span();
@@ -83,18 +77,14 @@ fn followed<E>(argument: Argument<E>) -> Argument<E>
 
 /// Arguments that may still become parameters, from `(` to `)`.
 #[tactic(auto, unfolding(swc_ecma_parser_reader::specs::AsyncArrows::either_arguments), using(swc_ecma_parser_reader::proofs::expressions::Loops::argument_shorter, swc_ecma_parser_reader::proofs::expressions::Loops::eithers_shorter, swc_ecma_parser_reader::proofs::expressions::Loops::either_done, swc_ecma_parser_reader::proofs::expressions::Loops::either_err, swc_ecma_parser_reader::proofs::expressions::Loops::either_last, swc_ecma_parser_reader::proofs::expressions::Loops::either_more, swc_ecma_parser_reader::proofs::expressions::Loops::either_comma_err, std::proofs::lemmas::List::map_push))]
-pub fn either_arguments<
-    P: Cursor,
-    T: Trees,
-    S: Fn(&MakerOf<T>, &mut P, usize, Position) -> PResult<T::Stmt>,
-    E: Fn(&MakerOf<T>, &mut P, usize, Reading) -> PResult<Cover<T::Expr>>,
-    N: Fn(&MakerOf<T>, &mut P, usize, Part) -> PResult<T::Pat>,
->(g: &Grammar<S, E, N>, t: &MakerOf<T>, p: &mut P) -> PResult<Vec<Argument<T::Expr>>>
-    requires { Nests P.seen T.expr_of T.pat_of T.stmt_of g.now.depth
-        (S.pre g.now.stmt) (S.post g.now.stmt) (E.pre g.now.expr) (E.post g.now.expr)
-        (N.pre g.now.pat) (N.post g.now.pat) }
+pub fn either_arguments<P: Cursor, T: Trees, G: Readers<P, T>>(
+    g: &G,
+    t: &MakerOf<T>,
+    p: &mut P,
+) -> PResult<Vec<Argument<T::Expr>>>
+    requires { G.ready g.now }
     ensures { GivesAs (λ found. map (argument_of T.expr_of) found.items)
-        (async_arrows.either_arguments (rules.expr g.now.depth) (rules.cover g.now.depth)
+        (async_arrows.either_arguments (rules.expr (G.depth g.now)) (rules.cover (G.depth g.now))
         (P.seen p.old)) result (P.seen p.new) }
 {
     p.skip()?;

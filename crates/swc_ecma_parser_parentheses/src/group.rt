@@ -4,7 +4,6 @@ ghost use Rattle.std.specs.Prelude.{◌≡◌, None, map};
 ghost use Rattle.swc_ecma_parser_parentheses.specs.Groups.{group_of, parts_of};
 ghost use Rattle.swc_ecma_parser_grammar.specs.language.Contexts.{with_in};
 ghost use Rattle.swc_ecma_parser_shared.specs.Covers.{cover_of};
-ghost use Rattle.swc_ecma_parser_shared.specs.Nests.{Nests};
 ghost use Rattle.swc_ecma_parser_reader.specs.Arrows as arrows;
 ghost use Rattle.swc_ecma_parser_reader.specs.Methods.{parameter_form};
 ghost use Rattle.swc_ecma_parser_reader.specs.Reader as rules;
@@ -13,10 +12,10 @@ ghost use Rattle.swc_ecma_parser_reader.specs.State.{GivesAs, within};
 use swc_ecma_parser_common::Span;
 use swc_ecma_parser_cursor::Cursor;
 use swc_ecma_parser_error::PResult;
-use swc_ecma_parser_grammar::Position;
 use swc_ecma_parser_patterns::pat::inner_pat;
-use swc_ecma_parser_shared::cover::{Cover, Reading, covered};
-use swc_ecma_parser_shared::grammar::{Grammar, Part};
+use swc_ecma_parser_shared::cover::{Cover, covered};
+use swc_ecma_parser_shared::grammar::Part;
+use swc_ecma_parser_shared::readers::Readers;
 use swc_ecma_parser_shared::steps::{grown, pushed, since};
 use swc_ecma_parser_token::TokenKind;
 use swc_ecma_parser_trees::{BuildsPattern, MakerOf};
@@ -46,18 +45,14 @@ struct Parts<E, N> {
 
 /// What a rest binds.
 #[tactic(auto, unfolding(swc_ecma_parser_reader::specs::Reader::function, swc_ecma_parser_reader::specs::Reader::function_by))]
-fn rest_binding<
-    P: Cursor,
-    T: BuildsPattern,
-    S: Fn(&MakerOf<T>, &mut P, usize, Position) -> PResult<T::Stmt>,
-    E: Fn(&MakerOf<T>, &mut P, usize, Reading) -> PResult<Cover<T::Expr>>,
-    N: Fn(&MakerOf<T>, &mut P, usize, Part) -> PResult<T::Pat>,
->(g: &Grammar<S, E, N>, t: &MakerOf<T>, p: &mut P) -> PResult<T::Pat>
-    requires { Nests P.seen T.expr_of T.pat_of T.stmt_of g.now.depth
-        (S.pre g.now.stmt) (S.post g.now.stmt) (E.pre g.now.expr) (E.post g.now.expr)
-        (N.pre g.now.pat) (N.post g.now.pat) }
+fn rest_binding<P: Cursor, T: BuildsPattern, G: Readers<P, T>>(
+    g: &G,
+    t: &MakerOf<T>,
+    p: &mut P,
+) -> PResult<T::Pat>
+    requires { G.ready g.now }
     ensures { GivesAs T.pat_of
-        (within with_in (rules.function g.now.depth parameter_form) (P.seen p.old)) result
+        (within with_in (rules.function (G.depth g.now) parameter_form) (P.seen p.old)) result
         (P.seen p.new) }
 {
     inner_pat(g, t, p, Part::Pattern)
@@ -66,23 +61,15 @@ fn rest_binding<
 /// A rest with its dots, which is the last.
 #[tactic(auto, unfolding(swc_ecma_parser_reader::specs::Arrows::rest_part))]
 #[inline(never)]
-fn rest_part<
-    P: Cursor,
-    T: BuildsPattern,
-    S: Fn(&MakerOf<T>, &mut P, usize, Position) -> PResult<T::Stmt>,
-    E: Fn(&MakerOf<T>, &mut P, usize, Reading) -> PResult<Cover<T::Expr>>,
-    N: Fn(&MakerOf<T>, &mut P, usize, Part) -> PResult<T::Pat>,
->(
-    g: &Grammar<S, E, N>,
+fn rest_part<P: Cursor, T: BuildsPattern, G: Readers<P, T>>(
+    g: &G,
     t: &MakerOf<T>,
     p: &mut P,
     found: Vec<Cover<T::Expr>>,
 ) -> PResult<Parts<T::Expr, T::Pat>>
-    requires { Nests P.seen T.expr_of T.pat_of T.stmt_of g.now.depth
-        (S.pre g.now.stmt) (S.post g.now.stmt) (E.pre g.now.expr) (E.post g.now.expr)
-        (N.pre g.now.pat) (N.post g.now.pat) }
+    requires { G.ready g.now }
     ensures { GivesAs (parts_of T.expr_of T.pat_of)
-        (arrows.rest_part (rules.expr g.now.depth) (rules.function g.now.depth)
+        (arrows.rest_part (rules.expr (G.depth g.now)) (rules.function (G.depth g.now))
         (map (cover_of T.expr_of) found.items) (P.seen p.old)) result (P.seen p.new) }
 {
     let start = p.span();
@@ -110,19 +97,15 @@ fn ended<E, N>(parts: Vec<Cover<E>>, comma: bool) -> Parts<E, N>
 
 /// The parts, up to `)`. Nothing stands behind the rest.
 #[tactic(auto, unfolding(swc_ecma_parser_reader::specs::Arrows::group_parts), using(swc_ecma_parser_reader::proofs::expressions::Loops::part_shorter, swc_ecma_parser_reader::proofs::expressions::Loops::parts_rest, swc_ecma_parser_reader::proofs::expressions::Loops::parts_rest_err, swc_ecma_parser_reader::proofs::expressions::Loops::parts_err, swc_ecma_parser_reader::proofs::expressions::Loops::parts_last, swc_ecma_parser_reader::proofs::expressions::Loops::parts_comma_err, swc_ecma_parser_reader::proofs::expressions::Loops::parts_comma_last, swc_ecma_parser_reader::proofs::expressions::Loops::parts_more, std::proofs::lemmas::List::map_push))]
-fn group_parts<
-    P: Cursor,
-    T: BuildsPattern,
-    S: Fn(&MakerOf<T>, &mut P, usize, Position) -> PResult<T::Stmt>,
-    E: Fn(&MakerOf<T>, &mut P, usize, Reading) -> PResult<Cover<T::Expr>>,
-    N: Fn(&MakerOf<T>, &mut P, usize, Part) -> PResult<T::Pat>,
->(g: &Grammar<S, E, N>, t: &MakerOf<T>, p: &mut P) -> PResult<Parts<T::Expr, T::Pat>>
-    requires { Nests P.seen T.expr_of T.pat_of T.stmt_of g.now.depth
-        (S.pre g.now.stmt) (S.post g.now.stmt) (E.pre g.now.expr) (E.post g.now.expr)
-        (N.pre g.now.pat) (N.post g.now.pat) }
+fn group_parts<P: Cursor, T: BuildsPattern, G: Readers<P, T>>(
+    g: &G,
+    t: &MakerOf<T>,
+    p: &mut P,
+) -> PResult<Parts<T::Expr, T::Pat>>
+    requires { G.ready g.now }
     ensures { GivesAs (parts_of T.expr_of T.pat_of)
-        (arrows.group_parts (rules.expr g.now.depth) (rules.function g.now.depth)
-        (rules.cover g.now.depth) (P.seen p.old)) result (P.seen p.new) }
+        (arrows.group_parts (rules.expr (G.depth g.now)) (rules.function (G.depth g.now))
+        (rules.cover (G.depth g.now)) (P.seen p.old)) result (P.seen p.new) }
 {
     let mut found = Vec::new(t.alloc);
     if p.sees(TokenKind::RParen) {
@@ -147,19 +130,15 @@ fn group_parts<
 /// What stands from `(` to `)`.
 #[tactic(auto, unfolding(swc_ecma_parser_reader::specs::Arrows::group))]
 #[inline(never)]
-pub fn parenthesized<
-    P: Cursor,
-    T: BuildsPattern,
-    S: Fn(&MakerOf<T>, &mut P, usize, Position) -> PResult<T::Stmt>,
-    E: Fn(&MakerOf<T>, &mut P, usize, Reading) -> PResult<Cover<T::Expr>>,
-    N: Fn(&MakerOf<T>, &mut P, usize, Part) -> PResult<T::Pat>,
->(g: &Grammar<S, E, N>, t: &MakerOf<T>, p: &mut P) -> PResult<Group<T::Expr, T::Pat>>
-    requires { Nests P.seen T.expr_of T.pat_of T.stmt_of g.now.depth
-        (S.pre g.now.stmt) (S.post g.now.stmt) (E.pre g.now.expr) (E.post g.now.expr)
-        (N.pre g.now.pat) (N.post g.now.pat) }
+pub fn parenthesized<P: Cursor, T: BuildsPattern, G: Readers<P, T>>(
+    g: &G,
+    t: &MakerOf<T>,
+    p: &mut P,
+) -> PResult<Group<T::Expr, T::Pat>>
+    requires { G.ready g.now }
     ensures { GivesAs (group_of T.expr_of T.pat_of)
-        (arrows.group (rules.expr g.now.depth) (rules.function g.now.depth)
-        (rules.cover g.now.depth) (P.seen p.old)) result (P.seen p.new) }
+        (arrows.group (rules.expr (G.depth g.now)) (rules.function (G.depth g.now))
+        (rules.cover (G.depth g.now)) (P.seen p.old)) result (P.seen p.new) }
 {
     p.skip()?;
     let first = p.span();

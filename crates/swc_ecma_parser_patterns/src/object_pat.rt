@@ -2,7 +2,6 @@
 
 ghost use Rattle.std.specs.Prelude.{map};
 ghost use Rattle.swc_ecma_parser_shared.specs.Keys.{key_of};
-ghost use Rattle.swc_ecma_parser_shared.specs.Nests.{Nests};
 ghost use Rattle.swc_ecma_parser_reader.specs.Patterns as patterns;
 ghost use Rattle.swc_ecma_parser_reader.specs.Reader as rules;
 ghost use Rattle.swc_ecma_parser_reader.specs.State.{GivesAs};
@@ -11,30 +10,27 @@ use crate::pat::inner_pat;
 use swc_ecma_parser_common::Span;
 use swc_ecma_parser_cursor::{Cursor, Wanted, may_bind_await};
 use swc_ecma_parser_error::PResult;
-use swc_ecma_parser_grammar::{Class, Position};
+use swc_ecma_parser_grammar::Class;
 use swc_ecma_parser_model::Ident;
-use swc_ecma_parser_shared::cover::{Cover, Reading, inside};
-use swc_ecma_parser_shared::grammar::{Grammar, Part};
+use swc_ecma_parser_shared::cover::inside;
+use swc_ecma_parser_shared::grammar::Part;
 use swc_ecma_parser_shared::keys::{Key, made_key, property_key};
+use swc_ecma_parser_shared::readers::Readers;
 use swc_ecma_parser_shared::steps::{as_name, grown, pushed, since};
 use swc_ecma_parser_token::TokenKind;
 use swc_ecma_parser_trees::{BuildsObjectPat, MakerOf, Trees};
 
 /// The rest of an object, which is a name.
 #[tactic(auto, unfolding(swc_ecma_parser_reader::specs::Patterns::rest_name))]
-fn rest_name<
-    P: Cursor,
-    T: Trees,
-    S: Fn(&MakerOf<T>, &mut P, usize, Position) -> PResult<T::Stmt>,
-    E: Fn(&MakerOf<T>, &mut P, usize, Reading) -> PResult<Cover<T::Expr>>,
-    N: Fn(&MakerOf<T>, &mut P, usize, Part) -> PResult<T::Pat>,
->(g: &Grammar<S, E, N>, t: &MakerOf<T>, p: &mut P) -> PResult<T::Pat>
-    requires { Nests P.seen T.expr_of T.pat_of T.stmt_of g.now.depth
-        (S.pre g.now.stmt) (S.post g.now.stmt) (E.pre g.now.expr) (E.post g.now.expr)
-        (N.pre g.now.pat) (N.post g.now.pat) }
+fn rest_name<P: Cursor, T: Trees, G: Readers<P, T>>(
+    g: &G,
+    t: &MakerOf<T>,
+    p: &mut P,
+) -> PResult<T::Pat>
+    requires { G.ready g.now }
     ensures { GivesAs T.pat_of
-        (patterns.rest_name (rules.expr g.now.depth) (rules.cover g.now.depth)
-        (rules.pattern g.now.depth) (rules.element g.now.depth) (P.seen p.old)) result
+        (patterns.rest_name (rules.expr (G.depth g.now)) (rules.cover (G.depth g.now))
+        (rules.pattern (G.depth g.now)) (rules.element (G.depth g.now)) (P.seen p.old)) result
         (P.seen p.new) }
 {
     if p.sees(TokenKind::LBracket) || p.sees(TokenKind::LBrace) {
@@ -45,19 +41,15 @@ fn rest_name<
 
 /// `...` and the rest of an object.
 #[tactic(auto, unfolding(swc_ecma_parser_reader::specs::Patterns::rest_property))]
-fn rest_property<
-    P: Cursor,
-    T: BuildsObjectPat,
-    S: Fn(&MakerOf<T>, &mut P, usize, Position) -> PResult<T::Stmt>,
-    E: Fn(&MakerOf<T>, &mut P, usize, Reading) -> PResult<Cover<T::Expr>>,
-    N: Fn(&MakerOf<T>, &mut P, usize, Part) -> PResult<T::Pat>,
->(g: &Grammar<S, E, N>, t: &MakerOf<T>, p: &mut P) -> PResult<T::PatProp>
-    requires { Nests P.seen T.expr_of T.pat_of T.stmt_of g.now.depth
-        (S.pre g.now.stmt) (S.post g.now.stmt) (E.pre g.now.expr) (E.post g.now.expr)
-        (N.pre g.now.pat) (N.post g.now.pat) }
+fn rest_property<P: Cursor, T: BuildsObjectPat, G: Readers<P, T>>(
+    g: &G,
+    t: &MakerOf<T>,
+    p: &mut P,
+) -> PResult<T::PatProp>
+    requires { G.ready g.now }
     ensures { GivesAs T.pat_prop_of
-        (patterns.rest_property (rules.expr g.now.depth) (rules.cover g.now.depth)
-        (rules.pattern g.now.depth) (rules.element g.now.depth) (P.seen p.old)) result
+        (patterns.rest_property (rules.expr (G.depth g.now)) (rules.cover (G.depth g.now))
+        (rules.pattern (G.depth g.now)) (rules.element (G.depth g.now)) (P.seen p.old)) result
         (P.seen p.new) }
 {
     let start = p.span();
@@ -69,25 +61,17 @@ fn rest_property<
 
 /// A key and its pattern, from `:` on.
 #[tactic(auto, unfolding(swc_ecma_parser_reader::specs::Patterns::key_value))]
-fn key_value<
-    P: Cursor,
-    T: BuildsObjectPat,
-    S: Fn(&MakerOf<T>, &mut P, usize, Position) -> PResult<T::Stmt>,
-    E: Fn(&MakerOf<T>, &mut P, usize, Reading) -> PResult<Cover<T::Expr>>,
-    N: Fn(&MakerOf<T>, &mut P, usize, Part) -> PResult<T::Pat>,
->(
-    g: &Grammar<S, E, N>,
+fn key_value<P: Cursor, T: BuildsObjectPat, G: Readers<P, T>>(
+    g: &G,
     t: &MakerOf<T>,
     p: &mut P,
     start: Span,
     key: Key<T::Expr>,
 ) -> PResult<T::PatProp>
-    requires { Nests P.seen T.expr_of T.pat_of T.stmt_of g.now.depth
-        (S.pre g.now.stmt) (S.post g.now.stmt) (E.pre g.now.expr) (E.post g.now.expr)
-        (N.pre g.now.pat) (N.post g.now.pat) }
+    requires { G.ready g.now }
     ensures { GivesAs T.pat_prop_of
-        (patterns.key_value (rules.expr g.now.depth) (rules.cover g.now.depth)
-        (rules.pattern g.now.depth) (rules.element g.now.depth) start (key_of T.expr_of key)
+        (patterns.key_value (rules.expr (G.depth g.now)) (rules.cover (G.depth g.now))
+        (rules.pattern (G.depth g.now)) (rules.element (G.depth g.now)) start (key_of T.expr_of key)
         (P.seen p.old)) result (P.seen p.new) }
 {
     p.skip()?;
@@ -99,19 +83,17 @@ fn key_value<
 
 /// A name that is its own key and its default, from `=` on.
 #[tactic(auto, unfolding(swc_ecma_parser_reader::specs::Patterns::initialized_name))]
-fn initialized_name<
-    P: Cursor,
-    T: BuildsObjectPat,
-    S: Fn(&MakerOf<T>, &mut P, usize, Position) -> PResult<T::Stmt>,
-    E: Fn(&MakerOf<T>, &mut P, usize, Reading) -> PResult<Cover<T::Expr>>,
-    N: Fn(&MakerOf<T>, &mut P, usize, Part) -> PResult<T::Pat>,
->(g: &Grammar<S, E, N>, t: &MakerOf<T>, p: &mut P, start: Span, name: Ident) -> PResult<T::PatProp>
-    requires { Nests P.seen T.expr_of T.pat_of T.stmt_of g.now.depth
-        (S.pre g.now.stmt) (S.post g.now.stmt) (E.pre g.now.expr) (E.post g.now.expr)
-        (N.pre g.now.pat) (N.post g.now.pat) }
+fn initialized_name<P: Cursor, T: BuildsObjectPat, G: Readers<P, T>>(
+    g: &G,
+    t: &MakerOf<T>,
+    p: &mut P,
+    start: Span,
+    name: Ident,
+) -> PResult<T::PatProp>
+    requires { G.ready g.now }
     ensures { GivesAs T.pat_prop_of
-        (patterns.initialized_name (rules.expr g.now.depth) (rules.cover g.now.depth)
-        (rules.pattern g.now.depth) (rules.element g.now.depth) start name.span name.sym
+        (patterns.initialized_name (rules.expr (G.depth g.now)) (rules.cover (G.depth g.now))
+        (rules.pattern (G.depth g.now)) (rules.element (G.depth g.now)) start name.span name.sym
         (P.seen p.old)) result (P.seen p.new) }
 {
     p.skip()?;
@@ -122,19 +104,17 @@ fn initialized_name<
 
 /// A word that is its own key, with its default if one stands there: a name.
 #[tactic(auto, unfolding(swc_ecma_parser_reader::specs::Patterns::named, swc_ecma_parser_reader::specs::Patterns::bare_name, swc_ecma_parser_reader::specs::State::as_name))]
-fn named<
-    P: Cursor,
-    T: BuildsObjectPat,
-    S: Fn(&MakerOf<T>, &mut P, usize, Position) -> PResult<T::Stmt>,
-    E: Fn(&MakerOf<T>, &mut P, usize, Reading) -> PResult<Cover<T::Expr>>,
-    N: Fn(&MakerOf<T>, &mut P, usize, Part) -> PResult<T::Pat>,
->(g: &Grammar<S, E, N>, t: &MakerOf<T>, p: &mut P, start: Span, name: Ident) -> PResult<T::PatProp>
-    requires { Nests P.seen T.expr_of T.pat_of T.stmt_of g.now.depth
-        (S.pre g.now.stmt) (S.post g.now.stmt) (E.pre g.now.expr) (E.post g.now.expr)
-        (N.pre g.now.pat) (N.post g.now.pat) }
+fn named<P: Cursor, T: BuildsObjectPat, G: Readers<P, T>>(
+    g: &G,
+    t: &MakerOf<T>,
+    p: &mut P,
+    start: Span,
+    name: Ident,
+) -> PResult<T::PatProp>
+    requires { G.ready g.now }
     ensures { GivesAs T.pat_prop_of
-        (patterns.named (rules.expr g.now.depth) (rules.cover g.now.depth)
-        (rules.pattern g.now.depth) (rules.element g.now.depth) start name.span name.sym
+        (patterns.named (rules.expr (G.depth g.now)) (rules.cover (G.depth g.now))
+        (rules.pattern (G.depth g.now)) (rules.element (G.depth g.now)) start name.span name.sym
         (P.seen p.old)) result (P.seen p.new) }
 {
     let may_await = may_bind_await(p.flags());
@@ -147,25 +127,17 @@ fn named<
 }
 
 /// A key with no pattern behind it, which is a name.
-fn bare_key<
-    P: Cursor,
-    T: BuildsObjectPat,
-    S: Fn(&MakerOf<T>, &mut P, usize, Position) -> PResult<T::Stmt>,
-    E: Fn(&MakerOf<T>, &mut P, usize, Reading) -> PResult<Cover<T::Expr>>,
-    N: Fn(&MakerOf<T>, &mut P, usize, Part) -> PResult<T::Pat>,
->(
-    g: &Grammar<S, E, N>,
+fn bare_key<P: Cursor, T: BuildsObjectPat, G: Readers<P, T>>(
+    g: &G,
     t: &MakerOf<T>,
     p: &mut P,
     start: Span,
     key: Key<T::Expr>,
 ) -> PResult<T::PatProp>
-    requires { Nests P.seen T.expr_of T.pat_of T.stmt_of g.now.depth
-        (S.pre g.now.stmt) (S.post g.now.stmt) (E.pre g.now.expr) (E.post g.now.expr)
-        (N.pre g.now.pat) (N.post g.now.pat) }
+    requires { G.ready g.now }
     ensures { GivesAs T.pat_prop_of
-        (patterns.bare_key (rules.expr g.now.depth) (rules.cover g.now.depth)
-        (rules.pattern g.now.depth) (rules.element g.now.depth) start (key_of T.expr_of key)
+        (patterns.bare_key (rules.expr (G.depth g.now)) (rules.cover (G.depth g.now))
+        (rules.pattern (G.depth g.now)) (rules.element (G.depth g.now)) start (key_of T.expr_of key)
         (P.seen p.old)) result (P.seen p.new) }
 {
     match key {
@@ -176,25 +148,17 @@ fn bare_key<
 
 /// What stands behind a key.
 #[tactic(auto, unfolding(swc_ecma_parser_reader::specs::Patterns::behind_key))]
-fn behind_key<
-    P: Cursor,
-    T: BuildsObjectPat,
-    S: Fn(&MakerOf<T>, &mut P, usize, Position) -> PResult<T::Stmt>,
-    E: Fn(&MakerOf<T>, &mut P, usize, Reading) -> PResult<Cover<T::Expr>>,
-    N: Fn(&MakerOf<T>, &mut P, usize, Part) -> PResult<T::Pat>,
->(
-    g: &Grammar<S, E, N>,
+fn behind_key<P: Cursor, T: BuildsObjectPat, G: Readers<P, T>>(
+    g: &G,
     t: &MakerOf<T>,
     p: &mut P,
     start: Span,
     key: Key<T::Expr>,
 ) -> PResult<T::PatProp>
-    requires { Nests P.seen T.expr_of T.pat_of T.stmt_of g.now.depth
-        (S.pre g.now.stmt) (S.post g.now.stmt) (E.pre g.now.expr) (E.post g.now.expr)
-        (N.pre g.now.pat) (N.post g.now.pat) }
+    requires { G.ready g.now }
     ensures { GivesAs T.pat_prop_of
-        (patterns.behind_key (rules.expr g.now.depth) (rules.cover g.now.depth)
-        (rules.pattern g.now.depth) (rules.element g.now.depth) start (key_of T.expr_of key)
+        (patterns.behind_key (rules.expr (G.depth g.now)) (rules.cover (G.depth g.now))
+        (rules.pattern (G.depth g.now)) (rules.element (G.depth g.now)) start (key_of T.expr_of key)
         (P.seen p.old)) result (P.seen p.new) }
 {
     if p.sees(TokenKind::Colon) {
@@ -205,19 +169,15 @@ fn behind_key<
 
 /// A property.
 #[tactic(auto, unfolding(swc_ecma_parser_reader::specs::Patterns::property))]
-fn property<
-    P: Cursor,
-    T: BuildsObjectPat,
-    S: Fn(&MakerOf<T>, &mut P, usize, Position) -> PResult<T::Stmt>,
-    E: Fn(&MakerOf<T>, &mut P, usize, Reading) -> PResult<Cover<T::Expr>>,
-    N: Fn(&MakerOf<T>, &mut P, usize, Part) -> PResult<T::Pat>,
->(g: &Grammar<S, E, N>, t: &MakerOf<T>, p: &mut P) -> PResult<T::PatProp>
-    requires { Nests P.seen T.expr_of T.pat_of T.stmt_of g.now.depth
-        (S.pre g.now.stmt) (S.post g.now.stmt) (E.pre g.now.expr) (E.post g.now.expr)
-        (N.pre g.now.pat) (N.post g.now.pat) }
+fn property<P: Cursor, T: BuildsObjectPat, G: Readers<P, T>>(
+    g: &G,
+    t: &MakerOf<T>,
+    p: &mut P,
+) -> PResult<T::PatProp>
+    requires { G.ready g.now }
     ensures { GivesAs T.pat_prop_of
-        (patterns.property (rules.expr g.now.depth) (rules.cover g.now.depth)
-        (rules.pattern g.now.depth) (rules.element g.now.depth) (P.seen p.old)) result
+        (patterns.property (rules.expr (G.depth g.now)) (rules.cover (G.depth g.now))
+        (rules.pattern (G.depth g.now)) (rules.element (G.depth g.now)) (P.seen p.old)) result
         (P.seen p.new) }
 {
     let start = p.span();
@@ -227,19 +187,15 @@ fn property<
 
 /// Properties, from `{` on. Nothing stands behind the rest.
 #[tactic(auto, unfolding(swc_ecma_parser_reader::specs::Patterns::properties), using(swc_ecma_parser_reader::proofs::patterns::Loops::properties_done, swc_ecma_parser_reader::proofs::patterns::Loops::properties_rest, swc_ecma_parser_reader::proofs::patterns::Loops::properties_last, swc_ecma_parser_reader::proofs::patterns::Loops::properties_more, swc_ecma_parser_reader::proofs::patterns::Loops::property_shorter, swc_ecma_parser_reader::proofs::patterns::Loops::properties_shorter, std::proofs::lemmas::List::map_push))]
-fn properties<
-    P: Cursor,
-    T: BuildsObjectPat,
-    S: Fn(&MakerOf<T>, &mut P, usize, Position) -> PResult<T::Stmt>,
-    E: Fn(&MakerOf<T>, &mut P, usize, Reading) -> PResult<Cover<T::Expr>>,
-    N: Fn(&MakerOf<T>, &mut P, usize, Part) -> PResult<T::Pat>,
->(g: &Grammar<S, E, N>, t: &MakerOf<T>, p: &mut P) -> PResult<Vec<T::PatProp>>
-    requires { Nests P.seen T.expr_of T.pat_of T.stmt_of g.now.depth
-        (S.pre g.now.stmt) (S.post g.now.stmt) (E.pre g.now.expr) (E.post g.now.expr)
-        (N.pre g.now.pat) (N.post g.now.pat) }
+fn properties<P: Cursor, T: BuildsObjectPat, G: Readers<P, T>>(
+    g: &G,
+    t: &MakerOf<T>,
+    p: &mut P,
+) -> PResult<Vec<T::PatProp>>
+    requires { G.ready g.now }
     ensures { GivesAs (λ found. map T.pat_prop_of found.items)
-        (patterns.properties (rules.expr g.now.depth) (rules.cover g.now.depth)
-        (rules.pattern g.now.depth) (rules.element g.now.depth) (P.seen p.old)) result
+        (patterns.properties (rules.expr (G.depth g.now)) (rules.cover (G.depth g.now))
+        (rules.pattern (G.depth g.now)) (rules.element (G.depth g.now)) (P.seen p.old)) result
         (P.seen p.new) }
 {
     p.skip()?;
@@ -266,19 +222,15 @@ fn properties<
 /// An object pattern.
 #[tactic(auto, unfolding(swc_ecma_parser_reader::specs::Patterns::object))]
 #[inline(never)]
-pub(crate) fn object_pat<
-    P: Cursor,
-    T: BuildsObjectPat,
-    S: Fn(&MakerOf<T>, &mut P, usize, Position) -> PResult<T::Stmt>,
-    E: Fn(&MakerOf<T>, &mut P, usize, Reading) -> PResult<Cover<T::Expr>>,
-    N: Fn(&MakerOf<T>, &mut P, usize, Part) -> PResult<T::Pat>,
->(g: &Grammar<S, E, N>, t: &MakerOf<T>, p: &mut P) -> PResult<T::Pat>
-    requires { Nests P.seen T.expr_of T.pat_of T.stmt_of g.now.depth
-        (S.pre g.now.stmt) (S.post g.now.stmt) (E.pre g.now.expr) (E.post g.now.expr)
-        (N.pre g.now.pat) (N.post g.now.pat) }
+pub(crate) fn object_pat<P: Cursor, T: BuildsObjectPat, G: Readers<P, T>>(
+    g: &G,
+    t: &MakerOf<T>,
+    p: &mut P,
+) -> PResult<T::Pat>
+    requires { G.ready g.now }
     ensures { GivesAs T.pat_of
-        (patterns.object (rules.expr g.now.depth) (rules.cover g.now.depth)
-        (rules.pattern g.now.depth) (rules.element g.now.depth) (P.seen p.old)) result
+        (patterns.object (rules.expr (G.depth g.now)) (rules.cover (G.depth g.now))
+        (rules.pattern (G.depth g.now)) (rules.element (G.depth g.now)) (P.seen p.old)) result
         (P.seen p.new) }
 {
     let start = p.span();

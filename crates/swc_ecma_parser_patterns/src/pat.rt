@@ -2,7 +2,6 @@
 
 ghost use Rattle.std.specs.Prelude.{map};
 ghost use Rattle.swc_ecma_parser_grammar.specs.language.Contexts as language;
-ghost use Rattle.swc_ecma_parser_shared.specs.Nests.{Nests};
 ghost use Rattle.swc_ecma_parser_shared.specs.Patterns.{read_pat};
 ghost use Rattle.swc_ecma_parser_reader.specs.Patterns as patterns;
 ghost use Rattle.swc_ecma_parser_reader.specs.Reader as rules;
@@ -15,9 +14,10 @@ use std::alloc::Global;
 use swc_ecma_parser_common::Span;
 use swc_ecma_parser_cursor::{Cursor, Wanted};
 use swc_ecma_parser_error::PResult;
-use swc_ecma_parser_grammar::{Class, Position};
-use swc_ecma_parser_shared::cover::{Cover, Reading, inside};
-use swc_ecma_parser_shared::grammar::{Grammar, Part};
+use swc_ecma_parser_grammar::Class;
+use swc_ecma_parser_shared::cover::inside;
+use swc_ecma_parser_shared::grammar::Part;
+use swc_ecma_parser_shared::readers::Readers;
 use swc_ecma_parser_shared::steps::{grown, pushed, since, with_in};
 use swc_ecma_parser_token::TokenKind;
 use swc_ecma_parser_trees::{BuildsObjectPat, BuildsPat, BuildsPattern, MakerOf, Trees};
@@ -32,42 +32,35 @@ fn binding<P: Cursor, T: BuildsPat>(alloc: Global, p: &mut P) -> PResult<T::Pat>
 }
 
 /// A pattern one level further in, where `in` is an operator.
-pub fn inner_pat<
-    P: Cursor,
-    T: Trees,
-    S: Fn(&MakerOf<T>, &mut P, usize, Position) -> PResult<T::Stmt>,
-    E: Fn(&MakerOf<T>, &mut P, usize, Reading) -> PResult<Cover<T::Expr>>,
-    N: Fn(&MakerOf<T>, &mut P, usize, Part) -> PResult<T::Pat>,
->(g: &Grammar<S, E, N>, t: &MakerOf<T>, p: &mut P, part: Part) -> PResult<T::Pat>
-    requires { Nests P.seen T.expr_of T.pat_of T.stmt_of g.now.depth
-        (S.pre g.now.stmt) (S.post g.now.stmt) (E.pre g.now.expr) (E.post g.now.expr)
-        (N.pre g.now.pat) (N.post g.now.pat) }
+pub fn inner_pat<P: Cursor, T: Trees, G: Readers<P, T>>(
+    g: &G,
+    t: &MakerOf<T>,
+    p: &mut P,
+    part: Part,
+) -> PResult<T::Pat>
+    requires { G.ready g.now }
     ensures { GivesAs T.pat_of
-        (reader.within language.with_in (read_pat g.now.depth part) (P.seen p.old)) result
+        (reader.within language.with_in (read_pat (G.depth g.now) part) (P.seen p.old)) result
         (P.seen p.new) }
 {
     let outer = p.flags();
     p.set_flags(with_in(outer));
-    let inner = (g.pat)(t, p, g.depth, part)?;
+    let inner = g.pat(t, p, part)?;
     p.set_flags(outer);
     Ok(inner)
 }
 
 /// The rest of an array or of parameters.
 #[tactic(auto, unfolding(swc_ecma_parser_reader::specs::Patterns::rest))]
-pub(crate) fn rest<
-    P: Cursor,
-    T: BuildsPattern,
-    S: Fn(&MakerOf<T>, &mut P, usize, Position) -> PResult<T::Stmt>,
-    E: Fn(&MakerOf<T>, &mut P, usize, Reading) -> PResult<Cover<T::Expr>>,
-    N: Fn(&MakerOf<T>, &mut P, usize, Part) -> PResult<T::Pat>,
->(g: &Grammar<S, E, N>, t: &MakerOf<T>, p: &mut P) -> PResult<T::Pat>
-    requires { Nests P.seen T.expr_of T.pat_of T.stmt_of g.now.depth
-        (S.pre g.now.stmt) (S.post g.now.stmt) (E.pre g.now.expr) (E.post g.now.expr)
-        (N.pre g.now.pat) (N.post g.now.pat) }
+pub(crate) fn rest<P: Cursor, T: BuildsPattern, G: Readers<P, T>>(
+    g: &G,
+    t: &MakerOf<T>,
+    p: &mut P,
+) -> PResult<T::Pat>
+    requires { G.ready g.now }
     ensures { GivesAs T.pat_of
-        (patterns.rest (rules.expr g.now.depth) (rules.cover g.now.depth)
-        (rules.pattern g.now.depth) (rules.element g.now.depth) (P.seen p.old)) result
+        (patterns.rest (rules.expr (G.depth g.now)) (rules.cover (G.depth g.now))
+        (rules.pattern (G.depth g.now)) (rules.element (G.depth g.now)) (P.seen p.old)) result
         (P.seen p.new) }
 {
     let start = p.span();
@@ -79,19 +72,15 @@ pub(crate) fn rest<
 
 /// Elements, from `[` on. A comma with nothing before it makes a hole, and nothing stands behind the rest.
 #[tactic(auto, unfolding(swc_ecma_parser_reader::specs::Patterns::elements), using(swc_ecma_parser_reader::proofs::patterns::Loops::elements_done, swc_ecma_parser_reader::proofs::patterns::Loops::elements_hole, swc_ecma_parser_reader::proofs::patterns::Loops::elements_last, swc_ecma_parser_reader::proofs::patterns::Loops::elements_more, swc_ecma_parser_reader::proofs::expressions::Loops::hole_shorter, std::proofs::lemmas::List::map_push))]
-fn elements<
-    P: Cursor,
-    T: BuildsPattern,
-    S: Fn(&MakerOf<T>, &mut P, usize, Position) -> PResult<T::Stmt>,
-    E: Fn(&MakerOf<T>, &mut P, usize, Reading) -> PResult<Cover<T::Expr>>,
-    N: Fn(&MakerOf<T>, &mut P, usize, Part) -> PResult<T::Pat>,
->(g: &Grammar<S, E, N>, t: &MakerOf<T>, p: &mut P) -> PResult<Vec<Option<T::Pat>>>
-    requires { Nests P.seen T.expr_of T.pat_of T.stmt_of g.now.depth
-        (S.pre g.now.stmt) (S.post g.now.stmt) (E.pre g.now.expr) (E.post g.now.expr)
-        (N.pre g.now.pat) (N.post g.now.pat) }
+fn elements<P: Cursor, T: BuildsPattern, G: Readers<P, T>>(
+    g: &G,
+    t: &MakerOf<T>,
+    p: &mut P,
+) -> PResult<Vec<Option<T::Pat>>>
+    requires { G.ready g.now }
     ensures { GivesAs (λ found. map (part_of T.pat_of) found.items)
-        (patterns.elements (rules.expr g.now.depth) (rules.cover g.now.depth)
-        (rules.pattern g.now.depth) (rules.element g.now.depth) (P.seen p.old)) result
+        (patterns.elements (rules.expr (G.depth g.now)) (rules.cover (G.depth g.now))
+        (rules.pattern (G.depth g.now)) (rules.element (G.depth g.now)) (P.seen p.old)) result
         (P.seen p.new) }
 {
     p.skip()?;
@@ -124,19 +113,15 @@ fn elements<
 /// An array pattern.
 #[tactic(auto, unfolding(swc_ecma_parser_reader::specs::Patterns::array))]
 #[inline(never)]
-fn array_pat<
-    P: Cursor,
-    T: BuildsPattern,
-    S: Fn(&MakerOf<T>, &mut P, usize, Position) -> PResult<T::Stmt>,
-    E: Fn(&MakerOf<T>, &mut P, usize, Reading) -> PResult<Cover<T::Expr>>,
-    N: Fn(&MakerOf<T>, &mut P, usize, Part) -> PResult<T::Pat>,
->(g: &Grammar<S, E, N>, t: &MakerOf<T>, p: &mut P) -> PResult<T::Pat>
-    requires { Nests P.seen T.expr_of T.pat_of T.stmt_of g.now.depth
-        (S.pre g.now.stmt) (S.post g.now.stmt) (E.pre g.now.expr) (E.post g.now.expr)
-        (N.pre g.now.pat) (N.post g.now.pat) }
+fn array_pat<P: Cursor, T: BuildsPattern, G: Readers<P, T>>(
+    g: &G,
+    t: &MakerOf<T>,
+    p: &mut P,
+) -> PResult<T::Pat>
+    requires { G.ready g.now }
     ensures { GivesAs T.pat_of
-        (patterns.array (rules.expr g.now.depth) (rules.cover g.now.depth)
-        (rules.pattern g.now.depth) (rules.element g.now.depth) (P.seen p.old)) result
+        (patterns.array (rules.expr (G.depth g.now)) (rules.cover (G.depth g.now))
+        (rules.pattern (G.depth g.now)) (rules.element (G.depth g.now)) (P.seen p.old)) result
         (P.seen p.new) }
 {
     let start = p.span();
@@ -147,19 +132,15 @@ fn array_pat<
 
 /// A pattern without default.
 #[tactic(auto, unfolding(swc_ecma_parser_reader::specs::Patterns::pattern_level))]
-pub fn pattern_level<
-    P: Cursor,
-    T: BuildsPat + BuildsPattern + BuildsObjectPat,
-    S: Fn(&MakerOf<T>, &mut P, usize, Position) -> PResult<T::Stmt>,
-    E: Fn(&MakerOf<T>, &mut P, usize, Reading) -> PResult<Cover<T::Expr>>,
-    N: Fn(&MakerOf<T>, &mut P, usize, Part) -> PResult<T::Pat>,
->(g: &Grammar<S, E, N>, t: &MakerOf<T>, p: &mut P) -> PResult<T::Pat>
-    requires { Nests P.seen T.expr_of T.pat_of T.stmt_of g.now.depth
-        (S.pre g.now.stmt) (S.post g.now.stmt) (E.pre g.now.expr) (E.post g.now.expr)
-        (N.pre g.now.pat) (N.post g.now.pat) }
+pub fn pattern_level<P: Cursor, T: BuildsPat + BuildsPattern + BuildsObjectPat, G: Readers<P, T>>(
+    g: &G,
+    t: &MakerOf<T>,
+    p: &mut P,
+) -> PResult<T::Pat>
+    requires { G.ready g.now }
     ensures { GivesAs T.pat_of
-        (patterns.pattern_level (rules.expr g.now.depth) (rules.cover g.now.depth)
-        (rules.pattern g.now.depth) (rules.element g.now.depth) (P.seen p.old)) result
+        (patterns.pattern_level (rules.expr (G.depth g.now)) (rules.cover (G.depth g.now))
+        (rules.pattern (G.depth g.now)) (rules.element (G.depth g.now)) (P.seen p.old)) result
         (P.seen p.new) }
 {
     if p.sees(TokenKind::LBracket) {
@@ -173,19 +154,17 @@ pub fn pattern_level<
 
 /// A pattern with its default, from `=` on.
 #[tactic(auto, unfolding(swc_ecma_parser_reader::specs::Patterns::initialized))]
-fn initialized<
-    P: Cursor,
-    T: BuildsPattern,
-    S: Fn(&MakerOf<T>, &mut P, usize, Position) -> PResult<T::Stmt>,
-    E: Fn(&MakerOf<T>, &mut P, usize, Reading) -> PResult<Cover<T::Expr>>,
-    N: Fn(&MakerOf<T>, &mut P, usize, Part) -> PResult<T::Pat>,
->(g: &Grammar<S, E, N>, t: &MakerOf<T>, p: &mut P, start: Span, left: T::Pat) -> PResult<T::Pat>
-    requires { Nests P.seen T.expr_of T.pat_of T.stmt_of g.now.depth
-        (S.pre g.now.stmt) (S.post g.now.stmt) (E.pre g.now.expr) (E.post g.now.expr)
-        (N.pre g.now.pat) (N.post g.now.pat) }
+fn initialized<P: Cursor, T: BuildsPattern, G: Readers<P, T>>(
+    g: &G,
+    t: &MakerOf<T>,
+    p: &mut P,
+    start: Span,
+    left: T::Pat,
+) -> PResult<T::Pat>
+    requires { G.ready g.now }
     ensures { GivesAs T.pat_of
-        (patterns.initialized (rules.expr g.now.depth) (rules.cover g.now.depth)
-        (rules.pattern g.now.depth) (rules.element g.now.depth) start (T.pat_of left)
+        (patterns.initialized (rules.expr (G.depth g.now)) (rules.cover (G.depth g.now))
+        (rules.pattern (G.depth g.now)) (rules.element (G.depth g.now)) start (T.pat_of left)
         (P.seen p.old)) result (P.seen p.new) }
 {
     p.skip()?;
@@ -196,19 +175,15 @@ fn initialized<
 
 /// A pattern with its default, if one stands there.
 #[tactic(auto, unfolding(swc_ecma_parser_reader::specs::Patterns::element_level))]
-pub fn element_level<
-    P: Cursor,
-    T: BuildsPat + BuildsPattern + BuildsObjectPat,
-    S: Fn(&MakerOf<T>, &mut P, usize, Position) -> PResult<T::Stmt>,
-    E: Fn(&MakerOf<T>, &mut P, usize, Reading) -> PResult<Cover<T::Expr>>,
-    N: Fn(&MakerOf<T>, &mut P, usize, Part) -> PResult<T::Pat>,
->(g: &Grammar<S, E, N>, t: &MakerOf<T>, p: &mut P) -> PResult<T::Pat>
-    requires { Nests P.seen T.expr_of T.pat_of T.stmt_of g.now.depth
-        (S.pre g.now.stmt) (S.post g.now.stmt) (E.pre g.now.expr) (E.post g.now.expr)
-        (N.pre g.now.pat) (N.post g.now.pat) }
+pub fn element_level<P: Cursor, T: BuildsPat + BuildsPattern + BuildsObjectPat, G: Readers<P, T>>(
+    g: &G,
+    t: &MakerOf<T>,
+    p: &mut P,
+) -> PResult<T::Pat>
+    requires { G.ready g.now }
     ensures { GivesAs T.pat_of
-        (patterns.element_level (rules.expr g.now.depth) (rules.cover g.now.depth)
-        (rules.pattern g.now.depth) (rules.element g.now.depth) (P.seen p.old)) result
+        (patterns.element_level (rules.expr (G.depth g.now)) (rules.cover (G.depth g.now))
+        (rules.pattern (G.depth g.now)) (rules.element (G.depth g.now)) (P.seen p.old)) result
         (P.seen p.new) }
 {
     let start = p.span();

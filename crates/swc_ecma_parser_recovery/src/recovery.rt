@@ -5,7 +5,6 @@ ghost use Rattle.swc_ecma_parser_error.specs.Kind as kinds;
 ghost use Rattle.swc_ecma_parser_error.specs.Kind.{kind_of};
 ghost use Rattle.swc_ecma_parser_grammar.specs.language.Contexts.{with_in};
 ghost use Rattle.swc_ecma_parser_grammar.specs.language.Goals.{expression};
-ghost use Rattle.swc_ecma_parser_shared.specs.Nests.{Nests};
 ghost use Rattle.swc_ecma_parser_reader.proofs.Recovered.{set_back};
 ghost use Rattle.swc_ecma_parser_reader.specs.Reader as rules;
 ghost use Rattle.swc_ecma_parser_reader.specs.Recovery as recovery;
@@ -15,11 +14,11 @@ ghost use Rattle.swc_ecma_parser_recovery.specs.Dropped.{dropped_in, ended};
 
 use swc_ecma_parser_cursor::{Around, Cursor};
 use swc_ecma_parser_error::{Error, PResult, SyntaxError};
-use swc_ecma_parser_grammar::{Class, Position};
+use swc_ecma_parser_grammar::Class;
 use swc_ecma_parser_input::Context;
-use swc_ecma_parser_shared::cover::{Cover, Reading, inside};
+use swc_ecma_parser_shared::cover::inside;
 use swc_ecma_parser_shared::ends::can_end;
-use swc_ecma_parser_shared::grammar::{Grammar, Part};
+use swc_ecma_parser_shared::readers::Readers;
 use swc_ecma_parser_token::TokenKind;
 use swc_ecma_parser_trees::{MakerOf, Trees};
 
@@ -76,18 +75,10 @@ pub fn dropped<P: Cursor, X: Drop>(
 
 /// Reads an expression and drops it.
 #[tactic(auto, unfolding(swc_ecma_parser_reader::specs::Expressions::inside), using(crate::proofs::Dropped::expr_passes, crate::proofs::Dropped::module_behind_answer))]
-fn attempted<
-    P: Cursor,
-    T: Trees,
-    S: Fn(&MakerOf<T>, &mut P, usize, Position) -> PResult<T::Stmt>,
-    E: Fn(&MakerOf<T>, &mut P, usize, Reading) -> PResult<Cover<T::Expr>>,
-    N: Fn(&MakerOf<T>, &mut P, usize, Part) -> PResult<T::Pat>,
->(g: &Grammar<S, E, N>, t: &MakerOf<T>, p: &mut P) -> PResult<()>
-    requires { Nests P.seen T.expr_of T.pat_of T.stmt_of g.now.depth
-        (S.pre g.now.stmt) (S.post g.now.stmt) (E.pre g.now.expr) (E.post g.now.expr)
-        (N.pre g.now.pat) (N.post g.now.pat) }
+fn attempted<P: Cursor, T: Trees, G: Readers<P, T>>(g: &G, t: &MakerOf<T>, p: &mut P) -> PResult<()>
+    requires { G.ready g.now }
     ensures { Gives
-        (reader.attempted (reader.within with_in (rules.expr g.now.depth expression))
+        (reader.attempted (reader.within with_in (rules.expr (G.depth g.now) expression))
         (P.seen p.old)) result (P.seen p.new) }
 {
     let around = p.copy_around()?;
@@ -117,18 +108,15 @@ fn up_to_end<P: Cursor>(p: &mut P) -> PResult<()>
 
 /// The end of a declaration. Where it is missing, an expression and what follows it up to an end is dropped with a fault.
 #[tactic(auto, unfolding(swc_ecma_parser_reader::specs::Recovery::declaration_end, swc_ecma_parser_reader::specs::Recovery::no_end))]
-pub fn declaration_end<
-    P: Cursor,
-    T: Trees,
-    S: Fn(&MakerOf<T>, &mut P, usize, Position) -> PResult<T::Stmt>,
-    E: Fn(&MakerOf<T>, &mut P, usize, Reading) -> PResult<Cover<T::Expr>>,
-    N: Fn(&MakerOf<T>, &mut P, usize, Part) -> PResult<T::Pat>,
->(g: &Grammar<S, E, N>, t: &MakerOf<T>, p: &mut P) -> PResult<()>
-    requires { Nests P.seen T.expr_of T.pat_of T.stmt_of g.now.depth
-        (S.pre g.now.stmt) (S.post g.now.stmt) (E.pre g.now.expr) (E.post g.now.expr)
-        (N.pre g.now.pat) (N.post g.now.pat) }
-    ensures { Gives (recovery.declaration_end (rules.expr g.now.depth expression) (P.seen p.old))
-        result (P.seen p.new) }
+pub fn declaration_end<P: Cursor, T: Trees, G: Readers<P, T>>(
+    g: &G,
+    t: &MakerOf<T>,
+    p: &mut P,
+) -> PResult<()>
+    requires { G.ready g.now }
+    ensures { Gives
+        (recovery.declaration_end (rules.expr (G.depth g.now) expression) (P.seen p.old)) result
+        (P.seen p.new) }
 {
     if p.sees(TokenKind::Semi) {
         return p.skip();

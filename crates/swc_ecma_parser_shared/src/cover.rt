@@ -5,7 +5,6 @@ ghost use Rattle.swc_ecma_parser_error.specs.Kind as kinds;
 ghost use Rattle.swc_ecma_parser_error.specs.Kind.{IsOutOfMemory, fault_of, kind_of};
 ghost use Rattle.swc_ecma_parser_grammar.specs.Looks as looks;
 ghost use Rattle.swc_ecma_parser_shared.specs.Covers.{cover_of, covers_of};
-ghost use Rattle.swc_ecma_parser_shared.specs.Nests.{Nests};
 ghost use Rattle.swc_ecma_parser_model.specs.Forms.{is_pattern_target};
 ghost use Rattle.swc_ecma_parser_model.specs.Tree.{Tree};
 ghost use Rattle.swc_ecma_parser_reader.specs.Classes.{class_of};
@@ -16,12 +15,12 @@ ghost use Rattle.swc_ecma_parser_reader.specs.State as reader;
 ghost use Rattle.swc_ecma_parser_reader.specs.State.{GivesAs};
 ghost use Rattle.swc_ecma_parser_token.specs.declared.kind.TokenKind.TheVariants as kind;
 
-use crate::grammar::{Grammar, Part};
+use crate::readers::Readers;
 use crate::steps::{grown, pushed, with_in};
 use swc_ecma_parser_common::Span;
 use swc_ecma_parser_cursor::{Cursor, Wanted};
 use swc_ecma_parser_error::{Error, PResult, SyntaxError};
-use swc_ecma_parser_grammar::{Class, Position};
+use swc_ecma_parser_grammar::Class;
 use swc_ecma_parser_token::TokenKind;
 use swc_ecma_parser_trees::{BuildsPattern, MakerOf, Trees};
 
@@ -160,60 +159,50 @@ pub fn target<P: Cursor, T: BuildsPattern>(
 }
 
 /// An expression of a class, one level further in.
-pub fn nested<
-    P: Cursor,
-    T: Trees,
-    S: Fn(&MakerOf<T>, &mut P, usize, Position) -> PResult<T::Stmt>,
-    E: Fn(&MakerOf<T>, &mut P, usize, Reading) -> PResult<Cover<T::Expr>>,
-    N: Fn(&MakerOf<T>, &mut P, usize, Part) -> PResult<T::Pat>,
->(g: &Grammar<S, E, N>, t: &MakerOf<T>, p: &mut P, class: Class) -> PResult<T::Expr>
-    requires { Nests P.seen T.expr_of T.pat_of T.stmt_of g.now.depth
-        (S.pre g.now.stmt) (S.post g.now.stmt) (E.pre g.now.expr) (E.post g.now.expr)
-        (N.pre g.now.pat) (N.post g.now.pat) }
-    ensures { GivesAs T.expr_of (rules.expr g.now.depth (class_of class) (P.seen p.old)) result
+pub fn nested<P: Cursor, T: Trees, G: Readers<P, T>>(
+    g: &G,
+    t: &MakerOf<T>,
+    p: &mut P,
+    class: Class,
+) -> PResult<T::Expr>
+    requires { G.ready g.now }
+    ensures { GivesAs T.expr_of (rules.expr (G.depth g.now) (class_of class) (P.seen p.old)) result
         (P.seen p.new) }
 {
-    let found = (g.expr)(t, p, g.depth, Reading::Expr(class))?;
+    let found = g.expr(t, p, Reading::Expr(class))?;
     Ok(found.tree)
 }
 
 /// An assignment expression that may still become a pattern, where `in` is an operator.
 #[tactic(auto, unfolding(swc_ecma_parser_reader::specs::Expressions::covered))]
-pub fn covered<
-    P: Cursor,
-    T: Trees,
-    S: Fn(&MakerOf<T>, &mut P, usize, Position) -> PResult<T::Stmt>,
-    E: Fn(&MakerOf<T>, &mut P, usize, Reading) -> PResult<Cover<T::Expr>>,
-    N: Fn(&MakerOf<T>, &mut P, usize, Part) -> PResult<T::Pat>,
->(g: &Grammar<S, E, N>, t: &MakerOf<T>, p: &mut P) -> PResult<Cover<T::Expr>>
-    requires { Nests P.seen T.expr_of T.pat_of T.stmt_of g.now.depth
-        (S.pre g.now.stmt) (S.post g.now.stmt) (E.pre g.now.expr) (E.post g.now.expr)
-        (N.pre g.now.pat) (N.post g.now.pat) }
+pub fn covered<P: Cursor, T: Trees, G: Readers<P, T>>(
+    g: &G,
+    t: &MakerOf<T>,
+    p: &mut P,
+) -> PResult<Cover<T::Expr>>
+    requires { G.ready g.now }
     ensures { GivesAs (cover_of T.expr_of)
-        (exprs.covered (rules.expr g.now.depth) (rules.cover g.now.depth) (P.seen p.old)) result
-        (P.seen p.new) }
+        (exprs.covered (rules.expr (G.depth g.now)) (rules.cover (G.depth g.now)) (P.seen p.old))
+        result (P.seen p.new) }
 {
     let outer = p.flags();
     p.set_flags(with_in(outer));
-    let inner = (g.expr)(t, p, g.depth, Reading::Cover)?;
+    let inner = g.expr(t, p, Reading::Cover)?;
     p.set_flags(outer);
     Ok(inner)
 }
 
 /// An expression of a class, where `in` is an operator.
 #[tactic(auto, unfolding(swc_ecma_parser_reader::specs::Expressions::inside))]
-pub fn inside<
-    P: Cursor,
-    T: Trees,
-    S: Fn(&MakerOf<T>, &mut P, usize, Position) -> PResult<T::Stmt>,
-    E: Fn(&MakerOf<T>, &mut P, usize, Reading) -> PResult<Cover<T::Expr>>,
-    N: Fn(&MakerOf<T>, &mut P, usize, Part) -> PResult<T::Pat>,
->(g: &Grammar<S, E, N>, t: &MakerOf<T>, p: &mut P, class: Class) -> PResult<T::Expr>
-    requires { Nests P.seen T.expr_of T.pat_of T.stmt_of g.now.depth
-        (S.pre g.now.stmt) (S.post g.now.stmt) (E.pre g.now.expr) (E.post g.now.expr)
-        (N.pre g.now.pat) (N.post g.now.pat) }
+pub fn inside<P: Cursor, T: Trees, G: Readers<P, T>>(
+    g: &G,
+    t: &MakerOf<T>,
+    p: &mut P,
+    class: Class,
+) -> PResult<T::Expr>
+    requires { G.ready g.now }
     ensures { GivesAs (T.expr_of)
-        (exprs.inside (rules.expr g.now.depth) (rules.cover g.now.depth) (class_of class)
+        (exprs.inside (rules.expr (G.depth g.now)) (rules.cover (G.depth g.now)) (class_of class)
         (P.seen p.old)) result (P.seen p.new) }
 {
     let outer = p.flags();

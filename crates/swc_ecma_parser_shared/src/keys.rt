@@ -3,19 +3,18 @@
 ghost use Rattle.std.specs.Prelude.{◌≡◌, IfOk, nat_eq};
 ghost use Rattle.swc_ecma_parser_grammar.specs.Looks.{span_at};
 ghost use Rattle.swc_ecma_parser_shared.specs.Keys.{key_of, private_of, word_of};
-ghost use Rattle.swc_ecma_parser_shared.specs.Nests.{Nests};
 ghost use Rattle.swc_ecma_parser_reader.specs.Expressions as exprs;
 ghost use Rattle.swc_ecma_parser_reader.specs.Reader as rules;
 ghost use Rattle.swc_ecma_parser_reader.specs.State.{Gives, GivesAs};
 
-use crate::cover::{Cover, Reading, inside};
-use crate::grammar::{Grammar, Part};
+use crate::cover::inside;
+use crate::readers::Readers;
 use crate::steps::since;
 use std::alloc::{AllocError, Global};
 use swc_ecma_parser_common::Span;
 use swc_ecma_parser_cursor::{Cursor, Literal, Wanted};
 use swc_ecma_parser_error::PResult;
-use swc_ecma_parser_grammar::{Class, Position};
+use swc_ecma_parser_grammar::Class;
 use swc_ecma_parser_model::{BigInt, Ident, Number, PrivateName, Str};
 use swc_ecma_parser_token::TokenKind;
 use swc_ecma_parser_trees::{BuildsKey, MakerOf, Trees};
@@ -101,19 +100,15 @@ fn literal_key<P: Cursor, T: Trees>(p: &mut P) -> PResult<Key<T::Expr>>
 
 /// A key in brackets.
 #[tactic(auto, unfolding(swc_ecma_parser_reader::specs::Expressions::computed_key))]
-fn computed_key<
-    P: Cursor,
-    T: Trees,
-    S: Fn(&MakerOf<T>, &mut P, usize, Position) -> PResult<T::Stmt>,
-    E: Fn(&MakerOf<T>, &mut P, usize, Reading) -> PResult<Cover<T::Expr>>,
-    N: Fn(&MakerOf<T>, &mut P, usize, Part) -> PResult<T::Pat>,
->(g: &Grammar<S, E, N>, t: &MakerOf<T>, p: &mut P) -> PResult<Key<T::Expr>>
-    requires { Nests P.seen T.expr_of T.pat_of T.stmt_of g.now.depth
-        (S.pre g.now.stmt) (S.post g.now.stmt) (E.pre g.now.expr) (E.post g.now.expr)
-        (N.pre g.now.pat) (N.post g.now.pat) }
+fn computed_key<P: Cursor, T: Trees, G: Readers<P, T>>(
+    g: &G,
+    t: &MakerOf<T>,
+    p: &mut P,
+) -> PResult<Key<T::Expr>>
+    requires { G.ready g.now }
     ensures { GivesAs (key_of T.expr_of)
-        (exprs.computed_key (rules.expr g.now.depth) (rules.cover g.now.depth) (P.seen p.old))
-        result (P.seen p.new) }
+        (exprs.computed_key (rules.expr (G.depth g.now)) (rules.cover (G.depth g.now))
+        (P.seen p.old)) result (P.seen p.new) }
 {
     let start = p.span();
     p.skip()?;
@@ -126,18 +121,14 @@ fn computed_key<
 /// A key.
 #[tactic(auto, unfolding(swc_ecma_parser_reader::specs::Expressions::key))]
 #[inline(never)]
-pub fn property_key<
-    P: Cursor,
-    T: Trees,
-    S: Fn(&MakerOf<T>, &mut P, usize, Position) -> PResult<T::Stmt>,
-    E: Fn(&MakerOf<T>, &mut P, usize, Reading) -> PResult<Cover<T::Expr>>,
-    N: Fn(&MakerOf<T>, &mut P, usize, Part) -> PResult<T::Pat>,
->(g: &Grammar<S, E, N>, t: &MakerOf<T>, p: &mut P) -> PResult<Key<T::Expr>>
-    requires { Nests P.seen T.expr_of T.pat_of T.stmt_of g.now.depth
-        (S.pre g.now.stmt) (S.post g.now.stmt) (E.pre g.now.expr) (E.post g.now.expr)
-        (N.pre g.now.pat) (N.post g.now.pat) }
+pub fn property_key<P: Cursor, T: Trees, G: Readers<P, T>>(
+    g: &G,
+    t: &MakerOf<T>,
+    p: &mut P,
+) -> PResult<Key<T::Expr>>
+    requires { G.ready g.now }
     ensures { GivesAs (key_of T.expr_of)
-        (exprs.key (rules.expr g.now.depth) (rules.cover g.now.depth) (P.seen p.old)) result
+        (exprs.key (rules.expr (G.depth g.now)) (rules.cover (G.depth g.now)) (P.seen p.old)) result
         (P.seen p.new) }
 {
     if p.is_word_here() {

@@ -8,4 +8,5 @@ pub mod found;
 pub mod grammar;
 pub mod keys;
 pub mod operators;
+pub mod readers;
 pub mod steps;

@@ -2,21 +2,20 @@
 
 ghost use Rattle.std.specs.Prelude.{◌≡◌};
 ghost use Rattle.swc_ecma_parser_grammar.specs.language.Operators as operators;
-ghost use Rattle.swc_ecma_parser_shared.specs.Nests.{Nests};
 ghost use Rattle.swc_ecma_parser_shared.specs.Operators.{right};
 ghost use Rattle.swc_ecma_parser_reader.specs.Classes.{class_of};
 ghost use Rattle.swc_ecma_parser_reader.specs.Expressions as exprs;
 ghost use Rattle.swc_ecma_parser_reader.specs.Reader as rules;
 ghost use Rattle.swc_ecma_parser_reader.specs.State.{Gives, GivesAs};
 
-use crate::cover::{Cover, Reading, nested};
-use crate::grammar::{Grammar, Part};
+use crate::cover::{Reading, nested};
+use crate::readers::Readers;
 use crate::steps::{grown, since};
 use std::alloc::Global;
 use swc_ecma_parser_common::Span;
 use swc_ecma_parser_cursor::{Cursor, binary_operator, groups_left, mixes, precedence};
 use swc_ecma_parser_error::{PResult, SyntaxError};
-use swc_ecma_parser_grammar::{Class, Position};
+use swc_ecma_parser_grammar::Class;
 use swc_ecma_parser_model::BinaryOp;
 use swc_ecma_parser_trees::{BuildsOperator, MakerOf, Trees};
 
@@ -85,29 +84,21 @@ fn right_class(op: BinaryOp) -> Class
 }
 
 /// The right operand of an operator, of a class.
-fn right_operand<
-    P: Cursor,
-    T: Trees,
-    S: Fn(&MakerOf<T>, &mut P, usize, Position) -> PResult<T::Stmt>,
-    E: Fn(&MakerOf<T>, &mut P, usize, Reading) -> PResult<Cover<T::Expr>>,
-    N: Fn(&MakerOf<T>, &mut P, usize, Part) -> PResult<T::Pat>,
->(
-    g: &Grammar<S, E, N>,
+fn right_operand<P: Cursor, T: Trees, G: Readers<P, T>>(
+    g: &G,
     t: &MakerOf<T>,
     p: &mut P,
     operands: Operands,
     class: Class,
 ) -> PResult<T::Expr>
-    requires { Nests P.seen T.expr_of T.pat_of T.stmt_of g.now.depth
-        (S.pre g.now.stmt) (S.post g.now.stmt) (E.pre g.now.expr) (E.post g.now.expr)
-        (N.pre g.now.pat) (N.post g.now.pat) }
-    ensures { GivesAs T.expr_of (right g.now.depth operands (class_of class) (P.seen p.old)) result
-        (P.seen p.new) }
+    requires { G.ready g.now }
+    ensures { GivesAs T.expr_of (right (G.depth g.now) operands (class_of class) (P.seen p.old))
+        result (P.seen p.new) }
 {
     match operands {
         Operands::Nested => nested(g, t, p, class),
         Operands::Further => {
-            let found = (g.expr)(t, p, g.depth, Reading::Operand(class))?;
+            let found = g.expr(t, p, Reading::Operand(class))?;
             Ok(found.tree)
         }
     }
@@ -116,14 +107,8 @@ fn right_operand<
 /// An operator and its right operand, behind what was read from a place on.
 #[tactic(auto, unfolding(swc_ecma_parser_reader::specs::Expressions::operated))]
 #[inline(never)]
-fn operated<
-    P: Cursor,
-    T: BuildsOperator,
-    S: Fn(&MakerOf<T>, &mut P, usize, Position) -> PResult<T::Stmt>,
-    E: Fn(&MakerOf<T>, &mut P, usize, Reading) -> PResult<Cover<T::Expr>>,
-    N: Fn(&MakerOf<T>, &mut P, usize, Part) -> PResult<T::Pat>,
->(
-    g: &Grammar<S, E, N>,
+fn operated<P: Cursor, T: BuildsOperator, G: Readers<P, T>>(
+    g: &G,
     t: &MakerOf<T>,
     p: &mut P,
     operands: Operands,
@@ -131,12 +116,10 @@ fn operated<
     x: T::Expr,
     op: BinaryOp,
 ) -> PResult<T::Expr>
-    requires { Nests P.seen T.expr_of T.pat_of T.stmt_of g.now.depth
-        (S.pre g.now.stmt) (S.post g.now.stmt) (E.pre g.now.expr) (E.post g.now.expr)
-        (N.pre g.now.pat) (N.post g.now.pat) }
+    requires { G.ready g.now }
     ensures { GivesAs (T.expr_of)
-        (exprs.operated (right g.now.depth operands) (rules.cover g.now.depth) start (T.expr_of x)
-        op (P.seen p.old)) result (P.seen p.new) }
+        (exprs.operated (right (G.depth g.now) operands) (rules.cover (G.depth g.now)) start
+        (T.expr_of x) op (P.seen p.old)) result (P.seen p.new) }
 {
     left_operand::<P, T>(p, op, &x)?;
     p.skip()?;
@@ -159,14 +142,8 @@ pub fn operator_here<P: Cursor>(p: &P, n: usize) -> Option<BinaryOp>
 /// The operators that bind at least so tightly, behind an operand that was read from a place on.
 #[tactic(auto, unfolding(swc_ecma_parser_reader::specs::Expressions::binary_from), using(crate::proofs::Operations::binary_done, crate::proofs::Operations::binary_more, crate::proofs::Operations::binary_err, crate::proofs::Operations::operated_shorter))]
 #[inline(never)]
-pub fn binary_from<
-    P: Cursor,
-    T: BuildsOperator,
-    S: Fn(&MakerOf<T>, &mut P, usize, Position) -> PResult<T::Stmt>,
-    E: Fn(&MakerOf<T>, &mut P, usize, Reading) -> PResult<Cover<T::Expr>>,
-    N: Fn(&MakerOf<T>, &mut P, usize, Part) -> PResult<T::Pat>,
->(
-    g: &Grammar<S, E, N>,
+pub fn binary_from<P: Cursor, T: BuildsOperator, G: Readers<P, T>>(
+    g: &G,
     t: &MakerOf<T>,
     p: &mut P,
     operands: Operands,
@@ -174,11 +151,9 @@ pub fn binary_from<
     start: Span,
     x: T::Expr,
 ) -> PResult<T::Expr>
-    requires { Nests P.seen T.expr_of T.pat_of T.stmt_of g.now.depth
-        (S.pre g.now.stmt) (S.post g.now.stmt) (E.pre g.now.expr) (E.post g.now.expr)
-        (N.pre g.now.pat) (N.post g.now.pat) }
+    requires { G.ready g.now }
     ensures { GivesAs (T.expr_of)
-        (exprs.binary_from (right g.now.depth operands) (rules.cover g.now.depth) n start
+        (exprs.binary_from (right (G.depth g.now) operands) (rules.cover (G.depth g.now)) n start
         (T.expr_of x) (P.seen p.old)) result (P.seen p.new) }
 {
     let mut x = x;

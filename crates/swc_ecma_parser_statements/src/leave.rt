@@ -4,7 +4,6 @@ ghost use Rattle.std.specs.Prelude.{◌≡◌, ◌≢◌, Err};
 ghost use Rattle.swc_ecma_parser_error.specs.Kind as kinds;
 ghost use Rattle.swc_ecma_parser_error.specs.Kind.{fault_of, kind_of};
 ghost use Rattle.swc_ecma_parser_grammar.specs.language.Goals.{expression};
-ghost use Rattle.swc_ecma_parser_shared.specs.Nests.{Nests};
 ghost use Rattle.swc_ecma_parser_reader.specs.Reader as rules;
 ghost use Rattle.swc_ecma_parser_reader.specs.State.{Gives, GivesAs};
 ghost use Rattle.swc_ecma_parser_trees.specs.Parts.{part_of};
@@ -12,10 +11,10 @@ ghost use Rattle.swc_ecma_parser_trees.specs.Parts.{part_of};
 use swc_ecma_parser_common::Span;
 use swc_ecma_parser_cursor::{Cursor, Wanted};
 use swc_ecma_parser_error::{Error, PResult, SyntaxError};
-use swc_ecma_parser_grammar::{Class, Position};
-use swc_ecma_parser_shared::cover::{Cover, Reading, inside};
+use swc_ecma_parser_grammar::Class;
+use swc_ecma_parser_shared::cover::inside;
 use swc_ecma_parser_shared::ends::ends_at;
-use swc_ecma_parser_shared::grammar::{Grammar, Part};
+use swc_ecma_parser_shared::readers::Readers;
 use swc_ecma_parser_shared::steps::{grown, since};
 use swc_ecma_parser_token::TokenKind;
 use swc_ecma_parser_trees::{BuildsControl, MakerOf, Trees};
@@ -57,18 +56,15 @@ fn refused<P: Cursor>(p: &mut P, is_allowed: bool, start: Span, error: Error) ->
 
 /// What a `return` answers, if the statement does not end here.
 #[tactic(auto, unfolding(swc_ecma_parser_reader::specs::Reader::operand, swc_ecma_parser_reader::specs::Expressions::inside))]
-fn operand<
-    P: Cursor,
-    T: Trees,
-    S: Fn(&MakerOf<T>, &mut P, usize, Position) -> PResult<T::Stmt>,
-    E: Fn(&MakerOf<T>, &mut P, usize, Reading) -> PResult<Cover<T::Expr>>,
-    N: Fn(&MakerOf<T>, &mut P, usize, Part) -> PResult<T::Pat>,
->(g: &Grammar<S, E, N>, t: &MakerOf<T>, p: &mut P) -> PResult<Option<T::Expr>>
-    requires { Nests P.seen T.expr_of T.pat_of T.stmt_of g.now.depth
-        (S.pre g.now.stmt) (S.post g.now.stmt) (E.pre g.now.expr) (E.post g.now.expr)
-        (N.pre g.now.pat) (N.post g.now.pat) }
+fn operand<P: Cursor, T: Trees, G: Readers<P, T>>(
+    g: &G,
+    t: &MakerOf<T>,
+    p: &mut P,
+) -> PResult<Option<T::Expr>>
+    requires { G.ready g.now }
     ensures { GivesAs (part_of T.expr_of)
-        (rules.operand (rules.expr g.now.depth expression) (P.seen p.old)) result (P.seen p.new) }
+        (rules.operand (rules.expr (G.depth g.now) expression) (P.seen p.old)) result
+        (P.seen p.new) }
 {
     if ends_at(p) {
         return Ok(None);
@@ -79,18 +75,15 @@ fn operand<
 
 /// A `return` from behind its word.
 #[tactic(auto, unfolding(swc_ecma_parser_reader::specs::Reader::returned))]
-fn returned<
-    P: Cursor,
-    T: BuildsControl,
-    S: Fn(&MakerOf<T>, &mut P, usize, Position) -> PResult<T::Stmt>,
-    E: Fn(&MakerOf<T>, &mut P, usize, Reading) -> PResult<Cover<T::Expr>>,
-    N: Fn(&MakerOf<T>, &mut P, usize, Part) -> PResult<T::Pat>,
->(g: &Grammar<S, E, N>, t: &MakerOf<T>, p: &mut P, start: Span) -> PResult<T::Stmt>
-    requires { Nests P.seen T.expr_of T.pat_of T.stmt_of g.now.depth
-        (S.pre g.now.stmt) (S.post g.now.stmt) (E.pre g.now.expr) (E.post g.now.expr)
-        (N.pre g.now.pat) (N.post g.now.pat) }
+fn returned<P: Cursor, T: BuildsControl, G: Readers<P, T>>(
+    g: &G,
+    t: &MakerOf<T>,
+    p: &mut P,
+    start: Span,
+) -> PResult<T::Stmt>
+    requires { G.ready g.now }
     ensures { GivesAs T.stmt_of
-        (rules.returned (rules.expr g.now.depth expression) start (P.seen p.old)) result
+        (rules.returned (rules.expr (G.depth g.now) expression) start (P.seen p.old)) result
         (P.seen p.new) }
 {
     let arg = operand(g, t, p)?;
@@ -102,18 +95,14 @@ fn returned<
 /// A `return` statement.
 #[tactic(auto, unfolding(swc_ecma_parser_reader::specs::Reader::return_stmt))]
 #[inline(never)]
-pub fn return_stmt<
-    P: Cursor,
-    T: BuildsControl,
-    S: Fn(&MakerOf<T>, &mut P, usize, Position) -> PResult<T::Stmt>,
-    E: Fn(&MakerOf<T>, &mut P, usize, Reading) -> PResult<Cover<T::Expr>>,
-    N: Fn(&MakerOf<T>, &mut P, usize, Part) -> PResult<T::Pat>,
->(g: &Grammar<S, E, N>, t: &MakerOf<T>, p: &mut P) -> PResult<T::Stmt>
-    requires { Nests P.seen T.expr_of T.pat_of T.stmt_of g.now.depth
-        (S.pre g.now.stmt) (S.post g.now.stmt) (E.pre g.now.expr) (E.post g.now.expr)
-        (N.pre g.now.pat) (N.post g.now.pat) }
+pub fn return_stmt<P: Cursor, T: BuildsControl, G: Readers<P, T>>(
+    g: &G,
+    t: &MakerOf<T>,
+    p: &mut P,
+) -> PResult<T::Stmt>
+    requires { G.ready g.now }
     ensures { GivesAs T.stmt_of
-        (rules.return_stmt (rules.expr g.now.depth expression) (P.seen p.old)) result
+        (rules.return_stmt (rules.expr (G.depth g.now) expression) (P.seen p.old)) result
         (P.seen p.new) }
 {
     let start = p.span();
@@ -131,17 +120,13 @@ pub fn return_stmt<
 /// `throw` and what is thrown, which begins on the same line.
 #[tactic(auto, unfolding(swc_ecma_parser_reader::specs::Reader::throw, swc_ecma_parser_reader::specs::Reader::thrown, swc_ecma_parser_reader::specs::Expressions::inside, swc_ecma_parser_grammar::specs::Looks::spanned))]
 #[inline(never)]
-pub fn throw<
-    P: Cursor,
-    T: BuildsControl,
-    S: Fn(&MakerOf<T>, &mut P, usize, Position) -> PResult<T::Stmt>,
-    E: Fn(&MakerOf<T>, &mut P, usize, Reading) -> PResult<Cover<T::Expr>>,
-    N: Fn(&MakerOf<T>, &mut P, usize, Part) -> PResult<T::Pat>,
->(g: &Grammar<S, E, N>, t: &MakerOf<T>, p: &mut P) -> PResult<T::Stmt>
-    requires { Nests P.seen T.expr_of T.pat_of T.stmt_of g.now.depth
-        (S.pre g.now.stmt) (S.post g.now.stmt) (E.pre g.now.expr) (E.post g.now.expr)
-        (N.pre g.now.pat) (N.post g.now.pat) }
-    ensures { GivesAs T.stmt_of (rules.throw (rules.expr g.now.depth expression) (P.seen p.old))
+pub fn throw<P: Cursor, T: BuildsControl, G: Readers<P, T>>(
+    g: &G,
+    t: &MakerOf<T>,
+    p: &mut P,
+) -> PResult<T::Stmt>
+    requires { G.ready g.now }
+    ensures { GivesAs T.stmt_of (rules.throw (rules.expr (G.depth g.now) expression) (P.seen p.old))
         result (P.seen p.new) }
 {
     let start = p.span();

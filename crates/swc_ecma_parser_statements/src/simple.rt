@@ -3,7 +3,6 @@
 ghost use Rattle.std.specs.Prelude.{◌≡◌};
 ghost use Rattle.swc_ecma_parser_grammar.specs.Follows as follows;
 ghost use Rattle.swc_ecma_parser_grammar.specs.language.Goals.{expression};
-ghost use Rattle.swc_ecma_parser_shared.specs.Nests.{Nests};
 ghost use Rattle.swc_ecma_parser_reader.specs.Reader as rules;
 ghost use Rattle.swc_ecma_parser_reader.specs.State.{Gives, GivesAs};
 
@@ -13,8 +12,8 @@ use swc_ecma_parser_common::{Atom, Boxed};
 use swc_ecma_parser_cursor::{Cursor, Wanted};
 use swc_ecma_parser_error::{PResult, SyntaxError};
 use swc_ecma_parser_grammar::{Class, Position};
-use swc_ecma_parser_shared::cover::{Cover, Reading, nested};
-use swc_ecma_parser_shared::grammar::{Grammar, Part};
+use swc_ecma_parser_shared::cover::nested;
+use swc_ecma_parser_shared::readers::Readers;
 use swc_ecma_parser_shared::steps::{grown, since, with_in};
 use swc_ecma_parser_token::TokenKind;
 use swc_ecma_parser_trees::{BuildsOperator, BuildsStmt, MakerOf, Trees};
@@ -78,18 +77,14 @@ pub(crate) fn no_label<P: Cursor, T: Trees>(p: &mut P, x: &T::Expr) -> PResult<(
 
 /// An expression statement.
 #[tactic(auto, unfolding(swc_ecma_parser_reader::specs::Reader::expr_stmt, swc_ecma_parser_grammar::specs::Looks::spanned))]
-fn expr_stmt<
-    P: Cursor,
-    T: BuildsStmt + BuildsOperator,
-    S: Fn(&MakerOf<T>, &mut P, usize, Position) -> PResult<T::Stmt>,
-    E: Fn(&MakerOf<T>, &mut P, usize, Reading) -> PResult<Cover<T::Expr>>,
-    N: Fn(&MakerOf<T>, &mut P, usize, Part) -> PResult<T::Pat>,
->(g: &Grammar<S, E, N>, t: &MakerOf<T>, p: &mut P) -> PResult<T::Stmt>
-    requires { Nests P.seen T.expr_of T.pat_of T.stmt_of g.now.depth
-        (S.pre g.now.stmt) (S.post g.now.stmt) (E.pre g.now.expr) (E.post g.now.expr)
-        (N.pre g.now.pat) (N.post g.now.pat) }
+fn expr_stmt<P: Cursor, T: BuildsStmt + BuildsOperator, G: Readers<P, T>>(
+    g: &G,
+    t: &MakerOf<T>,
+    p: &mut P,
+) -> PResult<T::Stmt>
+    requires { G.ready g.now }
     ensures { GivesAs T.stmt_of
-        (rules.expr_stmt (rules.expr g.now.depth expression) (rules.operators g.now.depth)
+        (rules.expr_stmt (rules.expr (G.depth g.now) expression) (rules.operators (G.depth g.now))
         (P.seen p.old)) result (P.seen p.new) }
 {
     let start = p.span();
@@ -107,19 +102,16 @@ fn expr_stmt<
 /// An expression statement, where one may begin.
 #[tactic(auto, unfolding(swc_ecma_parser_reader::specs::Reader::expr_stmt_at))]
 #[inline(never)]
-pub fn expr_stmt_at<
-    P: Cursor,
-    T: BuildsStmt + BuildsOperator,
-    S: Fn(&MakerOf<T>, &mut P, usize, Position) -> PResult<T::Stmt>,
-    E: Fn(&MakerOf<T>, &mut P, usize, Reading) -> PResult<Cover<T::Expr>>,
-    N: Fn(&MakerOf<T>, &mut P, usize, Part) -> PResult<T::Pat>,
->(g: &Grammar<S, E, N>, t: &MakerOf<T>, p: &mut P, at: Position) -> PResult<T::Stmt>
-    requires { Nests P.seen T.expr_of T.pat_of T.stmt_of g.now.depth
-        (S.pre g.now.stmt) (S.post g.now.stmt) (E.pre g.now.expr) (E.post g.now.expr)
-        (N.pre g.now.pat) (N.post g.now.pat) }
+pub fn expr_stmt_at<P: Cursor, T: BuildsStmt + BuildsOperator, G: Readers<P, T>>(
+    g: &G,
+    t: &MakerOf<T>,
+    p: &mut P,
+    at: Position,
+) -> PResult<T::Stmt>
+    requires { G.ready g.now }
     ensures { GivesAs T.stmt_of
-        (rules.expr_stmt_at (rules.expr g.now.depth expression) (rules.operators g.now.depth) at
-        (P.seen p.old)) result (P.seen p.new) }
+        (rules.expr_stmt_at (rules.expr (G.depth g.now) expression)
+        (rules.operators (G.depth g.now)) at (P.seen p.old)) result (P.seen p.new) }
 {
     if !p.may_begin_expression_statement(at) {
         return Err(p.wanted(Wanted::Expression));
@@ -149,19 +141,15 @@ fn begins_import_expression<P: Cursor>(p: &P) -> bool
 /// An expression statement, where `import` begins one. Neither `import` nor `export` begins any other statement.
 #[tactic(auto, unfolding(swc_ecma_parser_reader::specs::Reader::import_stmt_at))]
 #[inline(never)]
-pub fn import_stmt_at<
-    P: Cursor,
-    T: BuildsStmt + BuildsOperator,
-    S: Fn(&MakerOf<T>, &mut P, usize, Position) -> PResult<T::Stmt>,
-    E: Fn(&MakerOf<T>, &mut P, usize, Reading) -> PResult<Cover<T::Expr>>,
-    N: Fn(&MakerOf<T>, &mut P, usize, Part) -> PResult<T::Pat>,
->(g: &Grammar<S, E, N>, t: &MakerOf<T>, p: &mut P) -> PResult<T::Stmt>
-    requires { Nests P.seen T.expr_of T.pat_of T.stmt_of g.now.depth
-        (S.pre g.now.stmt) (S.post g.now.stmt) (E.pre g.now.expr) (E.post g.now.expr)
-        (N.pre g.now.pat) (N.post g.now.pat) }
+pub fn import_stmt_at<P: Cursor, T: BuildsStmt + BuildsOperator, G: Readers<P, T>>(
+    g: &G,
+    t: &MakerOf<T>,
+    p: &mut P,
+) -> PResult<T::Stmt>
+    requires { G.ready g.now }
     ensures { GivesAs T.stmt_of
-        (rules.import_stmt_at (rules.expr g.now.depth expression) (rules.operators g.now.depth)
-        (P.seen p.old)) result (P.seen p.new) }
+        (rules.import_stmt_at (rules.expr (G.depth g.now) expression)
+        (rules.operators (G.depth g.now)) (P.seen p.old)) result (P.seen p.new) }
 {
     if begins_import_expression(p) {
         return expr_stmt(g, t, p);

@@ -1,7 +1,6 @@
 //! The end of an expression statement, and the operators behind a fault where it is missing.
 
 ghost use Rattle.std.specs.Prelude.{◌≡◌};
-ghost use Rattle.swc_ecma_parser_shared.specs.Nests.{Nests};
 ghost use Rattle.swc_ecma_parser_reader.specs.Reader as rules;
 ghost use Rattle.swc_ecma_parser_reader.specs.Recovery as recovery;
 ghost use Rattle.swc_ecma_parser_reader.specs.State.{GivesAs};
@@ -9,12 +8,10 @@ ghost use Rattle.swc_ecma_parser_reader.specs.State.{GivesAs};
 use swc_ecma_parser_common::Span;
 use swc_ecma_parser_cursor::{Cursor, Wanted, binary_operator};
 use swc_ecma_parser_error::{PResult, SyntaxError};
-use swc_ecma_parser_grammar::Position;
 use swc_ecma_parser_model::BinaryOp;
-use swc_ecma_parser_shared::cover::{Cover, Reading};
 use swc_ecma_parser_shared::ends::can_end;
-use swc_ecma_parser_shared::grammar::{Grammar, Part};
 use swc_ecma_parser_shared::operators::{Operands, binary_from};
+use swc_ecma_parser_shared::readers::Readers;
 use swc_ecma_parser_shared::steps::with_in;
 use swc_ecma_parser_trees::{BuildsOperator, MakerOf};
 
@@ -39,19 +36,17 @@ fn lacks_end<P: Cursor>(p: &P) -> bool
 
 /// The end of an expression statement. Where it is missing before an operator, the expression goes on behind a fault.
 #[tactic(auto, unfolding(swc_ecma_parser_reader::specs::Recovery::stmt_end, swc_ecma_parser_reader::specs::Recovery::operators_on))]
-pub(crate) fn stmt_end<
-    P: Cursor,
-    T: BuildsOperator,
-    S: Fn(&MakerOf<T>, &mut P, usize, Position) -> PResult<T::Stmt>,
-    E: Fn(&MakerOf<T>, &mut P, usize, Reading) -> PResult<Cover<T::Expr>>,
-    N: Fn(&MakerOf<T>, &mut P, usize, Part) -> PResult<T::Pat>,
->(g: &Grammar<S, E, N>, t: &MakerOf<T>, p: &mut P, start: Span, x: T::Expr) -> PResult<T::Expr>
-    requires { Nests P.seen T.expr_of T.pat_of T.stmt_of g.now.depth
-        (S.pre g.now.stmt) (S.post g.now.stmt) (E.pre g.now.expr) (E.post g.now.expr)
-        (N.pre g.now.pat) (N.post g.now.pat) }
+pub(crate) fn stmt_end<P: Cursor, T: BuildsOperator, G: Readers<P, T>>(
+    g: &G,
+    t: &MakerOf<T>,
+    p: &mut P,
+    start: Span,
+    x: T::Expr,
+) -> PResult<T::Expr>
+    requires { G.ready g.now }
     ensures { GivesAs T.expr_of
-        (recovery.stmt_end (rules.operators g.now.depth) start (T.expr_of x) (P.seen p.old)) result
-        (P.seen p.new) }
+        (recovery.stmt_end (rules.operators (G.depth g.now)) start (T.expr_of x) (P.seen p.old))
+        result (P.seen p.new) }
 {
     if !lacks_end(p) {
         p.end(Wanted::EndOfExpression(T::expr_span(&x)))?;

@@ -3,7 +3,6 @@
 ghost use Rattle.std.specs.Prelude.{◌≡◌, ◌&&◌, true, false, map};
 ghost use Rattle.swc_ecma_parser_grammar.specs.Looks as looks;
 ghost use Rattle.swc_ecma_parser_grammar.specs.scaffold.Using as resources;
-ghost use Rattle.swc_ecma_parser_shared.specs.Nests.{Nests};
 ghost use Rattle.swc_ecma_parser_model.specs.declared.leaves.VarDeclKind.TheVariants as decl;
 ghost use Rattle.swc_ecma_parser_reader.specs.AwaitWords as words;
 ghost use Rattle.swc_ecma_parser_reader.specs.Reader as rules;
@@ -18,8 +17,8 @@ use swc_ecma_parser_cursor::{Cursor, Wanted};
 use swc_ecma_parser_error::{PResult, SyntaxError};
 use swc_ecma_parser_grammar::Position;
 use swc_ecma_parser_model::VarDeclKind;
-use swc_ecma_parser_shared::cover::{Cover, Reading};
-use swc_ecma_parser_shared::grammar::{Grammar, Part};
+use swc_ecma_parser_shared::cover::Reading;
+use swc_ecma_parser_shared::readers::Readers;
 use swc_ecma_parser_shared::steps::{grown, since, with_in};
 use swc_ecma_parser_token::TokenKind;
 use swc_ecma_parser_trees::{
@@ -79,20 +78,18 @@ fn misusing<P: Cursor, T: BuildsVariables>(
 
 /// A declaration from the word on, where it declares. What is said of it is recorded before its end.
 #[tactic(auto, unfolding(swc_ecma_parser_reader::specs::Reader::using_from))]
-fn using_from<
-    P: Cursor,
-    T: BuildsPattern + BuildsVarDecl,
-    S: Fn(&MakerOf<T>, &mut P, usize, Position) -> PResult<T::Stmt>,
-    E: Fn(&MakerOf<T>, &mut P, usize, Reading) -> PResult<Cover<T::Expr>>,
-    N: Fn(&MakerOf<T>, &mut P, usize, Part) -> PResult<T::Pat>,
->(g: &Grammar<S, E, N>, t: &MakerOf<T>, p: &mut P, is_await: bool, start: Span) -> PResult<T::Stmt>
-    requires { Nests P.seen T.expr_of T.pat_of T.stmt_of g.now.depth
-        (S.pre g.now.stmt) (S.post g.now.stmt) (E.pre g.now.expr) (E.post g.now.expr)
-        (N.pre g.now.pat) (N.post g.now.pat) }
+fn using_from<P: Cursor, T: BuildsPattern + BuildsVarDecl, G: Readers<P, T>>(
+    g: &G,
+    t: &MakerOf<T>,
+    p: &mut P,
+    is_await: bool,
+    start: Span,
+) -> PResult<T::Stmt>
+    requires { G.ready g.now }
     ensures { GivesAs T.stmt_of
         (rules.using_from
-        (rules.declarators (rules.expr g.now.depth) (rules.pattern g.now.depth) false decl.Var)
-        is_await start (P.seen p.old)) result (P.seen p.new) }
+        (rules.declarators (rules.expr (G.depth g.now)) (rules.pattern (G.depth g.now)) false
+        decl.Var) is_await start (P.seen p.old)) result (P.seen p.new) }
 {
     p.skip()?;
     let outer = p.flags();
@@ -110,20 +107,16 @@ fn using_from<
 /// A statement that begins with `using`, where it declares.
 #[tactic(auto, unfolding(swc_ecma_parser_reader::specs::Reader::using_stmt))]
 #[inline(never)]
-pub fn using_stmt<
-    P: Cursor,
-    T: BuildsPattern + BuildsVarDecl,
-    S: Fn(&MakerOf<T>, &mut P, usize, Position) -> PResult<T::Stmt>,
-    E: Fn(&MakerOf<T>, &mut P, usize, Reading) -> PResult<Cover<T::Expr>>,
-    N: Fn(&MakerOf<T>, &mut P, usize, Part) -> PResult<T::Pat>,
->(g: &Grammar<S, E, N>, t: &MakerOf<T>, p: &mut P) -> PResult<T::Stmt>
-    requires { Nests P.seen T.expr_of T.pat_of T.stmt_of g.now.depth
-        (S.pre g.now.stmt) (S.post g.now.stmt) (E.pre g.now.expr) (E.post g.now.expr)
-        (N.pre g.now.pat) (N.post g.now.pat) }
+pub fn using_stmt<P: Cursor, T: BuildsPattern + BuildsVarDecl, G: Readers<P, T>>(
+    g: &G,
+    t: &MakerOf<T>,
+    p: &mut P,
+) -> PResult<T::Stmt>
+    requires { G.ready g.now }
     ensures { GivesAs T.stmt_of
         (rules.using_stmt
-        (rules.declarators (rules.expr g.now.depth) (rules.pattern g.now.depth) false decl.Var)
-        (P.seen p.old)) result (P.seen p.new) }
+        (rules.declarators (rules.expr (G.depth g.now)) (rules.pattern (G.depth g.now)) false
+        decl.Var) (P.seen p.old)) result (P.seen p.new) }
 {
     let start = p.span();
     using_from(g, t, p, false, start)
@@ -157,17 +150,13 @@ pub fn begins_await_using<P: Cursor>(p: &P, depth: usize, at: Position) -> bool
 pub fn await_stmt<
     P: Cursor,
     T: BuildsPattern + BuildsStmt + BuildsOperator + BuildsVarDecl,
-    S: Fn(&MakerOf<T>, &mut P, usize, Position) -> PResult<T::Stmt>,
-    E: Fn(&MakerOf<T>, &mut P, usize, Reading) -> PResult<Cover<T::Expr>>,
-    N: Fn(&MakerOf<T>, &mut P, usize, Part) -> PResult<T::Pat>,
->(g: &Grammar<S, E, N>, t: &MakerOf<T>, p: &mut P, at: Position) -> PResult<T::Stmt>
-    requires readers { Nests P.seen T.expr_of T.pat_of T.stmt_of g.now.depth
-        (S.pre g.now.stmt) (S.post g.now.stmt) (E.pre g.now.expr) (E.post g.now.expr)
-        (N.pre g.now.pat) (N.post g.now.pat) }
-    requires begins { (rules.nests g.now.depth && words.begins_await_using at (P.seen p.now).at)
+    G: Readers<P, T>,
+>(g: &G, t: &MakerOf<T>, p: &mut P, at: Position) -> PResult<T::Stmt>
+    requires readers { G.ready g.now }
+    requires begins { (rules.nests (G.depth g.now) && words.begins_await_using at (P.seen p.now).at)
         ≡ true }
     ensures { GivesAs T.stmt_of
-        (words.stmt_behind_await g.now.depth (looks.span_at (P.seen p.old).at)
+        (words.stmt_behind_await (G.depth g.now) (looks.span_at (P.seen p.old).at)
         (reader.moved (P.seen p.old))) result (P.seen p.new) }
 {
     let start = p.span();
@@ -177,7 +166,7 @@ pub fn await_stmt<
     }
     let outer = p.flags();
     p.set_flags(with_in(outer));
-    let found = (g.expr)(t, p, g.depth, Reading::BehindAwait(start))?;
+    let found = g.expr(t, p, Reading::BehindAwait(start))?;
     p.set_flags(outer);
     no_label::<P, T>(p, &found.tree)?;
     note_statement::<P, T>(t.alloc, p, &found.tree)?;

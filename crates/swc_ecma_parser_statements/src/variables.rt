@@ -2,7 +2,6 @@
 
 ghost use Rattle.std.specs.Prelude.{◌≡◌, ◌&&◌, map};
 ghost use Rattle.swc_ecma_parser_grammar.specs.Variables as variables;
-ghost use Rattle.swc_ecma_parser_shared.specs.Nests.{Nests};
 ghost use Rattle.swc_ecma_parser_reader.specs.Reader as rules;
 ghost use Rattle.swc_ecma_parser_reader.specs.State.{GivesAs};
 
@@ -13,8 +12,9 @@ use swc_ecma_parser_grammar::{Class, Position};
 use swc_ecma_parser_model::VarDeclKind;
 use swc_ecma_parser_patterns::pat::inner_pat;
 use swc_ecma_parser_recovery::recovery::declaration_end;
-use swc_ecma_parser_shared::cover::{Cover, Reading, nested};
-use swc_ecma_parser_shared::grammar::{Grammar, Part};
+use swc_ecma_parser_shared::cover::nested;
+use swc_ecma_parser_shared::grammar::Part;
+use swc_ecma_parser_shared::readers::Readers;
 use swc_ecma_parser_shared::steps::{grown, pushed, since, with_in};
 use swc_ecma_parser_token::TokenKind;
 use swc_ecma_parser_trees::{BuildsPattern, BuildsVariables, MakerOf};
@@ -43,24 +43,16 @@ fn needs_no_initializer<P: Cursor, T: BuildsPattern>(
 
 /// A declarator, in the head of a loop or not.
 #[tactic(auto, unfolding(swc_ecma_parser_reader::specs::Reader::declarator, swc_ecma_parser_reader::specs::Reader::initialized))]
-fn declarator<
-    P: Cursor,
-    T: BuildsPattern + BuildsVariables,
-    S: Fn(&MakerOf<T>, &mut P, usize, Position) -> PResult<T::Stmt>,
-    E: Fn(&MakerOf<T>, &mut P, usize, Reading) -> PResult<Cover<T::Expr>>,
-    N: Fn(&MakerOf<T>, &mut P, usize, Part) -> PResult<T::Pat>,
->(
-    g: &Grammar<S, E, N>,
+fn declarator<P: Cursor, T: BuildsPattern + BuildsVariables, G: Readers<P, T>>(
+    g: &G,
     t: &MakerOf<T>,
     p: &mut P,
     in_head: bool,
     word: VarDeclKind,
 ) -> PResult<T::Declarator>
-    requires { Nests P.seen T.expr_of T.pat_of T.stmt_of g.now.depth
-        (S.pre g.now.stmt) (S.post g.now.stmt) (E.pre g.now.expr) (E.post g.now.expr)
-        (N.pre g.now.pat) (N.post g.now.pat) }
+    requires { G.ready g.now }
     ensures { GivesAs T.declarator_of
-        (rules.declarator (rules.expr g.now.depth) (rules.pattern g.now.depth) in_head word
+        (rules.declarator (rules.expr (G.depth g.now)) (rules.pattern (G.depth g.now)) in_head word
         (P.seen p.old)) result (P.seen p.new) }
 {
     let start = p.span();
@@ -106,24 +98,16 @@ fn missing_at<P: Cursor, T: BuildsVariables>(p: &P, found: &[T::Declarator]) -> 
 /// Declarators with commas between. One that is missing is a fault, behind which the declaration goes on without it.
 #[tactic(auto, unfolding(swc_ecma_parser_reader::specs::Reader::declarators), using(swc_ecma_parser_reader::proofs::Loops::declarators_done, swc_ecma_parser_reader::proofs::Loops::declarators_err, swc_ecma_parser_reader::proofs::Loops::declarators_miss, swc_ecma_parser_reader::proofs::Loops::declarators_miss_err, swc_ecma_parser_reader::proofs::Loops::declarators_more, swc_ecma_parser_reader::proofs::Loops::declarators_shorter, std::proofs::lemmas::List::map_push))]
 #[inline(never)]
-pub fn declarators<
-    P: Cursor,
-    T: BuildsPattern + BuildsVariables,
-    S: Fn(&MakerOf<T>, &mut P, usize, Position) -> PResult<T::Stmt>,
-    E: Fn(&MakerOf<T>, &mut P, usize, Reading) -> PResult<Cover<T::Expr>>,
-    N: Fn(&MakerOf<T>, &mut P, usize, Part) -> PResult<T::Pat>,
->(
-    g: &Grammar<S, E, N>,
+pub fn declarators<P: Cursor, T: BuildsPattern + BuildsVariables, G: Readers<P, T>>(
+    g: &G,
     t: &MakerOf<T>,
     p: &mut P,
     in_head: bool,
     word: VarDeclKind,
 ) -> PResult<Vec<T::Declarator>>
-    requires { Nests P.seen T.expr_of T.pat_of T.stmt_of g.now.depth
-        (S.pre g.now.stmt) (S.post g.now.stmt) (E.pre g.now.expr) (E.post g.now.expr)
-        (N.pre g.now.pat) (N.post g.now.pat) }
+    requires { G.ready g.now }
     ensures { GivesAs (λ found. map T.declarator_of found.items)
-        (rules.declarators (rules.expr g.now.depth) (rules.pattern g.now.depth) in_head word
+        (rules.declarators (rules.expr (G.depth g.now)) (rules.pattern (G.depth g.now)) in_head word
         (P.seen p.old)) result (P.seen p.new) }
 {
     let mut found = Vec::new(t.alloc);
@@ -145,19 +129,16 @@ pub fn declarators<
 /// A statement that declares variables.
 #[tactic(auto, unfolding(swc_ecma_parser_reader::specs::Reader::variables, swc_ecma_parser_grammar::specs::Looks::spanned))]
 #[inline(never)]
-pub fn variables<
-    P: Cursor,
-    T: BuildsPattern + BuildsVariables,
-    S: Fn(&MakerOf<T>, &mut P, usize, Position) -> PResult<T::Stmt>,
-    E: Fn(&MakerOf<T>, &mut P, usize, Reading) -> PResult<Cover<T::Expr>>,
-    N: Fn(&MakerOf<T>, &mut P, usize, Part) -> PResult<T::Pat>,
->(g: &Grammar<S, E, N>, t: &MakerOf<T>, p: &mut P, word: VarDeclKind) -> PResult<T::Stmt>
-    requires { Nests P.seen T.expr_of T.pat_of T.stmt_of g.now.depth
-        (S.pre g.now.stmt) (S.post g.now.stmt) (E.pre g.now.expr) (E.post g.now.expr)
-        (N.pre g.now.pat) (N.post g.now.pat) }
+pub fn variables<P: Cursor, T: BuildsPattern + BuildsVariables, G: Readers<P, T>>(
+    g: &G,
+    t: &MakerOf<T>,
+    p: &mut P,
+    word: VarDeclKind,
+) -> PResult<T::Stmt>
+    requires { G.ready g.now }
     ensures { GivesAs T.stmt_of
-        (rules.variables (rules.expr g.now.depth) (rules.pattern g.now.depth) word (P.seen p.old))
-        result (P.seen p.new) }
+        (rules.variables (rules.expr (G.depth g.now)) (rules.pattern (G.depth g.now)) word
+        (P.seen p.old)) result (P.seen p.new) }
 {
     let start = p.span();
     p.skip()?;
@@ -173,21 +154,18 @@ pub fn variables<
 /// A statement that begins with `const`, where declarations are read.
 #[tactic(auto, unfolding(swc_ecma_parser_reader::specs::Reader::const_stmt))]
 #[inline(never)]
-pub fn const_stmt<
-    P: Cursor,
-    T: BuildsPattern + BuildsVariables,
-    S: Fn(&MakerOf<T>, &mut P, usize, Position) -> PResult<T::Stmt>,
-    E: Fn(&MakerOf<T>, &mut P, usize, Reading) -> PResult<Cover<T::Expr>>,
-    N: Fn(&MakerOf<T>, &mut P, usize, Part) -> PResult<T::Pat>,
->(g: &Grammar<S, E, N>, t: &MakerOf<T>, p: &mut P, at: Position) -> PResult<T::Stmt>
-    requires { Nests P.seen T.expr_of T.pat_of T.stmt_of g.now.depth
-        (S.pre g.now.stmt) (S.post g.now.stmt) (E.pre g.now.expr) (E.post g.now.expr)
-        (N.pre g.now.pat) (N.post g.now.pat) }
+pub fn const_stmt<P: Cursor, T: BuildsPattern + BuildsVariables, G: Readers<P, T>>(
+    g: &G,
+    t: &MakerOf<T>,
+    p: &mut P,
+    at: Position,
+) -> PResult<T::Stmt>
+    requires { G.ready g.now }
     ensures { GivesAs T.stmt_of
-        (rules.const_stmt (rules.stmt g.now.depth) (rules.expr g.now.depth)
-        (rules.pattern g.now.depth) (rules.head_cover g.now.depth) (rules.parameters g.now.depth)
-        (rules.member g.now.depth) (rules.operators g.now.depth) at (P.seen p.old)) result
-        (P.seen p.new) }
+        (rules.const_stmt (rules.stmt (G.depth g.now)) (rules.expr (G.depth g.now))
+        (rules.pattern (G.depth g.now)) (rules.head_cover (G.depth g.now))
+        (rules.parameters (G.depth g.now)) (rules.member (G.depth g.now))
+        (rules.operators (G.depth g.now)) at (P.seen p.old)) result (P.seen p.new) }
 {
     if !at.include_decl {
         return Err(p.wanted(Wanted::Expression));

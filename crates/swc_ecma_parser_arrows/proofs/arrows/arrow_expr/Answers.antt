@@ -22,7 +22,7 @@ returns-in_err-body-clause-gives g c =
     let p = err_from_is_err_and c.from_residual.result c.from_residual.ensures.1 in
     let e : Fault × State = (fault_of c.in_err-body.field-0.0, g.P.Cursor.seen c.nested.new.p) in
     let change = arrow_flags c.args.is_async in
-    let body : Reader Tree = expr c.args.g.now.depth assignment in
+    let body : Reader Tree = expr (g.G.Readers.depth c.args.g.now) assignment in
     let b = reached change c.flags-outer.result c.in_arrow.result s (g.P.Cursor.seen c.set_flags.new.self) u c.flags-outer.ensures c.in_arrow.ensures c.set_flags.ensures c.enter_body-around.ensures.state in
     rw (p.1, p.2) (λ h. body_err change body s e (subst (λ w. body w ≡ Err e) b (c.in_err-body.ensures h)))
 
@@ -33,10 +33,10 @@ set_flags-requires-2 g c =
     let t = g.P.Cursor.seen c.nested.new.p in
     let x = g.T.Trees.expr_of c.in_ok-body.body in
     let change = arrow_flags c.args.is_async in
-    let body : Reader Tree = expr c.args.g.now.depth assignment in
+    let body : Reader Tree = expr (g.G.Readers.depth c.args.g.now) assignment in
     let b = reached change c.flags-outer.result c.in_arrow.result s (g.P.Cursor.seen c.set_flags.new.self) u c.flags-outer.ensures c.in_arrow.ensures c.set_flags.ensures c.enter_body-around.ensures.state in
     let h = subst (λ w. body w ≡ Ok (x, t)) b c.in_ok-body.ensures in
-    ap (λ f. f.«module») c.flags-outer.ensures ∙ ap (λ k. k.flags.«module») (sym (expr_code c.args.g.now.depth assignment (entered change s) x t h)) ∙ ap (λ w. w.code.flags.«module») (sym c.leave_body.ensures)
+    ap (λ f. f.«module») c.flags-outer.ensures ∙ ap (λ k. k.flags.«module») (sym (expr_code (g.G.Readers.depth c.args.g.now) assignment (entered change s) x t h)) ∙ ap (λ w. w.code.flags.«module») (sym c.leave_body.ensures)
 
 pub returns-clause-gives : goal.returns-clause-gives
 returns-clause-gives g c =
@@ -46,7 +46,7 @@ returns-clause-gives g c =
     let x = g.T.Trees.expr_of c.in_ok-body.body in
     let a = c.enter_body-around.result in
     let change = arrow_flags c.args.is_async in
-    let body : Reader Tree = expr c.args.g.now.depth assignment in
+    let body : Reader Tree = expr (g.G.Readers.depth c.args.g.now) assignment in
     let b = reached change c.flags-outer.result c.in_arrow.result s (g.P.Cursor.seen c.set_flags.new.self) u c.flags-outer.ensures c.in_arrow.ensures c.set_flags.ensures c.enter_body-around.ensures.state in
     let h = subst (λ w. body w ≡ Ok (x, t)) b c.in_ok-body.ensures in
     body_given change body s x t h a (c.enter_body-around.ensures.labels ∙ ap (λ w. w.scope.labels) c.set_flags.ensures) (c.enter_body-around.ensures.found ∙ ap (λ w. w.notes.found_module_item) c.set_flags.ensures)
@@ -55,4 +55,4 @@ returns-clause-gives g c =
 
 pub returns-clause-directive : goal.returns-clause-directive
 returns-clause-directive g c =
-    expr_no_block c.args.g.now.depth (g.P.Cursor.seen c.enter_body-around.new.self) (g.T.Trees.expr_of c.in_ok-body.body) (g.P.Cursor.seen c.nested.new.p) c.in_ok-body.ensures false
+    expr_no_block (g.G.Readers.depth c.args.g.now) (g.P.Cursor.seen c.enter_body-around.new.self) (g.T.Trees.expr_of c.in_ok-body.body) (g.P.Cursor.seen c.nested.new.p) c.in_ok-body.ensures false

@@ -28,7 +28,7 @@ returns-in_err-misdirected g c =
     let skipped : m ≡ moved s = was_moved s m c.in_ok-skip.field-0 c.in_ok-skip.ensures in
     let plain : c.are_plain_patterns-is_plain.result ≡ are_plain_params (trees ps) = c.are_plain_patterns-is_plain.ensures ∙ ap (λ xs. are_plain_params (trees (map g.T.Trees.pat_of xs))) c.deref.ensures.value in
     let directs : misplaced_directive false body ≡ late c.strict_directive.result = c.in_ok-body.ensures.directive ∙ ap late (sym c.strict_directive.ensures) in
-    rw (q.1, q.2) (λ h. arrow_err c.args.is_async c.args.g.now.depth c.args.start ps s m u body (sym c.had_line_break.ensures ∙ c.if-had_line_break.false) skipped c.in_ok-body.ensures.gives e
+    rw (q.1, q.2) (λ h. arrow_err c.args.is_async (g.G.Readers.depth c.args.g.now) c.args.start ps s m u body (sym c.had_line_break.ensures ∙ c.if-had_line_break.false) skipped c.in_ok-body.ensures.gives e
     (subst (λ b. told (misplaced_directive b body) u ≡ Err e) plain
     (told_late (λ o. o ≡ Err e) c.are_plain_patterns-is_plain.result body c.strict_directive.result u directs
     (λ b. c.in_err-misdirected.ensures.plain b h) (λ b. c.in_err-misdirected.ensures.late b h))))
@@ -49,8 +49,8 @@ returns g c =
     c.in_ok-misdirected.ensures.plain c.in_ok-misdirected.ensures.late) in
     let made : Span → Tree = λ span. tree.arrow span (listed ps) body c.args.is_async in
     let whole : Span = record { lo = c.args.start.lo; hi = u.at.last.hi } in
-    let found = arrow_found c.args.is_async c.args.g.now.depth c.args.start ps s m u body (sym c.had_line_break.ensures ∙ c.if-had_line_break.false) skipped c.in_ok-body.ensures.gives v told_so in
-    made_gives g.T.Trees.expr_of (arrows.arrow_from (expr c.args.g.now.depth) (function c.args.g.now.depth) c.args.is_async c.args.start ps s) (made whole) v (g.P.Cursor.seen c.grown.new.p) c.grown.result
+    let found = arrow_found c.args.is_async (g.G.Readers.depth c.args.g.now) c.args.start ps s m u body (sym c.had_line_break.ensures ∙ c.if-had_line_break.false) skipped c.in_ok-body.ensures.gives v told_so in
+    made_gives g.T.Trees.expr_of (arrows.arrow_from (expr (g.G.Readers.depth c.args.g.now)) (function (g.G.Readers.depth c.args.g.now)) c.args.is_async c.args.start ps s) (made whole) v (g.P.Cursor.seen c.grown.new.p) c.grown.result
     c.made_arrow.result found
     (subst (λ z. IfOk c.made_arrow.result (λ y. g.T.Trees.expr_of y ≡ z)) (ap made c.since-span.ensures) c.made_arrow.ensures)
     c.grown.ensures.made c.grown.ensures.state c.grown.ensures.err

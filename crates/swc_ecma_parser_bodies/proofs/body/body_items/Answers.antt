@@ -12,14 +12,14 @@ pub returns-in_err-stmt : goal.returns-in_err-stmt
 returns-in_err-stmt g c =
     let p = err_from_is_err_and c.from_residual.result c.from_residual.ensures.1 in
     rw (p.1, p.2) (λ h. c.items.invariant.0
-    ∙ items_err (stmt c.args.g.now.depth nested_item) (ends_of c.args.body) (directs_of c.args.body) (map g.T.Trees.stmt_of c.items.found.items) (g.P.Cursor.seen c.items.p) _ (sym c.ends.ensures ∙ c.items-test.true) (c.requires.stmt_gives _ _ _ _ _ c.in_err-stmt.ensures h))
+    ∙ items_err (stmt (g.G.Readers.depth c.args.g.now) nested_item) (ends_of c.args.body) (directs_of c.args.body) (map g.T.Trees.stmt_of c.items.found.items) (g.P.Cursor.seen c.items.p) _ (sym c.ends.ensures ∙ c.items-test.true) (c.in_err-stmt.ensures h))
 
 pub items-preserved : goal.items-preserved
 items-preserved g c =
-    let d = c.args.g.now.depth in
+    let d = (g.G.Readers.depth c.args.g.now) in
     let s = g.P.Cursor.seen c.items.p in
     let found = map g.T.Trees.stmt_of c.items.found.items in
-    let x = c.requires.stmt_gives _ _ _ _ _ c.in_ok-stmt.ensures in
+    let x = c.in_ok-stmt.ensures in
     rw (c.in_ok-pushed.ensures.items, map_push, c.in_ok-pushed.ensures.state, c.direct-directives.ensures.state, c.direct-directives.ensures.next) (
       c.items.invariant.0
           ∙ body_more (stmt d nested_item) (ends_of c.args.body) (directs_of c.args.body) found c.items.directives s _ _ c.items.invariant.1 (sym c.ends.ensures ∙ c.items-test.true) x
@@ -28,4 +28,4 @@ items-preserved g c =
     )
 
 pub items-smaller : goal.items-smaller
-items-smaller g c = rw (c.in_ok-pushed.ensures.state, c.direct-directives.ensures.state) (stmt_shorter c.args.g.now.depth nested_item (g.P.Cursor.seen c.items.p) _ _ (c.requires.stmt_gives _ _ _ _ _ c.in_ok-stmt.ensures))
+items-smaller g c = rw (c.in_ok-pushed.ensures.state, c.direct-directives.ensures.state) (stmt_shorter (g.G.Readers.depth c.args.g.now) nested_item (g.P.Cursor.seen c.items.p) _ _ c.in_ok-stmt.ensures)

@@ -7,7 +7,7 @@ use Rattle.swc_ecma_parser_bodies.proofs.body.body_items.Given as goal
 
 -- what the whole loop gives is what the rest of it gives, and whether the next can be a directive is told by those before it
 abbrev pub invariant-items : goal.invariant-items
-invariant-items g l = let stmt = rules.stmt l.g.depth nested_item in
+invariant-items g l = let stmt = rules.stmt (g.G.Readers.depth l.g) nested_item in
     (rules.items stmt (ends_of l.body) (directs_of l.body) (g.P.Cursor.seen l.fn.p) ≡ loop (rules.items_turn stmt (ends_of l.body) (directs_of l.body)) (map g.T.Trees.stmt_of l.found.items) (g.P.Cursor.seen l.p))
     × (l.directives ≡ rules.directs (directs_of l.body) (map g.T.Trees.stmt_of l.found.items))
 

@@ -11,13 +11,13 @@ pub returns-in_err-link : goal.returns-in_err-link
 returns-in_err-link g c =
     let p = err_from_is_err_and c.from_residual.result c.from_residual.ensures.1 in
     let view = link_of g.T.Trees.expr_of g.T.Trees.stmt_of in
-    rw (p.1, p.2) (λ h. chain_err c.args.g.now.depth (chain c.args.g.now.depth (g.P.Cursor.seen c.args.p.now)) (map view c.links.links.items) (g.P.Cursor.seen c.links.p) c.links.invariant _ (c.in_err-link.ensures h))
+    rw (p.1, p.2) (λ h. chain_err (g.G.Readers.depth c.args.g.now) (chain (g.G.Readers.depth c.args.g.now) (g.P.Cursor.seen c.args.p.now)) (map view c.links.links.items) (g.P.Cursor.seen c.links.p) c.links.invariant _ (c.in_err-link.ensures h))
 
 pub returns-in_err-alt : goal.returns-in_err-alt
 returns-in_err-alt g c =
     let p = err_from_is_err_and c.from_residual-in_err-alt.result c.from_residual-in_err-alt.ensures.1 in
     let view = link_of g.T.Trees.expr_of g.T.Trees.stmt_of in
-    rw (p.1, p.2) (λ h. chain_last_err c.args.g.now.depth (chain c.args.g.now.depth (g.P.Cursor.seen c.args.p.now)) (map view c.links.links.items) (g.P.Cursor.seen c.links.p) c.links.invariant (view c.in_ok-link.link) (g.P.Cursor.seen c.next_link.new.p)
+    rw (p.1, p.2) (λ h. chain_last_err (g.G.Readers.depth c.args.g.now) (chain (g.G.Readers.depth c.args.g.now) (g.P.Cursor.seen c.args.p.now)) (map view c.links.links.items) (g.P.Cursor.seen c.links.p) c.links.invariant (view c.in_ok-link.link) (g.P.Cursor.seen c.next_link.new.p)
     c.in_ok-link.ensures _ (sym c.goes_on.ensures ∙ c.if-not-goes_on.true) (c.in_err-alt.ensures h))
 
 pub returns-then-not-goes_on : goal.returns-then-not-goes_on
@@ -27,9 +27,9 @@ returns-then-not-goes_on g c =
     let l = view c.in_ok-link.link in
     let y = part_of g.T.Trees.stmt_of c.in_ok-alt.alt in
     let u = g.P.Cursor.seen c.alternative.new.p in
-    let whole = chain_last c.args.g.now.depth (chain c.args.g.now.depth (g.P.Cursor.seen c.args.p.now)) ls (g.P.Cursor.seen c.links.p) c.links.invariant l (g.P.Cursor.seen c.next_link.new.p)
+    let whole = chain_last (g.G.Readers.depth c.args.g.now) (chain (g.G.Readers.depth c.args.g.now) (g.P.Cursor.seen c.args.p.now)) ls (g.P.Cursor.seen c.links.p) c.links.invariant l (g.P.Cursor.seen c.next_link.new.p)
     c.in_ok-link.ensures y u (sym c.goes_on.ensures ∙ c.if-not-goes_on.true) c.in_ok-alt.ensures in
-    last_gives g.T.Trees.stmt_of (chain c.args.g.now.depth (g.P.Cursor.seen c.args.p.now)) ls l y (g.T.Trees.stmt_of c.in_ok-last.last) u (g.P.Cursor.seen c.closed.new.p) (g.P.Cursor.seen c.enclosed.new.p) c.enclosed.result whole
+    last_gives g.T.Trees.stmt_of (chain (g.G.Readers.depth c.args.g.now) (g.P.Cursor.seen c.args.p.now)) ls l y (g.T.Trees.stmt_of c.in_ok-last.last) u (g.P.Cursor.seen c.closed.new.p) (g.P.Cursor.seen c.enclosed.new.p) c.enclosed.result whole
     c.in_ok-last.ensures.made c.in_ok-last.ensures.state c.enclosed.ensures.made c.enclosed.ensures.state c.enclosed.ensures.err
 
 pub links-smaller : goal.links-smaller
@@ -37,11 +37,11 @@ links-smaller g c =
     let view = link_of g.T.Trees.expr_of g.T.Trees.stmt_of in
     let t = g.P.Cursor.seen c.next_link.new.p in
     rw (c.in_ok-pushed.ensures.state, skipped t _ c.in_ok-skip.ensures)
-    (chain_shorter c.args.g.now.depth (g.P.Cursor.seen c.links.p) (view c.in_ok-link.link) t c.in_ok-link.ensures (sym c.goes_on.ensures ∙ c.if-not-goes_on.false))
+    (chain_shorter (g.G.Readers.depth c.args.g.now) (g.P.Cursor.seen c.links.p) (view c.in_ok-link.link) t c.in_ok-link.ensures (sym c.goes_on.ensures ∙ c.if-not-goes_on.false))
 
 pub links-preserved : goal.links-preserved
 links-preserved g c =
     let view = link_of g.T.Trees.expr_of g.T.Trees.stmt_of in
     let t = g.P.Cursor.seen c.next_link.new.p in
     rw (c.in_ok-pushed.ensures.items, map_push, c.in_ok-pushed.ensures.state, skipped t _ c.in_ok-skip.ensures)
-    (chain_more c.args.g.now.depth (chain c.args.g.now.depth (g.P.Cursor.seen c.args.p.now)) (map view c.links.links.items) (g.P.Cursor.seen c.links.p) c.links.invariant (view c.in_ok-link.link) t c.in_ok-link.ensures (sym c.goes_on.ensures ∙ c.if-not-goes_on.false))
+    (chain_more (g.G.Readers.depth c.args.g.now) (chain (g.G.Readers.depth c.args.g.now) (g.P.Cursor.seen c.args.p.now)) (map view c.links.links.items) (g.P.Cursor.seen c.links.p) c.links.invariant (view c.in_ok-link.link) t c.in_ok-link.ensures (sym c.goes_on.ensures ∙ c.if-not-goes_on.false))

@@ -23,7 +23,7 @@ returns-in_err-labelled_function g c =
     let text = subst (λ r. IfOk r (λ a. a ≡ label.sym)) c.in_ok-text.ensures.made c.try_clone.ensures in
     let colon = subst (λ w. expect kind.Colon t ≡ Ok (tt, w)) (sym c.in_ok-text.ensures.state) c.in_ok-expect.ensures in
     let e : Fault × State = (fault_of c.in_err-labelled_function.field-0.0, g.P.Cursor.seen c.labelled_function.new.p) in
-    rw (p.1, p.2) (λ h. function_err c.args.g.now.depth (g.P.Cursor.seen c.args.p.now) t u v label c.in_ok-text.text x c.in_ok-label.ensures colon c.in_ok-body.ensures text e
+    rw (p.1, p.2) (λ h. function_err (g.G.Readers.depth c.args.g.now) (g.P.Cursor.seen c.args.p.now) t u v label c.in_ok-text.text x c.in_ok-label.ensures colon c.in_ok-body.ensures text e
     (told_of_function (λ o. o ≡ Err e) c.sees-is_function.result c.next_sees-is_starred.result u.at v x c.stmt_span.result c.sees-is_function.ensures c.next_sees-is_starred.ensures c.stmt_span.ensures (c.in_err-labelled_function.ensures h)))
 
 pub returns-in_err-duplicates : goal.returns-in_err-duplicates
@@ -39,7 +39,7 @@ returns-in_err-duplicates g c =
     let colon = subst (λ w. expect kind.Colon t ≡ Ok (tt, w)) (sym c.in_ok-text.ensures.state) c.in_ok-expect.ensures in
     let first = told_of_function (λ o. o ≡ Ok (tt, y)) c.sees-is_function.result c.next_sees-is_starred.result u.at v x c.stmt_span.result c.sees-is_function.ensures c.next_sees-is_starred.ensures c.stmt_span.ensures c.in_ok-labelled_function.ensures in
     let e : Fault × State = (fault_of c.in_err-duplicates.field-0.0, g.P.Cursor.seen c.duplicates.new.p) in
-    rw (p.1, p.2) (λ h. labeled_err c.args.g.now.depth (g.P.Cursor.seen c.args.p.now) t u v label c.in_ok-text.text x c.in_ok-label.ensures colon c.in_ok-body.ensures text y first e
+    rw (p.1, p.2) (λ h. labeled_err (g.G.Readers.depth c.args.g.now) (g.P.Cursor.seen c.args.p.now) t u v label c.in_ok-text.text x c.in_ok-label.ensures colon c.in_ok-body.ensures text y first e
     (c.in_err-duplicates.ensures h))
 
 pub returns : goal.returns
@@ -57,7 +57,7 @@ returns g c =
     let first = told_of_function (λ o. o ≡ Ok (tt, y)) c.sees-is_function.result c.next_sees-is_starred.result u.at v x c.stmt_span.result c.sees-is_function.ensures c.next_sees-is_starred.ensures c.stmt_span.ensures c.in_ok-labelled_function.ensures in
     let whole : Span → Span = λ start. record { lo = start.lo; hi = v.at.last.hi } in
     let z = tree.labeled (whole (span_at s.at)) (tree.ident label.span label.sym) x in
-    made_gives g.T.Trees.stmt_of (labeled_stmt (stmt c.args.g.now.depth) s) z w (g.P.Cursor.seen c.grown-2.new.p) c.grown-2.result c.labeled.result
-    (labeled_found c.args.g.now.depth s t u v label c.in_ok-text.text x c.in_ok-label.ensures colon c.in_ok-body.ensures text y first w c.in_ok-duplicates.ensures)
+    made_gives g.T.Trees.stmt_of (labeled_stmt (stmt (g.G.Readers.depth c.args.g.now)) s) z w (g.P.Cursor.seen c.grown-2.new.p) c.grown-2.result c.labeled.result
+    (labeled_found (g.G.Readers.depth c.args.g.now) s t u v label c.in_ok-text.text x c.in_ok-label.ensures colon c.in_ok-body.ensures text y first w c.in_ok-duplicates.ensures)
     (subst (λ span. IfOk c.labeled.result (λ a. g.T.Trees.stmt_of a ≡ tree.labeled span (tree.ident label.span label.sym) x)) (c.since-span.ensures ∙ ap whole c.span-start.ensures) c.labeled.ensures)
     c.grown-2.ensures.made c.grown-2.ensures.state c.grown-2.ensures.err

@@ -9,8 +9,8 @@ use Rattle.swc_ecma_parser_control.proofs.switch.clauses.Given as goal
 -- what the whole loop gives is what the rest of it gives
 abbrev pub invariant-clauses : goal.invariant-clauses
 invariant-clauses g l =
-    let stmt = rules.stmt l.g.depth nested_item in
-    let expr = rules.expr l.g.depth expression in
+    let stmt = rules.stmt (g.G.Readers.depth l.g) nested_item in
+    let expr = rules.expr (g.G.Readers.depth l.g) expression in
     rules.clauses stmt expr (g.P.Cursor.seen l.fn.p)
     ≡ loop (rules.clauses_turn stmt expr) (record { found = map g.T.BuildsSwitch.case_of l.found.items; has_default = is_some l.previous }) (g.P.Cursor.seen l.p)
 

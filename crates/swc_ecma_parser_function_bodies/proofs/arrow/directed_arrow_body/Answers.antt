@@ -17,7 +17,7 @@ returns-in_err-misdirected g c =
     let p = err_from_is_err_and c.from_residual-in_err-misdirected.result c.from_residual-in_err-misdirected.ensures.1 in
     let u = g.P.Cursor.seen c.arrow_body.new.p in
     let read = body_of g.T.BuildsBlock.block_of g.T.Trees.expr_of c.in_ok-body.body in
-    let body : Reader Tree = arrow_body (rules.expr c.args.g.now.depth) (rules.function c.args.g.now.depth) c.args.is_async in
+    let body : Reader Tree = arrow_body (rules.expr (g.G.Readers.depth c.args.g.now)) (rules.function (g.G.Readers.depth c.args.g.now)) c.args.is_async in
     let e : Fault × State = (fault_of c.in_err-misdirected.field-0.0, g.P.Cursor.seen c.misdirected.new.p) in
     let directs : misplaced_directive false read ≡ late c.strict_directive.result = c.in_ok-body.ensures.directive ∙ ap late (sym c.strict_directive.ensures) in
     rw (p.1, p.2) (λ h. directed_err c.args.is_simple body (g.P.Cursor.seen c.args.p.now) u read c.in_ok-body.ensures.gives e
@@ -29,7 +29,7 @@ returns g c =
     let u = g.P.Cursor.seen c.arrow_body.new.p in
     let v = g.P.Cursor.seen c.misdirected.new.p in
     let read = body_of g.T.BuildsBlock.block_of g.T.Trees.expr_of c.in_ok-body.body in
-    let body : Reader Tree = arrow_body (rules.expr c.args.g.now.depth) (rules.function c.args.g.now.depth) c.args.is_async in
+    let body : Reader Tree = arrow_body (rules.expr (g.G.Readers.depth c.args.g.now)) (rules.function (g.G.Readers.depth c.args.g.now)) c.args.is_async in
     let directs : misplaced_directive false read ≡ late c.strict_directive.result = c.in_ok-body.ensures.directive ∙ ap late (sym c.strict_directive.ensures) in
     directed_found c.args.is_simple body (g.P.Cursor.seen c.args.p.now) u read c.in_ok-body.ensures.gives v
     (told_late (λ o. o ≡ Ok (tt, v)) c.args.is_simple read c.strict_directive.result u directs

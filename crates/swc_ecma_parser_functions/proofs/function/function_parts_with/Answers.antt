@@ -26,8 +26,8 @@ returns-in_err-misdirected g c =
     let body = g.T.BuildsBlock.block_of c.in_ok-block.field-0.block in
     let e : Fault × State = (fault_of c.in_err-misdirected.field-0.0, g.P.Cursor.seen c.misdirected.new.p) in
     let plain : c.are_plain.result ≡ are_plain_params (trees (map parameter ps)) = c.are_plain.ensures ∙ ap (λ xs. are_plain_params (trees (map g.T.BuildsFunction.param_of xs))) c.deref.ensures.value ∙ ap (λ xs. are_plain_params (trees xs)) c.in_ok-params.ensures.made in
-    rw (p.1, p.2) (λ h. behind_err (stmt c.args.g.now.depth nested_item) (rules.parameters c.args.g.now.depth) (map g.T.BuildsFunction.decorator_of c.args.decorators.items) c.args.manner.is_async c.args.manner.is_generator c.args.start s e
-    (parts_err c.args.manner.is_async c.args.manner.is_generator c.args.g.now.depth c.args.start s t u ps body c.in_ok-pats.ensures c.in_ok-block.ensures.gives e
+    rw (p.1, p.2) (λ h. behind_err (stmt (g.G.Readers.depth c.args.g.now) nested_item) (rules.parameters (g.G.Readers.depth c.args.g.now)) (map g.T.BuildsFunction.decorator_of c.args.decorators.items) c.args.manner.is_async c.args.manner.is_generator c.args.start s e
+    (parts_err c.args.manner.is_async c.args.manner.is_generator (g.G.Readers.depth c.args.g.now) c.args.start s t u ps body c.in_ok-pats.ensures c.in_ok-block.ensures.gives e
     (subst (λ b. told (misplaced_directive b body) u ≡ Err e) plain
     (subst (λ w. told (misplaced_directive c.are_plain.result body) w ≡ Err e) c.in_ok-params.ensures.state
     (told_late (λ o. o ≡ Err e) c.are_plain.result body c.in_ok-block.field-0.strict_directive (g.P.Cursor.seen c.as_params.new.p) c.in_ok-block.ensures.directive
@@ -54,9 +54,9 @@ returns g c =
     let same : made c.since-span.result (listed ds) qs body ≡ z =
     ap (λ span. made span (listed ds) qs body) c.since-span.ensures
     ∙ ap (λ xs. made whole (listed ds) (listed xs) body) c.in_ok-params.ensures.made in
-    made_gives g.T.BuildsFunction.function_of (function_parts_with (stmt c.args.g.now.depth nested_item) (rules.parameters c.args.g.now.depth) ds c.args.manner.is_async c.args.manner.is_generator c.args.start s) z v (g.P.Cursor.seen c.grown.new.p) c.grown.result
+    made_gives g.T.BuildsFunction.function_of (function_parts_with (stmt (g.G.Readers.depth c.args.g.now) nested_item) (rules.parameters (g.G.Readers.depth c.args.g.now)) ds c.args.manner.is_async c.args.manner.is_generator c.args.start s) z v (g.P.Cursor.seen c.grown.new.p) c.grown.result
     c.function-function.result
-    (behind_found (stmt c.args.g.now.depth nested_item) (rules.parameters c.args.g.now.depth) ds c.args.manner.is_async c.args.manner.is_generator c.args.start s (made whole (listed []) (parameters ps) body) v
-    (parts_found c.args.manner.is_async c.args.manner.is_generator c.args.g.now.depth c.args.start s t u ps body c.in_ok-pats.ensures c.in_ok-block.ensures.gives v told_so))
+    (behind_found (stmt (g.G.Readers.depth c.args.g.now) nested_item) (rules.parameters (g.G.Readers.depth c.args.g.now)) ds c.args.manner.is_async c.args.manner.is_generator c.args.start s (made whole (listed []) (parameters ps) body) v
+    (parts_found c.args.manner.is_async c.args.manner.is_generator (g.G.Readers.depth c.args.g.now) c.args.start s t u ps body c.in_ok-pats.ensures c.in_ok-block.ensures.gives v told_so))
     (subst (λ q. IfOk c.function-function.result (λ y. g.T.BuildsFunction.function_of y ≡ q)) same c.function-function.ensures)
     c.grown.ensures.made c.grown.ensures.state c.grown.ensures.err

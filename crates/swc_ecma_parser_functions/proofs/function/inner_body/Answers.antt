@@ -20,7 +20,7 @@ returns-in_err-body-clause-gives g c =
     let p = err_from_is_err_and c.from_residual.result c.from_residual.ensures.1 in
     let e : Fault × State = (fault_of c.in_err-body.field-0.0, g.P.Cursor.seen c.block.new.p) in
     let change = body_flags c.args.manner.is_async c.args.manner.is_generator in
-    let body : Reader Tree = braced (stmt c.args.g.now.depth nested_item) true in
+    let body : Reader Tree = braced (stmt (g.G.Readers.depth c.args.g.now) nested_item) true in
     let b = reached change c.flags-outer.result c.in_body.result s (g.P.Cursor.seen c.set_flags.new.self) u c.flags-outer.ensures c.in_body.ensures c.set_flags.ensures c.enter_body-around.ensures.state in
     rw (p.1, p.2) (λ h. body_err change body s e (subst (λ w. body w ≡ Err e) b (c.in_err-body.ensures.gives h)))
 
@@ -31,10 +31,10 @@ set_flags-requires-2 g c =
     let t = g.P.Cursor.seen c.block.new.p in
     let x = g.T.BuildsBlock.block_of c.in_ok-body.body.block in
     let change = body_flags c.args.manner.is_async c.args.manner.is_generator in
-    let body : Reader Tree = braced (stmt c.args.g.now.depth nested_item) true in
+    let body : Reader Tree = braced (stmt (g.G.Readers.depth c.args.g.now) nested_item) true in
     let b = reached change c.flags-outer.result c.in_body.result s (g.P.Cursor.seen c.set_flags.new.self) u c.flags-outer.ensures c.in_body.ensures c.set_flags.ensures c.enter_body-around.ensures.state in
     let h = subst (λ w. body w ≡ Ok (x, t)) b c.in_ok-body.ensures.gives in
-    ap (λ f. f.«module») c.flags-outer.ensures ∙ sym (braced_module true c.args.g.now.depth (entered change s) x t h) ∙ ap (λ w. w.code.flags.«module») (sym c.leave_body.ensures)
+    ap (λ f. f.«module») c.flags-outer.ensures ∙ sym (braced_module true (g.G.Readers.depth c.args.g.now) (entered change s) x t h) ∙ ap (λ w. w.code.flags.«module») (sym c.leave_body.ensures)
 
 pub returns-clause-gives : goal.returns-clause-gives
 returns-clause-gives g c =
@@ -44,7 +44,7 @@ returns-clause-gives g c =
     let x = g.T.BuildsBlock.block_of c.in_ok-body.body.block in
     let a = c.enter_body-around.result in
     let change = body_flags c.args.manner.is_async c.args.manner.is_generator in
-    let body : Reader Tree = braced (stmt c.args.g.now.depth nested_item) true in
+    let body : Reader Tree = braced (stmt (g.G.Readers.depth c.args.g.now) nested_item) true in
     let b = reached change c.flags-outer.result c.in_body.result s (g.P.Cursor.seen c.set_flags.new.self) u c.flags-outer.ensures c.in_body.ensures c.set_flags.ensures c.enter_body-around.ensures.state in
     let h = subst (λ w. body w ≡ Ok (x, t)) b c.in_ok-body.ensures.gives in
     body_given change body s x t h a (c.enter_body-around.ensures.labels ∙ ap (λ w. w.scope.labels) c.set_flags.ensures) (c.enter_body-around.ensures.found ∙ ap (λ w. w.notes.found_module_item) c.set_flags.ensures)

@@ -26,7 +26,7 @@ returns-in_err-misdirected g c =
     let body = g.T.BuildsBlock.block_of c.in_ok-block.field-0.block in
     let key = key_of g.T.Trees.expr_of c.args.key in
     let e : Fault × State = (fault_of c.in_err-misdirected.field-0.0, g.P.Cursor.seen c.misdirected.new.p) in
-    rw (q.1, q.2) (λ h. setter_err c.args.g.now.depth c.args.start key s t a u ps x body c.in_ok-params.ensures c.in_ok-param.ensures c.in_ok-block.ensures.gives e
+    rw (q.1, q.2) (λ h. setter_err (g.G.Readers.depth c.args.g.now) c.args.start key s t a u ps x body c.in_ok-params.ensures c.in_ok-param.ensures c.in_ok-block.ensures.gives e
     (subst (λ b. told (misplaced_directive b body) u ≡ Err e) c.is_binding_name.ensures
     (told_late (λ o. o ≡ Err e) c.is_binding_name.result body c.in_ok-block.field-0.strict_directive u c.in_ok-block.ensures.directive
     (λ b. c.in_err-misdirected.ensures.plain b h) (λ b. c.in_err-misdirected.ensures.late b h))))
@@ -46,14 +46,14 @@ returns g c =
     let told_so : told (misplaced_directive c.is_binding_name.result body) u ≡ Ok (tt, v) =
     told_late (λ o. o ≡ Ok (tt, v)) c.is_binding_name.result body c.in_ok-block.field-0.strict_directive u c.in_ok-block.ensures.directive
     c.in_ok-misdirected.ensures.plain c.in_ok-misdirected.ensures.late in
-    let found = setter_found c.args.g.now.depth c.args.start key s t a u ps x body c.in_ok-params.ensures c.in_ok-param.ensures c.in_ok-block.ensures.gives v
+    let found = setter_found (g.G.Readers.depth c.args.g.now) c.args.start key s t a u ps x body c.in_ok-params.ensures c.in_ok-param.ensures c.in_ok-block.ensures.gives v
     (subst (λ b. told (misplaced_directive b body) u ≡ Ok (tt, v)) c.is_binding_name.ensures told_so) in
     let whole : Span = record { lo = c.args.start.lo; hi = u.at.last.hi } in
     let z = tree.setter_prop whole key x body in
     let made : g.T.BuildsKey.key_of c.in_ok-key.key ≡ key = subst (λ r. IfOk r (λ y. g.T.BuildsKey.key_of y ≡ key)) c.in_ok-key.ensures.made c.made_key.ensures in
     let same : tree.setter_prop c.since-span.result (g.T.BuildsKey.key_of c.in_ok-key.key) x body ≡ z =
     ap (λ span. tree.setter_prop span (g.T.BuildsKey.key_of c.in_ok-key.key) x body) c.since-span.ensures ∙ ap (λ y. tree.setter_prop whole y x body) made in
-    made_gives g.T.BuildsObject.prop_of (setter (stmt c.args.g.now.depth nested_item) (rules.parameters c.args.g.now.depth) c.args.start key s) z w (g.P.Cursor.seen c.grown-2.new.p) c.grown-2.result
+    made_gives g.T.BuildsObject.prop_of (setter (stmt (g.G.Readers.depth c.args.g.now) nested_item) (rules.parameters (g.G.Readers.depth c.args.g.now)) c.args.start key s) z w (g.P.Cursor.seen c.grown-2.new.p) c.grown-2.result
     c.setter_prop.result (found ∙ ap (λ r. Ok (z, r)) (sym c.in_ok-key.ensures.state))
     (subst (λ r. IfOk c.setter_prop.result (λ y. g.T.BuildsObject.prop_of y ≡ r)) same c.setter_prop.ensures)
     c.grown-2.ensures.made c.grown-2.ensures.state c.grown-2.ensures.err

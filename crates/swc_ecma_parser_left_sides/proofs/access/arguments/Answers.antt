@@ -11,7 +11,7 @@ use Rattle.swc_ecma_parser_left_sides.proofs.access.arguments.Goals as goal
 pub returns-in_err-argument : goal.returns-in_err-argument
 returns-in_err-argument g c =
     let p = err_from_is_err_and c.from_residual-in_err-argument.result c.from_residual-in_err-argument.ensures.1 in
-    rw (p.1, p.2) (λ h. c.arguments.invariant ∙ arguments_err c.args.g.now.depth c.args.commas (map g.T.BuildsCall.arg_of c.arguments.found.items) (g.P.Cursor.seen c.arguments.p) _
+    rw (p.1, p.2) (λ h. c.arguments.invariant ∙ arguments_err (g.G.Readers.depth c.args.g.now) c.args.commas (map g.T.BuildsCall.arg_of c.arguments.found.items) (g.P.Cursor.seen c.arguments.p) _
     (sym c.sees.ensures ∙ c.if-sees.false) (c.in_err-argument.ensures h))
 
 pub returns-in_err-expect : goal.returns-in_err-expect
@@ -19,7 +19,7 @@ returns-in_err-expect g c =
     let p = err_from_is_err_and c.from_residual-in_err-expect.result c.from_residual-in_err-expect.ensures.1 in
     let same = c.in_ok-pushed.ensures.state in
     let e : Fault × State = (fault_of c.in_err-expect.field-0.0, g.P.Cursor.seen c.expect.new.self) in
-    rw (p.1, p.2) (λ h. c.arguments.invariant ∙ arguments_comma_err c.args.g.now.depth c.args.commas (map g.T.BuildsCall.arg_of c.arguments.found.items) (g.P.Cursor.seen c.arguments.p)
+    rw (p.1, p.2) (λ h. c.arguments.invariant ∙ arguments_comma_err (g.G.Readers.depth c.args.g.now) c.args.commas (map g.T.BuildsCall.arg_of c.arguments.found.items) (g.P.Cursor.seen c.arguments.p)
     _ (g.P.Cursor.seen c.element.new.p) e (sym c.sees.ensures ∙ c.if-sees.false) c.in_ok-argument.ensures
     (subst (λ u. sees kind.RParen u.at ≡ false) same (sym c.if-not-sees.ensures)) (subst (λ u. expect kind.Comma u ≡ Err e) same (c.in_err-expect.ensures h)))
 
@@ -29,7 +29,7 @@ returns-in_err-fault g c =
     let same = c.in_ok-pushed.ensures.state in
     let u = g.P.Cursor.seen c.expect.new.self in
     let e : Fault × State = (fault_of c.in_err-fault.field-0.0, g.P.Cursor.seen c.fault.new.self) in
-    rw (p.1, p.2) (λ h. c.arguments.invariant ∙ arguments_note_err c.args.g.now.depth c.args.commas (map g.T.BuildsCall.arg_of c.arguments.found.items) (g.P.Cursor.seen c.arguments.p)
+    rw (p.1, p.2) (λ h. c.arguments.invariant ∙ arguments_note_err (g.G.Readers.depth c.args.g.now) c.args.commas (map g.T.BuildsCall.arg_of c.arguments.found.items) (g.P.Cursor.seen c.arguments.p)
     _ (g.P.Cursor.seen c.element.new.p) u (sym c.sees.ensures ∙ c.if-sees.false) c.in_ok-argument.ensures
     (subst (λ t. sees kind.RParen t.at ≡ false) same (sym c.if-not-sees.ensures)) (subst (λ t. expect kind.Comma t ≡ Ok (tt, u)) same c.in_ok-expect.ensures)
     (sym c.ends_behind_comma.ensures ∙ c.if-ends_behind_comma.true) e
@@ -39,12 +39,12 @@ returns-in_err-fault g c =
 pub arguments-smaller-in-Continue-branch-6 : goal.arguments-smaller-in-Continue-branch-6
 arguments-smaller-in-Continue-branch-6 g c =
     let u = g.P.Cursor.seen c.expect.new.self in
-    arguments_noted_shorter c.args.g.now.depth (g.P.Cursor.seen c.arguments.p) _ (g.P.Cursor.seen c.element.new.p) c.in_ok-argument.ensures u (g.P.Cursor.seen c.fault.new.self) _
+    arguments_noted_shorter (g.G.Readers.depth c.args.g.now) (g.P.Cursor.seen c.arguments.p) _ (g.P.Cursor.seen c.element.new.p) c.in_ok-argument.ensures u (g.P.Cursor.seen c.fault.new.self) _
     (subst (λ t. expect kind.Comma t ≡ Ok (tt, u)) c.in_ok-pushed.ensures.state c.in_ok-expect.ensures) c.in_ok-fault.ensures
 
 -- behind one that may stand there
 pub arguments-smaller-else-ends_behind_comma : goal.arguments-smaller-else-ends_behind_comma
 arguments-smaller-else-ends_behind_comma g c =
     let u = g.P.Cursor.seen c.expect.new.self in
-    arguments_shorter c.args.g.now.depth (g.P.Cursor.seen c.arguments.p) _ (g.P.Cursor.seen c.element.new.p) c.in_ok-argument.ensures u
+    arguments_shorter (g.G.Readers.depth c.args.g.now) (g.P.Cursor.seen c.arguments.p) _ (g.P.Cursor.seen c.element.new.p) c.in_ok-argument.ensures u
     (subst (λ t. expect kind.Comma t ≡ Ok (tt, u)) c.in_ok-pushed.ensures.state c.in_ok-expect.ensures)

@@ -7,8 +7,8 @@ use Rattle.swc_ecma_parser_left_sides.proofs.access.arguments.Given as goal
 -- what the whole loop gives is what the rest of it gives
 abbrev pub invariant-arguments : goal.invariant-arguments
 invariant-arguments g l =
-    let expr = rules.expr l.g.depth in
-    let cover = rules.cover l.g.depth in
+    let expr = rules.expr (g.G.Readers.depth l.g) in
+    let cover = rules.cover (g.G.Readers.depth l.g) in
     exprs.arguments expr cover l.commas (g.P.Cursor.seen l.fn.p) ≡ loop (exprs.arguments_turn expr cover l.commas) (map g.T.BuildsCall.arg_of l.found.items) (g.P.Cursor.seen l.p)
 
 abbrev pub decreases-arguments : goal.decreases-arguments

@@ -7,8 +7,8 @@ use Rattle.swc_ecma_parser_left_sides.proofs.left.left_from.Given as goal
 -- what the whole loop gives is what the rest of it gives
 abbrev pub invariant-left : goal.invariant-left
 invariant-left g l =
-    let expr = rules.expr l.g.depth in
-    let cover = rules.cover l.g.depth in
+    let expr = rules.expr (g.G.Readers.depth l.g) in
+    let cover = rules.cover (g.G.Readers.depth l.g) in
     exprs.left_from expr cover l.calls l.start (g.T.Trees.expr_of l.fn.x) (g.P.Cursor.seen l.fn.p) ≡ loop (exprs.left_turn expr cover l.calls l.start) (g.T.Trees.expr_of l.x) (g.P.Cursor.seen l.p)
 
 abbrev pub decreases-left : goal.decreases-left

@@ -20,9 +20,9 @@ by_mark inner cover function s t (Some x) b e h g n = absurd (n x refl)
 
 pub returns : goal.returns
 returns g c =
-    let expr = rules.expr c.args.g.now.depth in
-    let cover = rules.cover c.args.g.now.depth in
-    let function = rules.function c.args.g.now.depth in
+    let expr = rules.expr (g.G.Readers.depth c.args.g.now) in
+    let cover = rules.cover (g.G.Readers.depth c.args.g.now) in
+    let function = rules.function (g.G.Readers.depth c.args.g.now) in
     subst (λ o. GivesAs g.T.Trees.expr_of o c.marked_primary.result (g.P.Cursor.seen c.marked_primary.new.p))
     (sym (by_mark expr cover function (g.P.Cursor.seen c.args.p.now) (g.P.Cursor.seen c.literal.new.self) c.in_ok-literal.field-0 c.name_at.result c.name_at.ensures c.if-name_at.false c.in_ok-literal.ensures c.in_default.not-Some))
     c.marked_primary.ensures

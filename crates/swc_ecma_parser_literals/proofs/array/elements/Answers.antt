@@ -15,7 +15,7 @@ use Rattle.swc_ecma_parser_literals.proofs.array.elements.Goals as goal
 pub returns-in_err-part : goal.returns-in_err-part
 returns-in_err-part g c =
     let p = err_from_is_err_and c.from_residual-in_err-part.result c.from_residual-in_err-part.ensures.1 in
-    rw (p.1, p.2) (λ h. c.elements.invariant ∙ elements_err c.args.g.now.depth (covers_of (part_of g.T.BuildsCall.arg_of) c.elements.found) (g.P.Cursor.seen c.elements.p) _
+    rw (p.1, p.2) (λ h. c.elements.invariant ∙ elements_err (g.G.Readers.depth c.args.g.now) (covers_of (part_of g.T.BuildsCall.arg_of) c.elements.found) (g.P.Cursor.seen c.elements.p) _
     (sym c.if-sees.ensures) (sym c.if-sees-2.ensures) (c.in_err-part.ensures h))
 
 pub returns-in_err-expect : goal.returns-in_err-expect
@@ -23,13 +23,13 @@ returns-in_err-expect g c =
     let p = err_from_is_err_and c.from_residual-in_err-expect.result c.from_residual-in_err-expect.ensures.1 in
     let same = c.in_ok-joined-2.ensures.state in
     let e : Fault × State = (fault_of c.in_err-expect.field-0.0, g.P.Cursor.seen c.expect.new.self) in
-    rw (p.1, p.2) (λ h. c.elements.invariant ∙ elements_comma_err c.args.g.now.depth (covers_of (part_of g.T.BuildsCall.arg_of) c.elements.found) (g.P.Cursor.seen c.elements.p)
+    rw (p.1, p.2) (λ h. c.elements.invariant ∙ elements_comma_err (g.G.Readers.depth c.args.g.now) (covers_of (part_of g.T.BuildsCall.arg_of) c.elements.found) (g.P.Cursor.seen c.elements.p)
     _ (g.P.Cursor.seen c.item.new.p) e (sym c.if-sees.ensures) (sym c.if-sees-2.ensures) c.in_ok-part.ensures
     (subst (λ u. sees kind.RBracket u.at ≡ false) same (sym c.if-not-sees.ensures)) (subst (λ u. expect kind.Comma u ≡ Err e) same (c.in_err-expect.ensures h)))
 
 pub elements-preserved : goal.elements-preserved
 elements-preserved g c =
-    let n = c.args.g.now.depth in
+    let n = (g.G.Readers.depth c.args.g.now) in
     let view = part_of g.T.BuildsCall.arg_of in
     let same = c.in_ok-joined-2.ensures.state in
     c.elements.invariant
@@ -39,7 +39,7 @@ elements-preserved g c =
 
 pub elements-preserved-then-not-sees : goal.elements-preserved-then-not-sees
 elements-preserved-then-not-sees g c =
-    let n = c.args.g.now.depth in
+    let n = (g.G.Readers.depth c.args.g.now) in
     let view = part_of g.T.BuildsCall.arg_of in
     let same = c.in_ok-joined-2.ensures.state in
     c.elements.invariant
@@ -51,8 +51,8 @@ elements-preserved-then-not-sees g c =
 
 pub elements-smaller : goal.elements-smaller
 elements-smaller g c = subst (λ u. length u.at.left < length (g.P.Cursor.seen c.elements.p).at.left) (sym c.in_ok-joined-2.ensures.state)
-    (item_shorter c.args.g.now.depth (g.P.Cursor.seen c.elements.p) _ (g.P.Cursor.seen c.item.new.p) c.in_ok-part.ensures)
+    (item_shorter (g.G.Readers.depth c.args.g.now) (g.P.Cursor.seen c.elements.p) _ (g.P.Cursor.seen c.item.new.p) c.in_ok-part.ensures)
 
 pub elements-smaller-then-not-sees : goal.elements-smaller-then-not-sees
-elements-smaller-then-not-sees g c = items_shorter c.args.g.now.depth (g.P.Cursor.seen c.elements.p) _ (g.P.Cursor.seen c.item.new.p) c.in_ok-part.ensures
+elements-smaller-then-not-sees g c = items_shorter (g.G.Readers.depth c.args.g.now) (g.P.Cursor.seen c.elements.p) _ (g.P.Cursor.seen c.item.new.p) c.in_ok-part.ensures
     (g.P.Cursor.seen c.expect.new.self) (subst (λ u. expect kind.Comma u ≡ Ok (tt, g.P.Cursor.seen c.expect.new.self)) c.in_ok-joined-2.ensures.state c.in_ok-expect.ensures)

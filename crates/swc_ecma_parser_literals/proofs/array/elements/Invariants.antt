@@ -9,8 +9,8 @@ use Rattle.swc_ecma_parser_literals.proofs.array.elements.Given as goal
 -- what the whole loop gives is what the rest of it gives
 abbrev pub invariant-elements : goal.invariant-elements
 invariant-elements g l =
-    let expr = rules.expr l.g.depth in
-    let cover = rules.cover l.g.depth in
+    let expr = rules.expr (g.G.Readers.depth l.g) in
+    let cover = rules.cover (g.G.Readers.depth l.g) in
     exprs.elements expr cover (g.P.Cursor.seen l.fn.p) ≡ loop (exprs.array_turn expr cover) (covers_of (part_of g.T.BuildsCall.arg_of) l.found) (g.P.Cursor.seen l.p)
 
 abbrev pub decreases-elements : goal.decreases-elements

@@ -24,4 +24,4 @@ other_key view inner cover start s e (key.BigInt x) other h = wanted_as {A = Tre
 other_key view inner cover start s e (key.Computed b x) other h = wanted_as {A = Tree} {B = exprs.Cover} faults.Unexpected s e.0 e.1 h
 
 pub returns : goal.returns
-returns g c = λ h. other_key g.T.Trees.expr_of (rules.expr c.args.g.now.depth) (rules.cover c.args.g.now.depth) c.args.start (g.P.Cursor.seen c.args.p.now) _ c.args.key c.in_default.not-Word (c.wanted.ensures.tree h)
+returns g c = λ h. other_key g.T.Trees.expr_of (rules.expr (g.G.Readers.depth c.args.g.now)) (rules.cover (g.G.Readers.depth c.args.g.now)) c.args.start (g.P.Cursor.seen c.args.p.now) _ c.args.key c.in_default.not-Word (c.wanted.ensures.tree h)

@@ -7,4 +7,4 @@ use Rattle.swc_ecma_parser_loops.proofs.head.named_head.Goals as goal
 pub returns-clause-bare : goal.returns-clause-bare
 returns-clause-bare g c = λ p e refused.
     let q : c.in_ok-name.name ≡ p = cc in
-    ap (λ x. head_faults refused (g.T.Trees.pat_of x)) (sym q) ∙ pattern_declares _ _ _ _ (c.requires.pat_gives _ _ _ _ _ c.in_ok-name.ensures) refused
+    ap (λ x. head_faults refused (g.T.Trees.pat_of x)) (sym q) ∙ pattern_declares _ _ _ _ c.in_ok-name.ensures refused

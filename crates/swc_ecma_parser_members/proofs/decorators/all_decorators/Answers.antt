@@ -8,14 +8,14 @@ pub returns-in_err-item : goal.returns-in_err-item
 returns-in_err-item g c =
     let p = err_from_is_err_and c.from_residual.result c.from_residual.ensures.1 in
     rw (p.1, p.2) (λ h. c.decorators.invariant
-    ∙ decorators_err c.args.g.now.depth (map g.T.BuildsFunction.decorator_of c.decorators.found.items) (g.P.Cursor.seen c.decorators.p) _
+    ∙ decorators_err (g.G.Readers.depth c.args.g.now) (map g.T.BuildsFunction.decorator_of c.decorators.found.items) (g.P.Cursor.seen c.decorators.p) _
     (sym c.sees.ensures ∙ c.decorators-test.true) (c.in_err-item.ensures h))
 
 pub decorators-smaller : goal.decorators-smaller
-decorators-smaller g c = rw (c.in_ok-pushed.ensures.state) (decorator_shorter c.args.g.now.depth (g.P.Cursor.seen c.decorators.p) _ _ c.in_ok-item.ensures)
+decorators-smaller g c = rw (c.in_ok-pushed.ensures.state) (decorator_shorter (g.G.Readers.depth c.args.g.now) (g.P.Cursor.seen c.decorators.p) _ _ c.in_ok-item.ensures)
 
 pub decorators-preserved : goal.decorators-preserved
 decorators-preserved g c =
     rw (c.in_ok-pushed.ensures.items, map_push, c.in_ok-pushed.ensures.state) (c.decorators.invariant
-    ∙ decorators_more c.args.g.now.depth (map g.T.BuildsFunction.decorator_of c.decorators.found.items) (g.P.Cursor.seen c.decorators.p) _ _
+    ∙ decorators_more (g.G.Readers.depth c.args.g.now) (map g.T.BuildsFunction.decorator_of c.decorators.found.items) (g.P.Cursor.seen c.decorators.p) _ _
     (sym c.sees.ensures ∙ c.decorators-test.true) c.in_ok-item.ensures)

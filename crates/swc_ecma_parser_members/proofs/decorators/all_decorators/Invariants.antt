@@ -7,7 +7,7 @@ use Rattle.swc_ecma_parser_members.proofs.decorators.all_decorators.Given as goa
 -- what the whole loop gives is what the rest of it gives
 abbrev pub invariant-decorators : goal.invariant-decorators
 invariant-decorators g l =
-    let turn = decorators_turn (decorated_in l.g.depth) in
+    let turn = decorators_turn (decorated_in (g.G.Readers.depth l.g)) in
     loop turn [] (g.P.Cursor.seen l.fn.p) ≡ loop turn (map g.T.BuildsFunction.decorator_of l.found.items) (g.P.Cursor.seen l.p)
 
 abbrev pub decreases-decorators : goal.decreases-decorators

@@ -7,8 +7,8 @@ use Rattle.swc_ecma_parser_operators.proofs.decorator.chain_from.Given as goal
 -- what the whole loop gives is what the rest of it gives
 abbrev pub invariant-chain : goal.invariant-chain
 invariant-chain g l =
-    let expr = rules.expr l.g.depth in
-    let cover = rules.cover l.g.depth in
+    let expr = rules.expr (g.G.Readers.depth l.g) in
+    let cover = rules.cover (g.G.Readers.depth l.g) in
     decorators.chain_from expr cover l.start (g.T.Trees.expr_of l.fn.x) (g.P.Cursor.seen l.fn.p) ≡ loop (decorators.chain_turn expr cover l.start) (g.T.Trees.expr_of l.x) (g.P.Cursor.seen l.p)
 
 abbrev pub decreases-chain : goal.decreases-chain

@@ -8,8 +8,8 @@ use Rattle.swc_ecma_parser_parentheses.proofs.arguments.either_arguments.Given a
 -- what the whole loop gives is what the rest of it gives
 abbrev pub invariant-arguments : goal.invariant-arguments
 invariant-arguments g l =
-    let expr = rules.expr l.g.depth in
-    let cover = rules.cover l.g.depth in
+    let expr = rules.expr (g.G.Readers.depth l.g) in
+    let cover = rules.cover (g.G.Readers.depth l.g) in
     async_arrows.either_arguments expr cover (g.P.Cursor.seen l.fn.p)
     ≡ loop (async_arrows.either_turn expr cover) (map (argument_of g.T.Trees.expr_of) l.found.items) (g.P.Cursor.seen l.p)
 

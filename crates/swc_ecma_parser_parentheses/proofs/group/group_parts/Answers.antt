@@ -24,12 +24,12 @@ module _ (n : ℕ) (found : List Cover) (s : State) (dots : sees kind.DotDotDot 
 pub returns-then-sees-2 : goal.returns-then-sees-2
 returns-then-sees-2 g c =
     subst (λ o. GivesAs (parts_of g.T.Trees.expr_of g.T.Trees.pat_of) o c.rest_part.result (g.P.Cursor.seen c.rest_part.new.p))
-    (sym (c.parts.invariant ∙ is_rest c.args.g.now.depth (map (cover_of g.T.Trees.expr_of) c.parts.found.items) (g.P.Cursor.seen c.parts.p) (sym c.if-sees-2.ensures))) c.rest_part.ensures
+    (sym (c.parts.invariant ∙ is_rest (g.G.Readers.depth c.args.g.now) (map (cover_of g.T.Trees.expr_of) c.parts.found.items) (g.P.Cursor.seen c.parts.p) (sym c.if-sees-2.ensures))) c.rest_part.ensures
 
 pub returns-in_err-part : goal.returns-in_err-part
 returns-in_err-part g c =
     let p = err_from_is_err_and c.from_residual.result c.from_residual.ensures.1 in
-    rw (p.1, p.2) (λ h. c.parts.invariant ∙ parts_err c.args.g.now.depth (map (cover_of g.T.Trees.expr_of) c.parts.found.items) (g.P.Cursor.seen c.parts.p) _
+    rw (p.1, p.2) (λ h. c.parts.invariant ∙ parts_err (g.G.Readers.depth c.args.g.now) (map (cover_of g.T.Trees.expr_of) c.parts.found.items) (g.P.Cursor.seen c.parts.p) _
     (sym c.if-sees-2.ensures) (c.in_err-part.ensures h))
 
 pub returns-in_err-expect : goal.returns-in_err-expect
@@ -37,10 +37,10 @@ returns-in_err-expect g c =
     let p = err_from_is_err_and c.from_residual-in_err-expect.result c.from_residual-in_err-expect.ensures.1 in
     let same = c.in_ok-pushed.ensures.state in
     let e : Fault × State = (fault_of c.in_err-expect.field-0.0, g.P.Cursor.seen c.expect.new.self) in
-    rw (p.1, p.2) (λ h. c.parts.invariant ∙ parts_comma_err c.args.g.now.depth (map (cover_of g.T.Trees.expr_of) c.parts.found.items) (g.P.Cursor.seen c.parts.p)
+    rw (p.1, p.2) (λ h. c.parts.invariant ∙ parts_comma_err (g.G.Readers.depth c.args.g.now) (map (cover_of g.T.Trees.expr_of) c.parts.found.items) (g.P.Cursor.seen c.parts.p)
     _ (g.P.Cursor.seen c.covered.new.p) e (sym c.if-sees-2.ensures) c.in_ok-part.ensures
     (subst (λ u. sees kind.RParen u.at ≡ false) same (sym c.if-sees-3.ensures)) (subst (λ u. expect kind.Comma u ≡ Err e) same (c.in_err-expect.ensures h)))
 
 pub parts-smaller : goal.parts-smaller
-parts-smaller g c = parts_shorter c.args.g.now.depth (g.P.Cursor.seen c.parts.p) _ (g.P.Cursor.seen c.covered.new.p) c.in_ok-part.ensures
+parts-smaller g c = parts_shorter (g.G.Readers.depth c.args.g.now) (g.P.Cursor.seen c.parts.p) _ (g.P.Cursor.seen c.covered.new.p) c.in_ok-part.ensures
     (g.P.Cursor.seen c.expect.new.self) (subst (λ u. expect kind.Comma u ≡ Ok (tt, g.P.Cursor.seen c.expect.new.self)) c.in_ok-pushed.ensures.state c.in_ok-expect.ensures)

@@ -8,9 +8,9 @@ use Rattle.swc_ecma_parser_parentheses.proofs.group.group_parts.Given as goal
 -- what the whole loop gives is what the rest of it gives
 abbrev pub invariant-parts : goal.invariant-parts
 invariant-parts g l =
-    let expr = rules.expr l.g.depth in
-    let function = rules.function l.g.depth in
-    let cover = rules.cover l.g.depth in
+    let expr = rules.expr (g.G.Readers.depth l.g) in
+    let function = rules.function (g.G.Readers.depth l.g) in
+    let cover = rules.cover (g.G.Readers.depth l.g) in
     arrows.group_parts expr function cover (g.P.Cursor.seen l.fn.p)
     ≡ loop (arrows.part_turn expr function cover) (map (cover_of g.T.Trees.expr_of) l.found.items) (g.P.Cursor.seen l.p)
 

@@ -7,10 +7,10 @@ use Rattle.swc_ecma_parser_patterns.proofs.object_pat.properties.Given as goal
 -- what the whole loop gives is what the rest of it gives
 abbrev pub invariant-properties : goal.invariant-properties
 invariant-properties g l =
-    let expr = rules.expr l.g.depth in
-    let cover = rules.cover l.g.depth in
-    let pattern = rules.pattern l.g.depth in
-    let element = rules.element l.g.depth in
+    let expr = rules.expr (g.G.Readers.depth l.g) in
+    let cover = rules.cover (g.G.Readers.depth l.g) in
+    let pattern = rules.pattern (g.G.Readers.depth l.g) in
+    let element = rules.element (g.G.Readers.depth l.g) in
     patterns.properties expr cover pattern element (g.P.Cursor.seen l.fn.p)
     ≡ loop (patterns.object_turn expr cover pattern element) (map g.T.BuildsObjectPat.pat_prop_of l.found.items) (g.P.Cursor.seen l.p)
 

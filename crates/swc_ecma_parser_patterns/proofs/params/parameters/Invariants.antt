@@ -7,11 +7,11 @@ use Rattle.swc_ecma_parser_patterns.proofs.params.parameters.Given as goal
 -- what the whole loop gives is what the rest of it gives
 abbrev pub invariant-parameters : goal.invariant-parameters
 invariant-parameters g l =
-    let expr = rules.expr l.g.depth in
-    let cover = rules.cover l.g.depth in
-    let pattern = rules.pattern l.g.depth in
-    let element = rules.element l.g.depth in
-    rules.parameters l.g.depth (g.P.Cursor.seen l.fn.p)
+    let expr = rules.expr (g.G.Readers.depth l.g) in
+    let cover = rules.cover (g.G.Readers.depth l.g) in
+    let pattern = rules.pattern (g.G.Readers.depth l.g) in
+    let element = rules.element (g.G.Readers.depth l.g) in
+    rules.parameters (g.G.Readers.depth l.g) (g.P.Cursor.seen l.fn.p)
     ≡ loop (patterns.parameters_turn expr cover pattern element) (map g.T.Trees.pat_of l.found.items) (g.P.Cursor.seen l.p)
 
 abbrev pub decreases-parameters : goal.decreases-parameters

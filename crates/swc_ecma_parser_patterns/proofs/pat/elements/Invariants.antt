@@ -8,10 +8,10 @@ use Rattle.swc_ecma_parser_patterns.proofs.pat.elements.Given as goal
 -- what the whole loop gives is what the rest of it gives
 abbrev pub invariant-elements : goal.invariant-elements
 invariant-elements g l =
-    let expr = rules.expr l.g.depth in
-    let cover = rules.cover l.g.depth in
-    let pattern = rules.pattern l.g.depth in
-    let element = rules.element l.g.depth in
+    let expr = rules.expr (g.G.Readers.depth l.g) in
+    let cover = rules.cover (g.G.Readers.depth l.g) in
+    let pattern = rules.pattern (g.G.Readers.depth l.g) in
+    let element = rules.element (g.G.Readers.depth l.g) in
     patterns.elements expr cover pattern element (g.P.Cursor.seen l.fn.p)
     ≡ loop (patterns.array_turn expr cover pattern element) (map (part_of g.T.Trees.pat_of) l.found.items) (g.P.Cursor.seen l.p)
 

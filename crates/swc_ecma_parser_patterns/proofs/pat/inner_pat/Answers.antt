@@ -4,5 +4,5 @@ use Rattle.swc_ecma_parser_patterns.proofs.pat.inner_pat.Goals as goal
 
 pub set_flags-requires-2 : goal.set_flags-requires-2
 set_flags-requires-2 g c =
-    sym (ap (λ k. k.flags.«module») (read_pat_code _ c.args.part _ _ _ (c.requires.pat_gives _ _ _ _ _ c.in_ok-inner.ensures))
+    sym (ap (λ k. k.flags.«module») (read_pat_code _ c.args.part _ _ _ c.in_ok-inner.ensures)
     ∙ ap (λ s. s.code.flags.«module») c.set_flags.ensures ∙ ap (λ f. f.«module») c.with_in.ensures)

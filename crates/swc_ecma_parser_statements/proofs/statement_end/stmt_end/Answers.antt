@@ -7,5 +7,5 @@ use Rattle.swc_ecma_parser_statements.proofs.statement_end.stmt_end.Goals as goa
 -- what is read behind the fault leaves the code a module's or not
 pub set_flags-requires-2 : goal.set_flags-requires-2
 set_flags-requires-2 g c =
-    sym (answered_module (operators c.args.g.now.depth c.args.start (g.T.Trees.expr_of c.args.x)) _ _ (operators_keep c.args.g.now.depth c.args.start (g.T.Trees.expr_of c.args.x)) _ c.in_ok-whole.ensures
+    sym (answered_module (operators (g.G.Readers.depth c.args.g.now) c.args.start (g.T.Trees.expr_of c.args.x)) _ _ (operators_keep (g.G.Readers.depth c.args.g.now) c.args.start (g.T.Trees.expr_of c.args.x)) _ c.in_ok-whole.ensures
     ∙ ap (λ s. s.code.flags.«module») c.set_flags.ensures ∙ ap (λ f. f.«module») c.with_in.ensures)

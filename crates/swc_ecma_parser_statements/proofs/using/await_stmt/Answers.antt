@@ -13,5 +13,5 @@ set_flags-requires-2 g c =
     let inside : g.P.Cursor.seen c.set_flags.new.self ≡ coded (with_in u.code) u =
     c.set_flags.ensures ∙ ap {A = Context} (λ f. coded (record u.code { flags = f }) u) (c.with_in.ensures ∙ ap {A = Context} (λ f. record f { include_in_expr = true }) c.flags-outer.ensures) in
     ap {A = Context} (λ f. f.«module») c.flags-outer.ensures ∙ ap (λ (z : State). z.code.flags.«module») taken
-    ∙ sym (code_stays c.args.g.now.depth c.args.at s u (g.P.Cursor.seen c.set_flags.new.self) c.requires.begins taken inside c.span-start.result c.span-start.ensures _ _
-    (c.requires.readers.expr_gives _ _ _ _ _ c.in_ok-found.ensures))
+    ∙ sym (code_stays (g.G.Readers.depth c.args.g.now) c.args.at s u (g.P.Cursor.seen c.set_flags.new.self) c.requires.begins taken inside c.span-start.result c.span-start.ensures _ _
+    c.in_ok-found.ensures)
