@@ -3,14 +3,11 @@
 ghost use Rattle.std.specs.Prelude.{◌≡◌};
 ghost use Rattle.swc_ecma_parser_function_bodies.specs.Bodies.{directed_body};
 ghost use Rattle.swc_ecma_parser_reader.specs.State.{GivesAs};
-ghost use Rattle.swc_ecma_parser_shared.specs.Nests.{Nests};
 
 use swc_ecma_parser_cursor::Cursor;
 use swc_ecma_parser_error::PResult;
 use swc_ecma_parser_functions::function::Manner;
-use swc_ecma_parser_grammar::Position;
-use swc_ecma_parser_shared::cover::{Cover, Reading};
-use swc_ecma_parser_shared::grammar::{Grammar, Part};
+use swc_ecma_parser_shared::readers::Readers;
 use swc_ecma_parser_trees::{BuildsFunction, MakerOf, Trees};
 
 /// A source from which the body of a function of the tree `T` can be read as a `B`.
@@ -26,23 +23,17 @@ pub trait FnBodyParser<T: Trees, B>: Cursor {
     ghost body: { (depth : ℕ) → (is_async is_generator : Bool) → Reader Tree };
 
     /// A body. A directive that says it is strict is a fault where the parameters are not all plain names: section 15.2.1 of ECMA-262.
-    fn parse_fn_body_inner<
-        S: Fn(&MakerOf<T>, &mut Self, usize, Position) -> PResult<T::Stmt>,
-        E: Fn(&MakerOf<T>, &mut Self, usize, Reading) -> PResult<Cover<T::Expr>>,
-        N: Fn(&MakerOf<T>, &mut Self, usize, Part) -> PResult<T::Pat>,
-    >(
+    fn parse_fn_body_inner<G: Readers<Self, T>>(
         &mut self,
-        g: &Grammar<S, E, N>,
+        g: &G,
         t: &MakerOf<T>,
         manner: Manner,
         is_simple_parameter_list: bool,
     ) -> PResult<B>
-        requires { Nests Self.seen T.expr_of T.pat_of T.stmt_of g.now.depth
-            (S.pre g.now.stmt) (S.post g.now.stmt) (E.pre g.now.expr) (E.post g.now.expr)
-            (N.pre g.now.pat) (N.post g.now.pat) }
+        requires { G.ready g.now }
         ensures { GivesAs body_of
             (directed_body is_simple_parameter_list
-            (body g.now.depth manner.is_async manner.is_generator) (Self.seen self.old)) result
+            (body (G.depth g.now) manner.is_async manner.is_generator) (Self.seen self.old)) result
             (Self.seen self.new) };
 }
 
