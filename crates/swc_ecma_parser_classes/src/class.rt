@@ -1,7 +1,6 @@
 //! Classes, declared or as expressions: ECMA-262, section 15.7.
 
 ghost use Rattle.std.specs.Prelude.{◌≡◌, ◌||◌, true, map};
-ghost use Rattle.swc_ecma_parser_classes.specs.Heads.{ReadsClass};
 ghost use Rattle.swc_ecma_parser_classes.specs.Named.{class_expr_of};
 ghost use Rattle.swc_ecma_parser_grammar.specs.Own as own;
 ghost use Rattle.swc_ecma_parser_grammar.specs.language.Goals.{left_side};
@@ -14,6 +13,7 @@ ghost use Rattle.swc_ecma_parser_reader.specs.Reader as rules;
 ghost use Rattle.swc_ecma_parser_reader.specs.State.{Gives, GivesAs};
 ghost use Rattle.swc_ecma_parser_trees.specs.Parts.{part_of};
 
+use crate::readers::ClassReaders;
 use swc_ecma_parser_bodies::body::close;
 use swc_ecma_parser_common::Span;
 use swc_ecma_parser_cursor::{Cursor, Wanted};
@@ -25,16 +25,6 @@ use swc_ecma_parser_shared::found::{found_module_item, set_found_module_item};
 use swc_ecma_parser_shared::steps::{grown, pushed, since, told_if, with_in};
 use swc_ecma_parser_token::TokenKind;
 use swc_ecma_parser_trees::{BuildsClass, BuildsClassDecl, MakerOf};
-
-/// The readers of what stands in a class: what it extends, and its members.
-#[derive(Clone, Copy)]
-pub struct ClassGrammar<E, M> {
-    /// How many levels are left there.
-    pub depth: usize,
-    pub expr: E,
-    /// It is handed the members before, whose type it answers.
-    pub member: M,
-}
 
 /// Whether the members of a class end here.
 #[tactic(auto, unfolding(swc_ecma_parser_reader::specs::Reader::closes))]
@@ -70,22 +60,20 @@ fn with_constructor<T: BuildsClass>(has_constructor: bool, member: &T::Member) -
 /// Members one behind another. Each constructor behind the first is a fault.
 #[tactic(auto, unfolding(swc_ecma_parser_reader::specs::Members::members), using(swc_ecma_parser_reader::proofs::classes::Loops::members_done))]
 #[inline(never)]
-fn members<
-    P: Cursor,
-    T: BuildsClass,
-    E: Fn(&MakerOf<T>, &mut P, usize, Class) -> PResult<T::Expr>,
-    M: Fn(&MakerOf<T>, &mut P, usize, &[T::Member]) -> PResult<T::Member>,
->(c: &ClassGrammar<E, M>, t: &MakerOf<T>, p: &mut P) -> PResult<Vec<T::Member>>
-    requires { ReadsClass P.seen T.expr_of T.member_of c.now.depth (E.pre c.now.expr)
-        (E.post c.now.expr) (M.pre c.now.member) (M.post c.now.member) }
+fn members<P: Cursor, T: BuildsClass, C: ClassReaders<P, T>>(
+    c: &C,
+    t: &MakerOf<T>,
+    p: &mut P,
+) -> PResult<Vec<T::Member>>
+    requires { C.ready c.now }
     ensures { GivesAs (λ found. map T.member_of found.items)
-        (members.members (rules.expr c.now.depth left_side) (rules.member c.now.depth)
+        (members.members (rules.expr (C.depth c.now) left_side) (rules.member (C.depth c.now))
         (P.seen p.old)) result (P.seen p.new) }
 {
     let mut found = Vec::new(t.alloc);
     let mut has_constructor = false;
     'members: while !closes(p) {
-        let member = (c.member)(t, p, c.depth, found.as_slice())?;
+        let member = c.member(t, p, found.as_slice())?;
         second_constructor::<P, T>(p, has_constructor, &member)?;
         has_constructor = with_constructor::<T>(has_constructor, &member);
         pushed(p, &mut found, member)?;
@@ -94,33 +82,29 @@ fn members<
 }
 
 /// What a class extends, from behind `extends`.
-fn heritage<
-    P: Cursor,
-    T: BuildsClass,
-    E: Fn(&MakerOf<T>, &mut P, usize, Class) -> PResult<T::Expr>,
-    M: Fn(&MakerOf<T>, &mut P, usize, &[T::Member]) -> PResult<T::Member>,
->(c: &ClassGrammar<E, M>, t: &MakerOf<T>, p: &mut P) -> PResult<T::Expr>
-    requires { ReadsClass P.seen T.expr_of T.member_of c.now.depth (E.pre c.now.expr)
-        (E.post c.now.expr) (M.pre c.now.member) (M.post c.now.member) }
-    ensures { GivesAs T.expr_of (rules.expr c.now.depth left_side (P.seen p.old)) result
+fn heritage<P: Cursor, T: BuildsClass, C: ClassReaders<P, T>>(
+    c: &C,
+    t: &MakerOf<T>,
+    p: &mut P,
+) -> PResult<T::Expr>
+    requires { C.ready c.now }
+    ensures { GivesAs T.expr_of (rules.expr (C.depth c.now) left_side (P.seen p.old)) result
         (P.seen p.new) }
 {
-    (c.expr)(t, p, c.depth, Class::LeftSide)
+    c.expr(t, p, Class::LeftSide)
 }
 
 /// What a class extends, if anything.
 #[tactic(auto, unfolding(swc_ecma_parser_reader::specs::Members::extended))]
 #[inline(never)]
-fn extended<
-    P: Cursor,
-    T: BuildsClass,
-    E: Fn(&MakerOf<T>, &mut P, usize, Class) -> PResult<T::Expr>,
-    M: Fn(&MakerOf<T>, &mut P, usize, &[T::Member]) -> PResult<T::Member>,
->(c: &ClassGrammar<E, M>, t: &MakerOf<T>, p: &mut P) -> PResult<Option<T::Expr>>
-    requires { ReadsClass P.seen T.expr_of T.member_of c.now.depth (E.pre c.now.expr)
-        (E.post c.now.expr) (M.pre c.now.member) (M.post c.now.member) }
+fn extended<P: Cursor, T: BuildsClass, C: ClassReaders<P, T>>(
+    c: &C,
+    t: &MakerOf<T>,
+    p: &mut P,
+) -> PResult<Option<T::Expr>>
+    requires { C.ready c.now }
     ensures { GivesAs (part_of T.expr_of)
-        (members.extended (rules.expr c.now.depth left_side) (rules.member c.now.depth)
+        (members.extended (rules.expr (C.depth c.now) left_side) (rules.member (C.depth c.now))
         (P.seen p.old)) result (P.seen p.new) }
 {
     if !p.sees(TokenKind::Extends) {
@@ -133,15 +117,13 @@ fn extended<
 
 /// What a class extends, dropped, with what in it makes a program a module.
 #[inline(never)]
-fn dropped<
-    P: Cursor,
-    T: BuildsClass,
-    E: Fn(&MakerOf<T>, &mut P, usize, Class) -> PResult<T::Expr>,
-    M: Fn(&MakerOf<T>, &mut P, usize, &[T::Member]) -> PResult<T::Member>,
->(c: &ClassGrammar<E, M>, t: &MakerOf<T>, p: &mut P) -> PResult<()>
-    requires { ReadsClass P.seen T.expr_of T.member_of c.now.depth (E.pre c.now.expr)
-        (E.post c.now.expr) (M.pre c.now.member) (M.post c.now.member) }
-    ensures { Gives (members.dropped (rules.expr c.now.depth left_side) (P.seen p.old)) result
+fn dropped<P: Cursor, T: BuildsClass, C: ClassReaders<P, T>>(
+    c: &C,
+    t: &MakerOf<T>,
+    p: &mut P,
+) -> PResult<()>
+    requires { C.ready c.now }
+    ensures { Gives (members.dropped (rules.expr (C.depth c.now) left_side) (P.seen p.old)) result
         (P.seen p.new) }
 {
     let found = found_module_item(t.alloc, p);
@@ -153,16 +135,14 @@ fn dropped<
 /// A second `extends`, which is a fault of its word.
 #[tactic(auto, using(crate::proofs::Surplus::surplus_none, crate::proofs::Surplus::surplus_err, crate::proofs::Surplus::surplus_told))]
 #[inline(never)]
-fn surplus<
-    P: Cursor,
-    T: BuildsClass,
-    E: Fn(&MakerOf<T>, &mut P, usize, Class) -> PResult<T::Expr>,
-    M: Fn(&MakerOf<T>, &mut P, usize, &[T::Member]) -> PResult<T::Member>,
->(c: &ClassGrammar<E, M>, t: &MakerOf<T>, p: &mut P) -> PResult<()>
-    requires { ReadsClass P.seen T.expr_of T.member_of c.now.depth (E.pre c.now.expr)
-        (E.post c.now.expr) (M.pre c.now.member) (M.post c.now.member) }
+fn surplus<P: Cursor, T: BuildsClass, C: ClassReaders<P, T>>(
+    c: &C,
+    t: &MakerOf<T>,
+    p: &mut P,
+) -> PResult<()>
+    requires { C.ready c.now }
     ensures { Gives
-        (members.surplus (rules.expr c.now.depth left_side) (rules.member c.now.depth)
+        (members.surplus (rules.expr (C.depth c.now) left_side) (rules.member (C.depth c.now))
         (P.seen p.old)) result (P.seen p.new) }
 {
     if !p.sees(TokenKind::Extends) {
@@ -177,23 +157,18 @@ fn surplus<
 /// A class that begins at `start`, from behind its name, with the decorators before it.
 #[tactic(auto, unfolding(swc_ecma_parser_reader::specs::Dressed::class_parts_with, swc_ecma_parser_reader::specs::Members::class_parts))]
 #[inline(never)]
-pub fn class_parts_with<
-    P: Cursor,
-    T: BuildsClass,
-    E: Fn(&MakerOf<T>, &mut P, usize, Class) -> PResult<T::Expr>,
-    M: Fn(&MakerOf<T>, &mut P, usize, &[T::Member]) -> PResult<T::Member>,
->(
-    c: &ClassGrammar<E, M>,
+pub fn class_parts_with<P: Cursor, T: BuildsClass, C: ClassReaders<P, T>>(
+    c: &C,
     t: &MakerOf<T>,
     p: &mut P,
     start: Span,
     decorators: Vec<T::Decorator>,
 ) -> PResult<T::Class>
-    requires { ReadsClass P.seen T.expr_of T.member_of c.now.depth (E.pre c.now.expr)
-        (E.post c.now.expr) (M.pre c.now.member) (M.post c.now.member) }
+    requires { C.ready c.now }
     ensures { GivesAs T.class_of
-        (dressed.class_parts_with (rules.expr c.now.depth left_side) (rules.member c.now.depth)
-        (map T.decorator_of decorators.items) start (P.seen p.old)) result (P.seen p.new) }
+        (dressed.class_parts_with (rules.expr (C.depth c.now) left_side)
+        (rules.member (C.depth c.now)) (map T.decorator_of decorators.items) start (P.seen p.old))
+        result (P.seen p.new) }
 {
     let super_class = extended(c, t, p)?;
     surplus(c, t, p)?;
@@ -220,23 +195,18 @@ fn in_class(flags: Context) -> Context
 
 /// A class that is declared and begins at `start`, in what stands around it.
 #[tactic(auto, unfolding(swc_ecma_parser_reader::specs::Dressed::named_class_with, swc_ecma_parser_reader::specs::Reader::named))]
-fn named_class<
-    P: Cursor,
-    T: BuildsClassDecl,
-    E: Fn(&MakerOf<T>, &mut P, usize, Class) -> PResult<T::Expr>,
-    M: Fn(&MakerOf<T>, &mut P, usize, &[T::Member]) -> PResult<T::Member>,
->(
-    c: &ClassGrammar<E, M>,
+fn named_class<P: Cursor, T: BuildsClassDecl, C: ClassReaders<P, T>>(
+    c: &C,
     t: &MakerOf<T>,
     p: &mut P,
     start: Span,
     decorators: Vec<T::Decorator>,
 ) -> PResult<T::Decl>
-    requires { ReadsClass P.seen T.expr_of T.member_of c.now.depth (E.pre c.now.expr)
-        (E.post c.now.expr) (M.pre c.now.member) (M.post c.now.member) }
+    requires { C.ready c.now }
     ensures { GivesAs T.decl_of
-        (dressed.named_class_with (rules.expr c.now.depth left_side) (rules.member c.now.depth)
-        (map T.decorator_of decorators.items) start (P.seen p.old)) result (P.seen p.new) }
+        (dressed.named_class_with (rules.expr (C.depth c.now) left_side)
+        (rules.member (C.depth c.now)) (map T.decorator_of decorators.items) start (P.seen p.old))
+        result (P.seen p.new) }
 {
     p.skip()?;
     let name = p.name(Wanted::Name)?;
@@ -246,23 +216,18 @@ fn named_class<
 
 /// A class that is declared and begins at `start`, with the decorators before it.
 #[tactic(auto, unfolding(swc_ecma_parser_reader::specs::Dressed::class_decl_with))]
-pub fn class_decl_with<
-    P: Cursor,
-    T: BuildsClassDecl,
-    E: Fn(&MakerOf<T>, &mut P, usize, Class) -> PResult<T::Expr>,
-    M: Fn(&MakerOf<T>, &mut P, usize, &[T::Member]) -> PResult<T::Member>,
->(
-    c: &ClassGrammar<E, M>,
+pub fn class_decl_with<P: Cursor, T: BuildsClassDecl, C: ClassReaders<P, T>>(
+    c: &C,
     t: &MakerOf<T>,
     p: &mut P,
     start: Span,
     decorators: Vec<T::Decorator>,
 ) -> PResult<T::Decl>
-    requires { ReadsClass P.seen T.expr_of T.member_of c.now.depth (E.pre c.now.expr)
-        (E.post c.now.expr) (M.pre c.now.member) (M.post c.now.member) }
+    requires { C.ready c.now }
     ensures { GivesAs T.decl_of
-        (dressed.class_decl_with (rules.expr c.now.depth left_side) (rules.member c.now.depth)
-        (map T.decorator_of decorators.items) start (P.seen p.old)) result (P.seen p.new) }
+        (dressed.class_decl_with (rules.expr (C.depth c.now) left_side)
+        (rules.member (C.depth c.now)) (map T.decorator_of decorators.items) start (P.seen p.old))
+        result (P.seen p.new) }
 {
     let outer = p.flags();
     p.set_flags(in_class(outer));
@@ -274,16 +239,14 @@ pub fn class_decl_with<
 /// The name of a class that is an expression, if it has one.
 #[tactic(auto, unfolding(swc_ecma_parser_reader::specs::Members::class_name, swc_ecma_parser_reader::specs::Reader::named))]
 #[inline(never)]
-fn class_name<
-    P: Cursor,
-    T: BuildsClass,
-    E: Fn(&MakerOf<T>, &mut P, usize, Class) -> PResult<T::Expr>,
-    M: Fn(&MakerOf<T>, &mut P, usize, &[T::Member]) -> PResult<T::Member>,
->(c: &ClassGrammar<E, M>, t: &MakerOf<T>, p: &mut P) -> PResult<Option<Ident>>
-    requires { ReadsClass P.seen T.expr_of T.member_of c.now.depth (E.pre c.now.expr)
-        (E.post c.now.expr) (M.pre c.now.member) (M.post c.now.member) }
+fn class_name<P: Cursor, T: BuildsClass, C: ClassReaders<P, T>>(
+    c: &C,
+    t: &MakerOf<T>,
+    p: &mut P,
+) -> PResult<Option<Ident>>
+    requires { C.ready c.now }
     ensures { GivesAs (part_of word_of)
-        (members.class_name (rules.expr c.now.depth left_side) (rules.member c.now.depth)
+        (members.class_name (rules.expr (C.depth c.now) left_side) (rules.member (C.depth c.now))
         (P.seen p.old)) result (P.seen p.new) }
 {
     if !p.name_at() {
@@ -302,22 +265,17 @@ pub struct NamedClass<C> {
 
 /// A class that is an expression, in what stands around it, with the decorators before it.
 #[tactic(auto, unfolding(swc_ecma_parser_reader::specs::Dressed::unnamed_class_with))]
-fn unnamed_class<
-    P: Cursor,
-    T: BuildsClass,
-    E: Fn(&MakerOf<T>, &mut P, usize, Class) -> PResult<T::Expr>,
-    M: Fn(&MakerOf<T>, &mut P, usize, &[T::Member]) -> PResult<T::Member>,
->(
-    c: &ClassGrammar<E, M>,
+fn unnamed_class<P: Cursor, T: BuildsClass, C: ClassReaders<P, T>>(
+    c: &C,
     t: &MakerOf<T>,
     p: &mut P,
     decorators: Vec<T::Decorator>,
 ) -> PResult<NamedClass<T::Class>>
-    requires { ReadsClass P.seen T.expr_of T.member_of c.now.depth (E.pre c.now.expr)
-        (E.post c.now.expr) (M.pre c.now.member) (M.post c.now.member) }
+    requires { C.ready c.now }
     ensures { GivesAs (class_expr_of T.class_of)
-        (dressed.unnamed_class_with (rules.expr c.now.depth left_side) (rules.member c.now.depth)
-        (map T.decorator_of decorators.items) (P.seen p.old)) result (P.seen p.new) }
+        (dressed.unnamed_class_with (rules.expr (C.depth c.now) left_side)
+        (rules.member (C.depth c.now)) (map T.decorator_of decorators.items) (P.seen p.old)) result
+        (P.seen p.new) }
 {
     let start = p.span();
     p.skip()?;
@@ -328,22 +286,17 @@ fn unnamed_class<
 
 /// A class that is an expression, as its parts, with the decorators before it.
 #[tactic(auto, unfolding(swc_ecma_parser_reader::specs::Dressed::class_expr_with))]
-pub fn class_expr_with<
-    P: Cursor,
-    T: BuildsClass,
-    E: Fn(&MakerOf<T>, &mut P, usize, Class) -> PResult<T::Expr>,
-    M: Fn(&MakerOf<T>, &mut P, usize, &[T::Member]) -> PResult<T::Member>,
->(
-    c: &ClassGrammar<E, M>,
+pub fn class_expr_with<P: Cursor, T: BuildsClass, C: ClassReaders<P, T>>(
+    c: &C,
     t: &MakerOf<T>,
     p: &mut P,
     decorators: Vec<T::Decorator>,
 ) -> PResult<NamedClass<T::Class>>
-    requires { ReadsClass P.seen T.expr_of T.member_of c.now.depth (E.pre c.now.expr)
-        (E.post c.now.expr) (M.pre c.now.member) (M.post c.now.member) }
+    requires { C.ready c.now }
     ensures { GivesAs (class_expr_of T.class_of)
-        (dressed.class_expr_with (rules.expr c.now.depth left_side) (rules.member c.now.depth)
-        (map T.decorator_of decorators.items) (P.seen p.old)) result (P.seen p.new) }
+        (dressed.class_expr_with (rules.expr (C.depth c.now) left_side)
+        (rules.member (C.depth c.now)) (map T.decorator_of decorators.items) (P.seen p.old)) result
+        (P.seen p.new) }
 {
     let outer = p.flags();
     p.set_flags(in_class(outer));

@@ -3,4 +3,5 @@
 #![tactic(auto)]
 
 pub mod class;
+pub mod readers;
 pub mod words;

@@ -23,7 +23,8 @@ ghost use Rattle.swc_ecma_parser_reader.specs.State.{Gives, GivesAs};
 
 use crate::covering::Covering;
 use crate::levels::{cover_level, plain_level};
-use swc_ecma_parser_classes::class::{ClassGrammar, NamedClass, class_decl_with, class_expr_with};
+use swc_ecma_parser_classes::class::{NamedClass, class_decl_with, class_expr_with};
+use swc_ecma_parser_classes::readers::ClassGrammar;
 use swc_ecma_parser_common::Span;
 use swc_ecma_parser_cursor::{Cursor, Wanted};
 use swc_ecma_parser_error::{PResult, SyntaxError};
