@@ -18,13 +18,12 @@ use swc_ecma_parser_functions::function::{function_decl, function_stmt};
 use swc_ecma_parser_grammar::Position;
 use swc_ecma_parser_loops::for_loop::for_stmt;
 use swc_ecma_parser_loops::while_do::{do_while, while_stmt};
-use swc_ecma_parser_model::VarDeclKind;
 use swc_ecma_parser_shared::readers::Readers;
 use swc_ecma_parser_statements::jump::{break_stmt, continue_stmt};
 use swc_ecma_parser_statements::leave::{return_stmt, throw};
 use swc_ecma_parser_statements::simple::{debugger, empty, import_stmt_at};
 use swc_ecma_parser_statements::using::using_stmt;
-use swc_ecma_parser_statements::variables::{const_stmt, variables};
+use swc_ecma_parser_statements::variables::const_stmt;
 use swc_ecma_parser_token::TokenKind;
 use swc_ecma_parser_trees::{
     BuildsControl, BuildsFor, BuildsLoop, BuildsOperator, BuildsPattern, BuildsStmt, BuildsSwitch,
@@ -71,7 +70,7 @@ fn async_or_other<
     using_or_other(g, t, p, at)
 }
 
-/// A statement, by its first token. A class is read by the caller, so none begins here.
+/// A statement, by its first token. A class and a `var` are read by the caller, so neither begins here.
 #[tactic(auto, unfolding(swc_ecma_parser_reader::specs::Reader::stmt_level))]
 pub fn level<
     P: Cursor,
@@ -88,6 +87,7 @@ pub fn level<
 >(g: &G, t: &MakerOf<T>, p: &mut P, at: Position) -> PResult<T::Stmt>
     requires readers { G.ready g.now }
     requires no_class { looks.kind_at (P.seen p.now).at ≢ kind.Class }
+    requires no_var { looks.kind_at (P.seen p.now).at ≢ kind.Var }
     ensures { GivesAs T.stmt_of
         (rules.stmt_level (rules.stmt (G.depth g.now)) (rules.expr (G.depth g.now))
         (rules.pattern (G.depth g.now)) (rules.head_cover (G.depth g.now))
@@ -99,7 +99,6 @@ pub fn level<
         TokenKind::Function => function_stmt(g, t, p, at),
         TokenKind::Semi => empty::<P, T>(t.alloc, p),
         TokenKind::Debugger => debugger::<P, T>(t.alloc, p),
-        TokenKind::Var => variables(g, t, p, VarDeclKind::Var),
         TokenKind::Const => const_stmt(g, t, p, at),
         TokenKind::Let => let_stmt(g, t, p, at),
         TokenKind::If => if_stmt(g, t, p),

@@ -86,3 +86,8 @@ async_takes n at v s h a f = behind_async (stmt n) (expr n) (pattern n) (head_co
 pub no_class : (c : Place) → sees kind.Class c ≡ false → kind_at c ≢ kind.Class
 unfolding same_kind
 no_class c e h = unseen c kind.Class h refl e
+
+-- the same of `var`
+pub no_var : (c : Place) → sees kind.Var c ≡ false → kind_at c ≢ kind.Var
+unfolding same_kind
+no_var c e h = unseen c kind.Var h refl e

@@ -43,7 +43,7 @@ pub(crate) fn cover_level<
     }
 }
 
-/// A statement without decorators that is no class, where what stands in it is read by these readers.
+/// A statement without decorators that is no class and no `var`, where what stands in it is read by these readers.
 #[tactic(auto, using(swc_ecma_parser_reader::proofs::AwaitWords::begins_behind, swc_ecma_parser_reader::proofs::AwaitWords::begins_elsewhere))]
 pub(crate) fn plain_level<
     P: Cursor,
@@ -60,6 +60,7 @@ pub(crate) fn plain_level<
 >(g: &G, t: &MakerOf<T>, p: &mut P, at: Position) -> PResult<T::Stmt>
     requires readers { G.ready g.now }
     requires no_class { looks.kind_at (P.seen p.now).at ≢ kind.Class }
+    requires no_var { looks.kind_at (P.seen p.now).at ≢ kind.Var }
     ensures { GivesAs T.stmt_of (rules.plain_stmt (G.depth g.now) at (P.seen p.old)) result
         (P.seen p.new) }
 {

@@ -3,7 +3,7 @@ use Rattle.std.proofs.lemmas.Result.{err_from_is_err_and}
 use Rattle.swc_ecma_parser_error.specs.Kind.{Fault, fault_of}
 use Rattle.swc_ecma_parser_reader.specs.State.{State, GivesAs}
 use Rattle.swc_ecma_parser_reader.proofs.Sound.{declarators_code}
-use Rattle.swc_ecma_parser_knot.proofs.Declared.{no_class}
+use Rattle.swc_ecma_parser_knot.proofs.Declared.{no_class, no_var}
 use Rattle.swc_ecma_parser_reader.proofs.patterns.Loops.{pattern_above, element_above}
 use Rattle.swc_ecma_parser_shared.specs.Covers.{cover_of, read}
 use Rattle.swc_ecma_parser_knot.proofs.Covers.{covered_refused, covered_above, read_class, read_decorated, read_expr, at_asked, refused_as, read_object}
@@ -96,6 +96,10 @@ covered-returns g t c =
 -- a class was read before
 pub plain_stmt-plain_level-requires-clause-no_class : goal.plain_stmt-plain_level-requires-clause-no_class
 plain_stmt-plain_level-requires-clause-no_class g t c = no_class (g.P.Cursor.seen c.args.p.now).at (sym c.sees-2.ensures ∙ c.if-sees-2.false)
+
+-- and so was a `var`
+pub plain_stmt-plain_level-requires-clause-no_var : goal.plain_stmt-plain_level-requires-clause-no_var
+plain_stmt-plain_level-requires-clause-no_var g t c = no_var (g.P.Cursor.seen c.args.p.now).at (sym c.sees.ensures ∙ c.if-sees.false)
 
 pub pat-returns-then-depth-eq0 : goal.pat-returns-then-depth-eq0
 pat-returns-then-depth-eq0 g t c = λ h. read_pat_lowest c.args.depth c.args.part (g.P.Cursor.seen c.args.p.now) _ c.if-depth-eq0.true (c.too_deep.ensures h)
