@@ -45,6 +45,18 @@ use swc_ecma_parser_statements::variables::declarators;
 use swc_ecma_parser_token::TokenKind;
 use swc_ecma_parser_trees::{BuildsStatements, MakerOf};
 
+/// The readers of what stands in so many levels.
+macro_rules! readers {
+    ($depth:expr) => {
+        Grammar {
+            depth: $depth,
+            stmt: stmt::<P, T>,
+            expr: expr::<P, T>,
+            pat: pat::<P, T>,
+        }
+    };
+}
+
 /// A statement in so many levels.
 #[cycle(knot)]
 #[tactic(auto, using(swc_ecma_parser_reader::proofs::Loops::stmt_lowest, crate::proofs::Declared::decorated_is_stmt, crate::proofs::Declared::plain_is_stmt))]
@@ -86,12 +98,7 @@ pub fn plain_stmt<P: Cursor, T: BuildsStatements>(
     if p.sees(TokenKind::Class) {
         return class_statement::<P, T>(t, p, depth, at);
     }
-    let g = Grammar {
-        depth,
-        stmt: stmt::<P, T>,
-        expr: expr::<P, T>,
-        pat: pat::<P, T>,
-    };
+    let g = readers!(depth);
     plain_level(&g, t, p, at)
 }
 
@@ -122,12 +129,7 @@ pub fn leading<P: Cursor, T: BuildsStatements>(
     ensures { GivesAs (leading_of T.decorator_of)
         (decorators.leading (decorated_in depth) (P.seen p.old)) result (P.seen p.new) }
 {
-    let g = Grammar {
-        depth,
-        stmt: stmt::<P, T>,
-        expr: expr::<P, T>,
-        pat: pat::<P, T>,
-    };
+    let g = readers!(depth);
     leading_decorators(&g, t, p)
 }
 
@@ -282,12 +284,7 @@ pub fn expression<P: Cursor, T: BuildsStatements>(
     if depth == 0 {
         return Err(p.too_deep());
     }
-    let g = Grammar {
-        depth: depth - 1,
-        stmt: stmt::<P, T>,
-        expr: expr::<P, T>,
-        pat: pat::<P, T>,
-    };
+    let g = readers!(depth - 1);
     expr_level(&g, t, p, class)
 }
 
@@ -325,12 +322,7 @@ fn covered<P: Cursor, T: BuildsStatements>(
     if depth == 0 {
         return Err(p.too_deep());
     }
-    let g = Grammar {
-        depth: depth - 1,
-        stmt: stmt::<P, T>,
-        expr: expr::<P, T>,
-        pat: pat::<P, T>,
-    };
+    let g = readers!(depth - 1);
     cover_level(&g, t, p, place)
 }
 
@@ -348,12 +340,7 @@ fn decorated<P: Cursor, T: BuildsStatements>(
     if depth == 0 {
         return Err(p.too_deep());
     }
-    let g = Grammar {
-        depth: depth - 1,
-        stmt: stmt::<P, T>,
-        expr: expr::<P, T>,
-        pat: pat::<P, T>,
-    };
+    let g = readers!(depth - 1);
     decorated_level(&g, t, p)
 }
 
@@ -371,12 +358,7 @@ pub fn object_alone<P: Cursor, T: BuildsStatements>(
     if depth == 0 {
         return Err(p.too_deep());
     }
-    let g = Grammar {
-        depth: depth - 1,
-        stmt: stmt::<P, T>,
-        expr: expr::<P, T>,
-        pat: pat::<P, T>,
-    };
+    let g = readers!(depth - 1);
     object_level(&g, t, p)
 }
 
@@ -394,12 +376,7 @@ fn member<P: Cursor, T: BuildsStatements>(
     if depth == 0 {
         return Err(p.too_deep());
     }
-    let g = Grammar {
-        depth: depth - 1,
-        stmt: stmt::<P, T>,
-        expr: expr::<P, T>,
-        pat: pat::<P, T>,
-    };
+    let g = readers!(depth - 1);
     member_level(&g, t, p)
 }
 
@@ -550,12 +527,7 @@ pub fn pat<P: Cursor, T: BuildsStatements>(
     if depth == 0 {
         return Err(p.too_deep());
     }
-    let g = Grammar {
-        depth: depth - 1,
-        stmt: stmt::<P, T>,
-        expr: expr::<P, T>,
-        pat: pat::<P, T>,
-    };
+    let g = readers!(depth - 1);
     match part {
         Part::Pattern => pattern_level(&g, t, p),
         Part::Element => element_level(&g, t, p),
@@ -583,12 +555,7 @@ pub fn inner_declarators<P: Cursor, T: BuildsStatements>(
         (rules.declarators (rules.expr depth) (rules.pattern depth) false word (P.seen p.old))
         result (P.seen p.new) }
 {
-    let g = Grammar {
-        depth,
-        stmt: stmt::<P, T>,
-        expr: expr::<P, T>,
-        pat: pat::<P, T>,
-    };
+    let g = readers!(depth);
     declarators(&g, t, p, false, word)
 }
 
@@ -602,12 +569,7 @@ pub fn inner_declaration_end<P: Cursor, T: BuildsStatements>(
     ensures { Gives (rules.declaration_end (rules.expr depth expression_class) (P.seen p.old))
         result (P.seen p.new) }
 {
-    let g = Grammar {
-        depth,
-        stmt: stmt::<P, T>,
-        expr: expr::<P, T>,
-        pat: pat::<P, T>,
-    };
+    let g = readers!(depth);
     declaration_end(&g, t, p)
 }
 
@@ -643,12 +605,7 @@ pub fn inner_function_with<P: Cursor, T: BuildsStatements>(
         (map T.decorator_of decorators.items) manner.is_async manner.is_generator start
         (P.seen p.old)) result (P.seen p.new) }
 {
-    let g = Grammar {
-        depth,
-        stmt: stmt::<P, T>,
-        expr: expr::<P, T>,
-        pat: pat::<P, T>,
-    };
+    let g = readers!(depth);
     function_parts_with(&g, t, p, manner, start, decorators)
 }
 
