@@ -1,19 +1,21 @@
 -- A declaration of a function, of `var` or of a class is the statement that stands there.
-use Rattle.std.proofs.Common.{◌≡◌, ◌≢◌, ℕ, ◌-◌, ◌<◌, Bool, true, false, refl, ◌∙◌, List, [], sym}
+use Rattle.std.proofs.Common.{◌≡◌, ◌≢◌, ℕ, ◌-◌, ◌<◌, Bool, true, false, refl, ◌∙◌, List, [], Ok, Err, sym, ap}
 use Rattle.std.specs.Prelude.{◌&&◌, ◌||◌}
+use Rattle.swc_ecma_parser_error.specs.Kind as faults
 use Rattle.swc_ecma_parser_token.specs.declared.kind.TokenKind.TheVariants as kind
 use Rattle.swc_ecma_parser_model.specs.declared.leaves.VarDeclKind.TheVariants as decl
 use Rattle.swc_ecma_parser_input.specs.Place.{Place}
 use Rattle.swc_ecma_parser_grammar.specs.declared.position.Position.{Position}
 use Rattle.swc_ecma_parser_grammar.specs.Follows.{is_async_function}
-use Rattle.swc_ecma_parser_grammar.specs.Looks.{kind_at, same_kind, sees}
+use Rattle.swc_ecma_parser_grammar.specs.Looks.{kind_at, same_kind, sees, span_at}
 use Rattle.swc_ecma_parser_grammar.specs.language.Items.{nested_item}
 use Rattle.swc_ecma_parser_grammar.specs.language.Goals.{left_side}
-use Rattle.swc_ecma_parser_reader.specs.State.{State, Reader}
+use Rattle.swc_ecma_parser_reader.specs.State.{State, Outcome, Reader, and_then, name}
+use Rattle.swc_ecma_parser_reader.specs.Methods.{star}
 use Rattle.swc_ecma_parser_reader.specs.Decorators.{Leading}
 use Rattle.swc_ecma_parser_reader.specs.DecoratedStatements.{begins_declared, declared_behind, decorated_stmt}
 use Rattle.swc_ecma_parser_reader.specs.Dressed.{class_stmt_with, function_decl_with, function_stmt_with, function_parts_with}
-use Rattle.swc_ecma_parser_reader.specs.Reader.{expr, pattern, head_cover, decorated_in, stmt, member, operators, parameters, variables, function_decl, stmt_level, function_stmt, async_or_other, declarators, nests, plain_stmt, function_parts}
+use Rattle.swc_ecma_parser_reader.specs.Reader.{expr, pattern, head_cover, decorated_in, stmt, member, operators, parameters, variables, function_decl, stmt_level, function_stmt, async_or_other, declarators, nests, plain_stmt, function_parts, function_word}
 use Rattle.swc_ecma_parser_reader.specs.Members.{class_stmt}
 use Rattle.swc_ecma_parser_reader.proofs.Meets.{saw}
 use Rattle.swc_ecma_parser_reader.proofs.Words.{async_kind}
@@ -23,6 +25,7 @@ use Rattle.swc_ecma_parser_reader.proofs.decorators.Dressed.{behind_class, behin
 use Rattle.swc_ecma_parser_reader.proofs.decorators.Either.{either_decorated, either_plain}
 use Rattle.swc_ecma_parser_reader.proofs.expressions.SoundSteps.{unseen}
 use Rattle.swc_ecma_parser_reader.proofs.First.{first_at}
+use Rattle.swc_ecma_parser_model.specs.Tree as tree
 use Rattle.swc_ecma_parser_model.specs.Tree.{Tree}
 use Rattle.swc_ecma_parser_common.specs.declared.span.Span.{Span}
 
@@ -63,6 +66,17 @@ class_is_stmt n at s e = first_at (found n) (nests n) (rest n) at kind.Class s (
 pub function_undecorated : (n : ℕ) (is_async is_generator : Bool) (start : Span) (s : State) → function_parts (stmt n nested_item) (parameters n) is_async is_generator start s
     ≡ function_parts_with (stmt n nested_item) (parameters n) [] is_async is_generator start s
 function_undecorated n is_async is_generator start s = sym (function_parts_plain (stmt n nested_item) (parameters n) is_async is_generator start s)
+
+-- steps that are the same behind the same
+steps_as : {A B : Type 0} (o : Outcome A) (f g : A → Reader B) → ((a : A) (s : State) → f a s ≡ g a s) → and_then o f ≡ and_then o g
+steps_as (Ok p) f g h = h p.0 p.1
+steps_as (Err e) f g h = refl
+
+-- so is one that is declared
+pub function_decl_plain : (n : ℕ) (s : State) → function_decl (stmt n nested_item) (parameters n) s ≡ function_decl_with (stmt n nested_item) (parameters n) [] s
+unfolding function_decl function_decl_with
+function_decl_plain n s = steps_as (function_word s) _ _ (λ a t. steps_as (star t) _ _ (λ b u. steps_as (name faults.ExpectedIdent u) _ _ (λ i v.
+    ap (λ z. and_then z (λ fn w. Ok (tree.fn_decl (tree.ident i.span i.sym) fn, w))) (function_undecorated n a b (span_at s.at) v))))
 
 -- ---- what takes decorators
 

@@ -659,7 +659,7 @@ fn function_statement_with<P: Cursor, T: BuildsStatements>(
 
 /// A function that is declared, in so many levels.
 #[cycle(knot)]
-#[tactic(auto, unfolding(swc_ecma_parser_reader::specs::Reader::function_decl))]
+#[tactic(auto, using(crate::proofs::Declared::function_decl_plain))]
 pub fn declared_function<P: Cursor, T: BuildsStatements>(
     t: &MakerOf<T>,
     p: &mut P,
@@ -669,16 +669,7 @@ pub fn declared_function<P: Cursor, T: BuildsStatements>(
         (rules.function_decl (rules.stmt depth nested_item) (rules.parameters depth) (P.seen p.old))
         result (P.seen p.new) }
 {
-    let start = p.span();
-    let is_async = function_word(p)?;
-    let is_generator = star(p)?;
-    let manner = Manner {
-        is_async,
-        is_generator,
-    };
-    let name = p.name(Wanted::Name)?;
-    let function = inner_function::<P, T>(t, p, depth, manner, start)?;
-    grown(p, T::fn_decl(t.alloc, name, function))
+    declared_function_with::<P, T>(t, p, depth, Vec::new(t.alloc))
 }
 
 /// A declaration of `var`, in so many levels.
