@@ -10,7 +10,7 @@ ghost use Rattle.swc_ecma_parser_reader.specs.Reader as rules;
 ghost use Rattle.swc_ecma_parser_reader.specs.State.{GivesAs};
 ghost use Rattle.swc_ecma_parser_trees.specs.Parts.{part_of};
 
-use crate::inner::inner_expr;
+use crate::inner::{Objects, inner_expr};
 use swc_ecma_parser_classes::class::NamedClass;
 use swc_ecma_parser_common::Span;
 use swc_ecma_parser_cursor::{Cursor, Wanted};
@@ -156,7 +156,7 @@ pub(crate) fn default_rest<P: Cursor, T: BuildsStatements + BuildsExport>(
         (rules.object_alone depth) start first (P.seen p.old)) result (P.seen p.new) }
 {
     if is_default_from(p) {
-        return default_from::<P, T>(t, p, depth, start, first);
+        return default_from::<P, T, Objects>(t, p, depth, start, first);
     }
     default_expr::<P, T>(t, p, depth, start)
 }
@@ -264,10 +264,10 @@ pub(crate) fn export_rest<P: Cursor, T: BuildsStatements + BuildsExport + Builds
         (P.seen p.old)) result (P.seen p.new) }
 {
     if p.sees(TokenKind::LBrace) {
-        return export_names::<P, T>(t, p, depth, start);
+        return export_names::<P, T, Objects>(t, p, depth, start);
     }
     if p.sees(TokenKind::Mul) {
-        return export_star::<P, T>(t, p, depth, start);
+        return export_star::<P, T, Objects>(t, p, depth, start);
     }
     if p.sees(TokenKind::Var) {
         return exported_variables::<P, T>(t, p, depth, start, VarDeclKind::Var);
@@ -279,7 +279,7 @@ pub(crate) fn export_rest<P: Cursor, T: BuildsStatements + BuildsExport + Builds
         return exported_variables::<P, T>(t, p, depth, start, VarDeclKind::Let);
     }
     if is_name_from(p) {
-        return name_from::<P, T>(t, p, depth, start);
+        return name_from::<P, T, Objects>(t, p, depth, start);
     }
     Err(p.refuse(Wanted::Token("{")))
 }

@@ -1,4 +1,4 @@
-//! Expressions in exports, one level further in.
+//! Expressions in exports and objects of attributes, one level further in.
 
 ghost use Rattle.swc_ecma_parser_grammar.specs.language.Contexts.{with_in};
 ghost use Rattle.swc_ecma_parser_grammar.specs.language.Goals.{assignment};
@@ -8,7 +8,8 @@ ghost use Rattle.swc_ecma_parser_reader.specs.State.{GivesAs, within};
 use swc_ecma_parser_cursor::Cursor;
 use swc_ecma_parser_error::PResult;
 use swc_ecma_parser_grammar::Class;
-use swc_ecma_parser_knot::knot::expression;
+use swc_ecma_parser_knot::knot::{expression, object_alone};
+use swc_ecma_parser_modules::parts::ObjectReader;
 use swc_ecma_parser_shared::steps;
 use swc_ecma_parser_trees::{BuildsStatements, MakerOf};
 
@@ -26,4 +27,13 @@ pub fn inner_expr<P: Cursor, T: BuildsStatements>(
     let inner = expression::<P, T>(t, p, depth, Class::Assignment)?;
     p.set_flags(outer);
     Ok(inner)
+}
+
+/// Objects of attributes, as expressions have them.
+pub(crate) struct Objects;
+
+impl<P: Cursor, T: BuildsStatements> ObjectReader<P, T> for Objects {
+    fn object_alone(t: &MakerOf<T>, p: &mut P, depth: usize) -> PResult<T::Expr> {
+        object_alone::<P, T>(t, p, depth)
+    }
 }

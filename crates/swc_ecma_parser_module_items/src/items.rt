@@ -8,6 +8,7 @@ ghost use Rattle.swc_ecma_parser_reader.specs.State as reader;
 ghost use Rattle.swc_ecma_parser_reader.specs.State.{GivesAs};
 
 use crate::decorated::{begins_decorators, export_item, export_with};
+use crate::inner::Objects;
 use swc_ecma_parser_cursor::Cursor;
 use swc_ecma_parser_error::PResult;
 use swc_ecma_parser_grammar::Position;
@@ -47,7 +48,7 @@ fn import_in<P: Cursor, T: BuildsStatements + BuildsExport>(
     if limit == 0 {
         return Err(p.too_deep());
     }
-    import_decl::<P, T>(t, p, limit - 1)
+    import_decl::<P, T, Objects>(t, p, limit - 1)
 }
 
 /// An export, in so many levels.
@@ -77,7 +78,7 @@ fn import_behind<P: Cursor, T: BuildsStatements + BuildsExport>(
         (P.seen p.new) }
 {
     misplaced::<P, T>(t.alloc, p, list)?;
-    import_decl::<P, T>(t, p, depth)
+    import_decl::<P, T, Objects>(t, p, depth)
 }
 
 /// An item behind decorators.

@@ -14,7 +14,7 @@ ghost use Rattle.swc_ecma_parser_reader.specs.Jumps as rules;
 ghost use Rattle.swc_ecma_parser_reader.specs.Reader as reader;
 ghost use Rattle.swc_ecma_parser_reader.specs.State.{Gives, GivesAs, loop};
 
-use crate::parts::{attributes, made_name, module_name, source};
+use crate::parts::{ObjectReader, attributes, made_name, module_name, source};
 use std::alloc::{AllocError, Global};
 use swc_ecma_parser_common::{Atom, Boxed, Span};
 use swc_ecma_parser_cursor::{Cursor, Wanted, is_reserved_word};
@@ -22,7 +22,7 @@ use swc_ecma_parser_error::{PResult, SyntaxError};
 use swc_ecma_parser_model::Ident;
 use swc_ecma_parser_shared::steps::{grown, pushed, since};
 use swc_ecma_parser_token::TokenKind;
-use swc_ecma_parser_trees::{BuildsExport, BuildsStatements, MakerOf};
+use swc_ecma_parser_trees::{BuildsExport, MakerOf};
 
 /// A name in braces, with the one that it is exported by where `as` stands.
 #[tactic(auto, unfolding(swc_ecma_parser_module_reader::specs::Exports::export_specifier, swc_ecma_parser_module_reader::specs::Exports::renamed_export, swc_ecma_parser_module_reader::specs::Exports::plain_export))]
@@ -106,7 +106,7 @@ fn export_namespace<P: Cursor, T: BuildsExport>(
 
 /// Names of another module, from the word `from` on.
 #[tactic(auto, unfolding(swc_ecma_parser_module_reader::specs::Exports::names_from))]
-fn names_from<P: Cursor, T: BuildsStatements + BuildsExport>(
+fn names_from<P: Cursor, T: BuildsExport, O: ObjectReader<P, T>>(
     t: &MakerOf<T>,
     p: &mut P,
     depth: usize,
@@ -118,7 +118,7 @@ fn names_from<P: Cursor, T: BuildsStatements + BuildsExport>(
         (map T.export_specifier_of specifiers.items) (P.seen p.old)) result (P.seen p.new) }
 {
     let src = source(p)?;
-    let given = attributes::<P, T>(t, p, depth)?;
+    let given = attributes::<P, T, O>(t, p, depth)?;
     p.end(Wanted::Token(";"))?;
     let span = since(p, start);
     grown(
@@ -199,7 +199,7 @@ fn own_names<P: Cursor, T: BuildsExport>(
 }
 
 /// Names of another module or of this one.
-fn named<P: Cursor, T: BuildsStatements + BuildsExport>(
+fn named<P: Cursor, T: BuildsExport, O: ObjectReader<P, T>>(
     t: &MakerOf<T>,
     p: &mut P,
     depth: usize,
@@ -211,14 +211,14 @@ fn named<P: Cursor, T: BuildsStatements + BuildsExport>(
         else exports.own_names start (map T.export_specifier_of specifiers.items) (P.seen p.old)) result (P.seen p.new) }
 {
     if p.word_at("from") {
-        return names_from::<P, T>(t, p, depth, start, specifiers);
+        return names_from::<P, T, O>(t, p, depth, start, specifiers);
     }
     own_names::<P, T>(t, p, start, specifiers)
 }
 
 /// An export of names in braces.
 #[tactic(auto, unfolding(swc_ecma_parser_module_reader::specs::Exports::export_names))]
-pub fn export_names<P: Cursor, T: BuildsStatements + BuildsExport>(
+pub fn export_names<P: Cursor, T: BuildsExport, O: ObjectReader<P, T>>(
     t: &MakerOf<T>,
     p: &mut P,
     depth: usize,
@@ -229,7 +229,7 @@ pub fn export_names<P: Cursor, T: BuildsStatements + BuildsExport>(
         (P.seen p.new) }
 {
     let found = specifiers::<P, T>(t, p)?;
-    named::<P, T>(t, p, depth, start, found)
+    named::<P, T, O>(t, p, depth, start, found)
 }
 
 /// Names behind those before them.
@@ -249,7 +249,7 @@ fn joined<T: BuildsExport>(
 
 /// Behind a default or a namespace of another module: with the setting names in braces, else the module.
 #[tactic(auto, unfolding(swc_ecma_parser_module_reader::specs::Exports::more_names, swc_ecma_parser_module_reader::specs::Exports::export_names))]
-fn more_names<P: Cursor, T: BuildsStatements + BuildsExport>(
+fn more_names<P: Cursor, T: BuildsExport, O: ObjectReader<P, T>>(
     t: &MakerOf<T>,
     p: &mut P,
     depth: usize,
@@ -264,14 +264,14 @@ fn more_names<P: Cursor, T: BuildsStatements + BuildsExport>(
         p.skip()?;
         let others = specifiers::<P, T>(t, p)?;
         let all = grown(p, joined::<T>(before, others))?;
-        return named::<P, T>(t, p, depth, start, all);
+        return named::<P, T, O>(t, p, depth, start, all);
     }
-    names_from::<P, T>(t, p, depth, start, before)
+    names_from::<P, T, O>(t, p, depth, start, before)
 }
 
 /// A namespace from the word `as` on, with what stands before its star; the words behind `export` begin at `first`.
 #[tactic(auto, unfolding(swc_ecma_parser_module_reader::specs::Exports::namespace_names), using(std::proofs::lemmas::List::map_push))]
-fn namespace_names<P: Cursor, T: BuildsStatements + BuildsExport>(
+fn namespace_names<P: Cursor, T: BuildsExport, O: ObjectReader<P, T>>(
     t: &MakerOf<T>,
     p: &mut P,
     depth: usize,
@@ -286,12 +286,12 @@ fn namespace_names<P: Cursor, T: BuildsStatements + BuildsExport>(
     let namespace = export_namespace::<P, T>(t, p, first)?;
     let mut all = before;
     pushed(p, &mut all, namespace)?;
-    more_names::<P, T>(t, p, depth, start, all)
+    more_names::<P, T, O>(t, p, depth, start, all)
 }
 
 /// An export of all names, from the word `from` on.
 #[tactic(auto, unfolding(swc_ecma_parser_module_reader::specs::Exports::export_all))]
-fn export_all<P: Cursor, T: BuildsStatements + BuildsExport>(
+fn export_all<P: Cursor, T: BuildsExport, O: ObjectReader<P, T>>(
     t: &MakerOf<T>,
     p: &mut P,
     depth: usize,
@@ -302,7 +302,7 @@ fn export_all<P: Cursor, T: BuildsStatements + BuildsExport>(
         (P.seen p.new) }
 {
     let src = source(p)?;
-    let given = attributes::<P, T>(t, p, depth)?;
+    let given = attributes::<P, T, O>(t, p, depth)?;
     p.end(Wanted::Token(";"))?;
     let span = since(p, start);
     grown(p, T::export_all(t.alloc, span, src, given))
@@ -310,7 +310,7 @@ fn export_all<P: Cursor, T: BuildsStatements + BuildsExport>(
 
 /// An export from `*` on.
 #[tactic(auto, unfolding(swc_ecma_parser_module_reader::specs::Exports::export_star))]
-pub fn export_star<P: Cursor, T: BuildsStatements + BuildsExport>(
+pub fn export_star<P: Cursor, T: BuildsExport, O: ObjectReader<P, T>>(
     t: &MakerOf<T>,
     p: &mut P,
     depth: usize,
@@ -323,9 +323,9 @@ pub fn export_star<P: Cursor, T: BuildsStatements + BuildsExport>(
     let star = p.span();
     p.skip()?;
     if !p.word_at("as") {
-        return export_all::<P, T>(t, p, depth, start);
+        return export_all::<P, T, O>(t, p, depth, start);
     }
-    namespace_names::<P, T>(t, p, depth, start, star, Vec::new(t.alloc))
+    namespace_names::<P, T, O>(t, p, depth, start, star, Vec::new(t.alloc))
 }
 
 /// Whether a comma and a namespace stand here.
@@ -338,7 +338,7 @@ fn is_namespace_next<P: Cursor>(p: &P) -> bool
 
 /// From behind the default of another module on, which begins at `first`.
 #[tactic(auto, unfolding(swc_ecma_parser_module_reader::specs::Exports::behind_default))]
-fn behind_default<P: Cursor, T: BuildsStatements + BuildsExport>(
+fn behind_default<P: Cursor, T: BuildsExport, O: ObjectReader<P, T>>(
     t: &MakerOf<T>,
     p: &mut P,
     depth: usize,
@@ -357,9 +357,9 @@ fn behind_default<P: Cursor, T: BuildsStatements + BuildsExport>(
     if is_namespace_next(p) {
         p.skip()?;
         p.skip()?;
-        return namespace_names::<P, T>(t, p, depth, start, first, all);
+        return namespace_names::<P, T, O>(t, p, depth, start, first, all);
     }
-    more_names::<P, T>(t, p, depth, start, all)
+    more_names::<P, T, O>(t, p, depth, start, all)
 }
 
 /// Whether the default of another module stands here under a name.
@@ -372,7 +372,7 @@ pub fn is_name_from<P: Cursor>(p: &P) -> bool
 
 /// An export of the default of another module, from its name on.
 #[tactic(auto, unfolding(swc_ecma_parser_module_reader::specs::Exports::name_from))]
-pub fn name_from<P: Cursor, T: BuildsStatements + BuildsExport>(
+pub fn name_from<P: Cursor, T: BuildsExport, O: ObjectReader<P, T>>(
     t: &MakerOf<T>,
     p: &mut P,
     depth: usize,
@@ -383,7 +383,7 @@ pub fn name_from<P: Cursor, T: BuildsStatements + BuildsExport>(
 {
     let first = p.span();
     let name = p.name(Wanted::Name)?;
-    behind_default::<P, T>(t, p, depth, start, first, name)
+    behind_default::<P, T, O>(t, p, depth, start, first, name)
 }
 
 /// Whether the default of another module is exported by default, where this stands behind the word.
@@ -399,7 +399,7 @@ pub fn is_default_from<P: Cursor>(p: &P) -> bool
 
 /// An export of the default of another module as the default, from behind the word on, which stands at `first`.
 #[tactic(auto, unfolding(swc_ecma_parser_module_reader::specs::Exports::default_from))]
-pub fn default_from<P: Cursor, T: BuildsStatements + BuildsExport>(
+pub fn default_from<P: Cursor, T: BuildsExport, O: ObjectReader<P, T>>(
     t: &MakerOf<T>,
     p: &mut P,
     depth: usize,
@@ -411,5 +411,5 @@ pub fn default_from<P: Cursor, T: BuildsStatements + BuildsExport>(
         (P.seen p.new) }
 {
     let sym = grown(p, Atom::new(t.alloc, "default"))?;
-    behind_default::<P, T>(t, p, depth, start, first, Ident { span: first, sym })
+    behind_default::<P, T, O>(t, p, depth, start, first, Ident { span: first, sym })
 }

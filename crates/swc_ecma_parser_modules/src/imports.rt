@@ -7,7 +7,7 @@ ghost use Rattle.swc_ecma_parser_modules.specs.Names.{name_of, str_of};
 ghost use Rattle.swc_ecma_parser_reader.specs.Reader as rules;
 ghost use Rattle.swc_ecma_parser_reader.specs.State.{Gives, GivesAs, loop, pure};
 
-use crate::parts::{Name, attributes, made_name, module_name, source, string};
+use crate::parts::{Name, ObjectReader, attributes, made_name, module_name, source, string};
 use std::alloc::AllocError;
 use swc_ecma_parser_common::{Boxed, Span};
 use swc_ecma_parser_cursor::{Cursor, Wanted, is_name};
@@ -16,7 +16,7 @@ use swc_ecma_parser_input::Context;
 use swc_ecma_parser_model::{Ident, ImportPhase, Str};
 use swc_ecma_parser_shared::steps::{grown, pushed, since};
 use swc_ecma_parser_token::TokenKind;
-use swc_ecma_parser_trees::{BuildsImport, BuildsStatements, MakerOf};
+use swc_ecma_parser_trees::{BuildsImport, MakerOf};
 
 /// A name in braces, with the one that it is exported by where `as` stands.
 #[tactic(auto, unfolding(swc_ecma_parser_module_reader::specs::Imports::import_specifier, swc_ecma_parser_module_reader::specs::Imports::other_name))]
@@ -224,7 +224,7 @@ fn import_clause<P: Cursor, T: BuildsImport>(
 
 /// An import, from behind the string on.
 #[tactic(auto, unfolding(swc_ecma_parser_module_reader::specs::Imports::imported))]
-fn imported<P: Cursor, T: BuildsStatements + BuildsImport>(
+fn imported<P: Cursor, T: BuildsImport, O: ObjectReader<P, T>>(
     t: &MakerOf<T>,
     p: &mut P,
     depth: usize,
@@ -238,7 +238,7 @@ fn imported<P: Cursor, T: BuildsStatements + BuildsImport>(
         (map T.import_specifier_of specifiers.items) (pure (str_of src)) (P.seen p.old)) result
         (P.seen p.new) }
 {
-    let given = attributes::<P, T>(t, p, depth)?;
+    let given = attributes::<P, T, O>(t, p, depth)?;
     p.end(Wanted::Token(";"))?;
     let span = since(p, start);
     grown(p, T::import(t.alloc, span, specifiers, src, given, phase))
@@ -246,7 +246,7 @@ fn imported<P: Cursor, T: BuildsStatements + BuildsImport>(
 
 /// An import, from what is imported on.
 #[tactic(auto, unfolding(swc_ecma_parser_module_reader::specs::Imports::import_from, swc_ecma_parser_module_reader::specs::Imports::imported))]
-fn import_from<P: Cursor, T: BuildsStatements + BuildsImport>(
+fn import_from<P: Cursor, T: BuildsImport, O: ObjectReader<P, T>>(
     t: &MakerOf<T>,
     p: &mut P,
     depth: usize,
@@ -259,7 +259,7 @@ fn import_from<P: Cursor, T: BuildsStatements + BuildsImport>(
 {
     let specifiers = import_clause::<P, T>(t, p)?;
     let src = source(p)?;
-    imported::<P, T>(t, p, depth, start, phase, specifiers, src)
+    imported::<P, T, O>(t, p, depth, start, phase, specifiers, src)
 }
 
 /// Whether what stands here makes a phase of the word before it.
@@ -286,7 +286,7 @@ fn phase_of(text: &str) -> ImportPhase
 
 /// An import, from the word `source` or `defer` on: a phase, or a name for the default.
 #[tactic(auto, unfolding(swc_ecma_parser_module_reader::specs::Imports::import_phased, swc_ecma_parser_module_reader::specs::Imports::imported))]
-fn import_phased<P: Cursor, T: BuildsStatements + BuildsImport>(
+fn import_phased<P: Cursor, T: BuildsImport, O: ObjectReader<P, T>>(
     t: &MakerOf<T>,
     p: &mut P,
     depth: usize,
@@ -298,11 +298,11 @@ fn import_phased<P: Cursor, T: BuildsStatements + BuildsImport>(
 {
     let word = p.any_word()?;
     if follows_phase(p) {
-        return import_from::<P, T>(t, p, depth, start, phase_of(word.sym.as_str()));
+        return import_from::<P, T, O>(t, p, depth, start, phase_of(word.sym.as_str()));
     }
     let specifiers = default_binding::<P, T>(t, p, word)?;
     let src = source(p)?;
-    imported::<P, T>(t, p, depth, start, ImportPhase::Evaluation, specifiers, src)
+    imported::<P, T, O>(t, p, depth, start, ImportPhase::Evaluation, specifiers, src)
 }
 
 /// Whether one of these two words stands here.
@@ -331,7 +331,7 @@ fn begins_clause<P: Cursor>(p: &mut P) -> bool
 
 /// An import in no phase, from behind its word on. Where nothing that is imported begins, `from` is wanted.
 #[tactic(auto, unfolding(swc_ecma_parser_module_reader::specs::Imports::import_unphased))]
-fn import_unphased<P: Cursor, T: BuildsStatements + BuildsImport>(
+fn import_unphased<P: Cursor, T: BuildsImport, O: ObjectReader<P, T>>(
     t: &MakerOf<T>,
     p: &mut P,
     depth: usize,
@@ -344,12 +344,12 @@ fn import_unphased<P: Cursor, T: BuildsStatements + BuildsImport>(
     if !begins_clause(p) {
         return Err(p.refuse(Wanted::Token("from")));
     }
-    import_from::<P, T>(t, p, depth, start, ImportPhase::Evaluation)
+    import_from::<P, T, O>(t, p, depth, start, ImportPhase::Evaluation)
 }
 
 /// An import, whose attributes may take so many levels.
 #[tactic(auto, unfolding(swc_ecma_parser_module_reader::specs::Imports::import_decl, swc_ecma_parser_module_reader::specs::Imports::imported))]
-pub fn import_decl<P: Cursor, T: BuildsStatements + BuildsImport>(
+pub fn import_decl<P: Cursor, T: BuildsImport, O: ObjectReader<P, T>>(
     t: &MakerOf<T>,
     p: &mut P,
     depth: usize,
@@ -362,10 +362,10 @@ pub fn import_decl<P: Cursor, T: BuildsStatements + BuildsImport>(
     if p.sees(TokenKind::Str) {
         let src = string(p)?;
         let specifiers = Vec::new(t.alloc);
-        return imported::<P, T>(t, p, depth, start, ImportPhase::Evaluation, specifiers, src);
+        return imported::<P, T, O>(t, p, depth, start, ImportPhase::Evaluation, specifiers, src);
     }
     if is_phase_word(p) {
-        return import_phased::<P, T>(t, p, depth, start);
+        return import_phased::<P, T, O>(t, p, depth, start);
     }
-    import_unphased::<P, T>(t, p, depth, start)
+    import_unphased::<P, T, O>(t, p, depth, start)
 }

@@ -11,11 +11,18 @@ ghost use Rattle.swc_ecma_parser_trees.specs.Parts.{part_of};
 use std::alloc::{AllocError, Global};
 use swc_ecma_parser_cursor::{Cursor, Literal, Wanted};
 use swc_ecma_parser_error::PResult;
-use swc_ecma_parser_knot::knot::object_alone;
 use swc_ecma_parser_model::{Ident, Str};
 use swc_ecma_parser_shared::keys::word_property;
 use swc_ecma_parser_token::TokenKind;
-use swc_ecma_parser_trees::{BuildsImport, BuildsItem, BuildsStatements, MakerOf};
+use swc_ecma_parser_trees::{BuildsImport, BuildsItem, MakerOf, Trees};
+
+/// What reads the object of attributes. It holds expressions, and so all that is read of these: its caller says how.
+pub trait ObjectReader<P: Cursor, T: Trees> {
+    /// An object alone, whatever stands behind it, which may take so many levels.
+    fn object_alone(t: &MakerOf<T>, p: &mut P, depth: usize) -> PResult<T::Expr>
+        ensures { GivesAs T.expr_of (rules.object_alone depth (P.seen p.old)) result
+            (P.seen p.new) };
+}
 
 /// The name by which a module exports something: ModuleExportName.
 #[derive(Drop)]
@@ -94,7 +101,7 @@ fn present<A>(found: Option<A>) -> A
 
 /// The attributes of another module, whose object may take so many levels, or none.
 #[tactic(auto, unfolding(swc_ecma_parser_module_reader::specs::Imports::attributes))]
-pub fn attributes<P: Cursor, T: BuildsStatements + BuildsImport>(
+pub fn attributes<P: Cursor, T: BuildsImport, O: ObjectReader<P, T>>(
     t: &MakerOf<T>,
     p: &mut P,
     depth: usize,
@@ -106,6 +113,6 @@ pub fn attributes<P: Cursor, T: BuildsStatements + BuildsImport>(
         return Ok(None);
     }
     p.skip()?;
-    let object = object_alone::<P, T>(t, p, depth)?;
+    let object = O::object_alone(t, p, depth)?;
     Ok(Some(present(T::attributes(object))))
 }
