@@ -9,7 +9,7 @@ pub set_flags-requires-2 : goal.set_flags-requires-2
 set_flags-requires-2 g c =
     let s = g.P.Cursor.seen c.args.p.now in
     let u = g.P.Cursor.seen c.push_label.new.self in
-    let t = g.P.Cursor.seen c.stmt.new.arg3 in
+    let t = g.P.Cursor.seen c.stmt.new.p in
     let x = g.T.Trees.stmt_of c.in_ok-body.body in
     let item : Bool → Position = λ b. record { include_decl = b; top_level = false } in
     let b = reached c.args.label c.flags-outer.result c.in_breakable.result s (g.P.Cursor.seen c.set_flags.new.self) u c.flags-outer.ensures c.in_breakable.ensures c.set_flags.ensures (stepped _ u c.in_ok-push_label.ensures) in
@@ -21,7 +21,7 @@ pub returns : goal.returns
 returns g c =
     let s = g.P.Cursor.seen c.args.p.now in
     let u = g.P.Cursor.seen c.push_label.new.self in
-    let t = g.P.Cursor.seen c.stmt.new.arg3 in
+    let t = g.P.Cursor.seen c.stmt.new.p in
     let v = g.P.Cursor.seen c.pop_label.new.self in
     let x = g.T.Trees.stmt_of c.in_ok-body.body in
     let item : Bool → Position = λ b. record { include_decl = b; top_level = false } in
