@@ -574,7 +574,6 @@ pub fn inner_declaration_end<P: Cursor, T: BuildsStatements>(
 }
 
 /// A function from behind its name, in so many levels.
-#[cycle(knot)]
 #[tactic(auto, using(crate::proofs::Declared::function_undecorated))]
 pub fn inner_function<P: Cursor, T: BuildsStatements>(
     t: &MakerOf<T>,

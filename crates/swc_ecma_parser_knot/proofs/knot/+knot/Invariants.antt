@@ -65,9 +65,6 @@ decreases-inner_function_with g l = 8 * l.depth + 5
 abbrev pub decreases-leading : goal.decreases-leading
 decreases-leading g l = 8 * l.depth + 5
 
-abbrev pub decreases-inner_function : goal.decreases-inner_function
-decreases-inner_function g l = 8 * l.depth + 6
-
 abbrev pub decreases-declared_function_with : goal.decreases-declared_function_with
 decreases-declared_function_with g l = 8 * l.depth + 6
 
