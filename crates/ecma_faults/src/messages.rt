@@ -1,0 +1,44 @@
+//! What is said of a fault.
+
+ghost use Rattle.std.specs.Prelude.{◌≡◌, ◌++◌, IfOk, string_bytes};
+ghost use Rattle.ecma_faults.specs.Message.{message_of};
+
+use crate::sentences::sentence;
+use std::alloc::{AllocError, Global};
+use swc_ecma_parser_error::SyntaxError;
+
+/// A text of three parts.
+fn joined(alloc: Global, first: &str, second: &str, third: &str) -> Result<String, AllocError>
+    ensures { IfOk result (λ text. string_bytes text ≡ first.now ++ (second.now ++ third.now)) }
+{
+    let mut text = String::new(alloc);
+    text.push_str(first)?;
+    text.push_str(second)?;
+    text.push_str(third)?;
+    Ok(text)
+}
+
+/// The sentence of a fault's kind, and what is wanted where the fault holds that. It fails only where memory runs out.
+#[tactic(auto, using(crate::proofs::Said::message_other))]
+pub fn message(alloc: Global, kind: &SyntaxError) -> Result<String, AllocError>
+    ensures { IfOk result (λ text. string_bytes text ≡ message_of kind.now) }
+{
+    match kind {
+        SyntaxError::Expected(texts) => joined(
+            alloc,
+            "`",
+            texts.get().wanted.as_str(),
+            "` is wanted here (ECMA-262, Annex A)",
+        ),
+        SyntaxError::Unexpected(texts) => joined(
+            alloc,
+            "no rule reads this token here; what may stand here is ",
+            texts.get().wanted.as_str(),
+            " (ECMA-262, Annex A)",
+        ),
+        _ => {
+            let text = String::from_str(alloc, sentence(kind))?;
+            Ok(text)
+        }
+    }
+}
