@@ -1,6 +1,7 @@
 //! One file: what it comes to.
 
-ghost use Rattle.std.specs.Prelude.{◌<◌, ◌^◌, length};
+ghost use Rattle.std.specs.Prelude.{◌≡◌, ◌<◌, ◌+◌, ◌++◌, ◌∷◌, ◌^◌, [], codes, false, length, IfOk, OnOk};
+ghost use Rattle.ecma_check.specs.Told.{fault_in, faults_in, lined, refused_in};
 
 use crate::command::{Format, Options};
 use crate::fault::Fault;
@@ -9,7 +10,7 @@ use ecma_estree_text::{Extras, Places};
 use ecma_faults::{note_of, push_json, push_text};
 use std::alloc::{AllocError, Global};
 use swc_ecma_parser::Parser;
-use swc_ecma_parser::error::Error;
+use swc_ecma_parser::error::{Error, SyntaxError};
 
 /// How a file comes out.
 #[derive(Clone, Copy, Debug, PartialEq, Eq)]
@@ -44,6 +45,8 @@ fn push_fault(
     error: &Error,
 ) -> Result<(), AllocError>
     requires { length places.now.text < 2 ^ 32 }
+    ensures { OnOk result (out.new.items
+        ≡ out.old.items ++ fault_in format places.now file.now word.now error.now) }
 {
     let note = note_of(&error.kind);
     match format {
@@ -52,33 +55,130 @@ fn push_fault(
     }
 }
 
-/// What is told of faults, and of why there is no tree.
+/// Writes faults that stand beside a tree or a refusal.
+fn push_faults(
+    out: &mut Vec<u8>,
+    format: Format,
+    file: &str,
+    places: &Places<'_>,
+    faults: &[Error],
+) -> Result<(), AllocError>
+    requires { length places.now.text < 2 ^ 32 }
+    ensures { OnOk result (out.new.items
+        ≡ out.old.items ++ faults_in format places.now file.now faults.now) }
+{
+    for fault in faults {
+        push_fault(out, format, file, places, "fault", fault)?;
+    }
+    Ok(())
+}
+
+/// A text with its lines.
+fn lined_text(alloc: Global, text: &str) -> Result<Places<'_>, AllocError>
+    requires { length text.now < 2 ^ 32 }
+    ensures { IfOk result (λ places. places ≡ lined text.now) }
+{
+    let extras = Extras {
+        locations: true,
+        ranges: false,
+    };
+    Places::new(alloc, text, extras)
+}
+
+/// What is told of faults.
 fn told(
     alloc: Global,
     format: Format,
     file: &str,
     text: &str,
     faults: &[Error],
-    refusal: Option<&Error>,
 ) -> Result<Vec<u8>, AllocError>
     requires { length text.now < 2 ^ 32 }
+    ensures { IfOk result (λ out. out.items ≡ faults_in format (lined text.now) file.now faults.now) }
 {
     let mut out = Vec::new(alloc);
-    if faults.is_empty() && refusal.is_none() {
+    if faults.is_empty() {
         return Ok(out);
     }
-    let extras = Extras {
-        locations: true,
-        ranges: false,
-    };
-    let places = Places::new(alloc, text, extras)?;
-    for fault in faults {
-        push_fault(&mut out, format, file, &places, "fault", fault)?;
-    }
-    if let Some(error) = refusal {
-        push_fault(&mut out, format, file, &places, "refused", error)?;
-    }
+    let places = lined_text(alloc, text)?;
+    push_faults(&mut out, format, file, &places, faults)?;
     Ok(out)
+}
+
+/// What is told of faults, and of why there is no tree.
+fn told_refusal(
+    alloc: Global,
+    format: Format,
+    file: &str,
+    text: &str,
+    faults: &[Error],
+    error: &Error,
+) -> Result<Vec<u8>, AllocError>
+    requires { length text.now < 2 ^ 32 }
+    ensures { IfOk result
+        (λ out. out.items ≡ refused_in format (lined text.now) file.now faults.now error.now) }
+{
+    let mut out = Vec::new(alloc);
+    let places = lined_text(alloc, text)?;
+    push_faults(&mut out, format, file, &places, faults)?;
+    push_fault(&mut out, format, file, &places, "refused", error)?;
+    Ok(out)
+}
+
+/// What is printed of a file, and what is told beside it.
+#[derive(Drop)]
+struct Printed {
+    out: Vec<u8>,
+    notes: Vec<u8>,
+}
+
+/// What is printed of a file with a tree.
+fn of_tree(
+    alloc: Global,
+    options: Options,
+    file: &str,
+    text: &str,
+    tree: &Tree,
+    faults: &[Error],
+) -> Result<Printed, AllocError>
+    requires { length text.now < 2 ^ 32 }
+{
+    let told = told(alloc, options.format, file, text, faults)?;
+    match options.format {
+        Format::Text | Format::Json => Ok(Printed {
+            out: told,
+            notes: Vec::new(alloc),
+        }),
+        Format::Estree => {
+            let mut out = write(alloc, options, text, tree)?;
+            out.push(b'\n')?;
+            Ok(Printed { out, notes: told })
+        }
+    }
+}
+
+/// What is printed of a file without a tree.
+fn of_refusal(
+    alloc: Global,
+    format: Format,
+    file: &str,
+    text: &str,
+    error: &Error,
+    faults: &[Error],
+) -> Result<Printed, AllocError>
+    requires { length text.now < 2 ^ 32 }
+{
+    let told = told_refusal(alloc, format, file, text, faults, error)?;
+    match format {
+        Format::Text | Format::Json => Ok(Printed {
+            out: told,
+            notes: Vec::new(alloc),
+        }),
+        Format::Estree => Ok(Printed {
+            out: Vec::new(alloc),
+            notes: told,
+        }),
+    }
 }
 
 /// What a file with a tree comes to.
@@ -92,25 +192,14 @@ fn with_tree(
 ) -> Result<Checked, AllocError>
     requires { length text.now < 2 ^ 32 }
 {
+    let printed = of_tree(alloc, options, file, text, &tree, faults);
+    tree.discard();
+    let Printed { out, notes } = printed?;
     let outcome = if faults.is_empty() {
         Outcome::Clean
     } else {
         Outcome::Faulty
     };
-    let notes = told(alloc, options.format, file, text, faults, None)?;
-    if options.format != Format::Estree {
-        tree.discard();
-        return Ok(Checked {
-            outcome,
-            faults: faults.len(),
-            out: notes,
-            notes: Vec::new(alloc),
-        });
-    }
-    let written = write(alloc, options, text, &tree);
-    tree.discard();
-    let mut out = written?;
-    out.push(b'\n')?;
     Ok(Checked {
         outcome,
         faults: faults.len(),
@@ -122,20 +211,18 @@ fn with_tree(
 /// What a file without a tree comes to.
 fn without_tree(
     alloc: Global,
-    options: Options,
+    format: Format,
     file: &str,
     text: &str,
     error: &Error,
     faults: &[Error],
-) -> Result<Checked, AllocError>
+) -> Result<Checked, Fault>
     requires { length text.now < 2 ^ 32 }
 {
-    let told = told(alloc, options.format, file, text, faults, Some(error))?;
-    let (out, notes) = if options.format == Format::Estree {
-        (Vec::new(alloc), told)
-    } else {
-        (told, Vec::new(alloc))
-    };
+    if let SyntaxError::OutOfMemory = error.kind {
+        return Err(Fault::OutOfMemory);
+    }
+    let Printed { out, notes } = of_refusal(alloc, format, file, text, error, faults)?;
     Ok(Checked {
         outcome: Outcome::Refused,
         faults: faults.len().saturating_add(1),
@@ -155,7 +242,14 @@ pub fn check(alloc: Global, options: Options, file: &str, text: &str) -> Result<
     let faults = parser.take_errors();
     let checked = match tree {
         Ok(tree) => with_tree(alloc, options, file, text, tree, faults.as_slice())?,
-        Err(error) => without_tree(alloc, options, file, text, &error, faults.as_slice())?,
+        Err(error) => without_tree(
+            alloc,
+            options.format,
+            file,
+            text,
+            &error,
+            faults.as_slice(),
+        )?,
     };
     Ok(checked)
 }

@@ -97,16 +97,37 @@ fn files(alloc: Global) -> Arg<'static> {
         .help("the files; standard input, where none or - is given")
 }
 
+/// A word that says what files are read as, with those that say otherwise.
+fn goal(
+    alloc: Global,
+    name: &'static str,
+    others: &[&'static str],
+    help: &'static str,
+) -> Result<Arg<'static>, AllocError> {
+    flag(alloc, name, help).conflicts_with_all(others)
+}
+
 /// The words that say what files are read as.
 fn with_goals(alloc: Global, command: Command<'static>) -> Result<Command<'static>, AllocError> {
-    command
-        .arg(flag(alloc, "script", "reads each file as a script"))?
-        .arg(flag(alloc, "module", "reads each file as a module"))?
-        .arg(flag(
-            alloc,
-            "program",
-            "reads each file as a module where it holds an import or export, the default",
-        ))
+    let script = goal(
+        alloc,
+        "script",
+        &["module", "program"],
+        "reads each file as a script",
+    )?;
+    let module = goal(
+        alloc,
+        "module",
+        &["script", "program"],
+        "reads each file as a module",
+    )?;
+    let program = goal(
+        alloc,
+        "program",
+        &["script", "module"],
+        "reads each file as a module where it holds an import or export, the default",
+    )?;
+    command.arg(script)?.arg(module)?.arg(program)
 }
 
 /// The words that say what a tree has besides its nodes.

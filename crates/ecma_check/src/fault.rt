@@ -6,6 +6,15 @@ use thiserror::Error;
 /// Why a file or a run comes to no answer. Each is one line on standard error.
 #[derive(Clone, Copy, Debug, PartialEq, Eq, Error)]
 pub enum Fault {
+    /// There is no such file.
+    #[error("there is no such file")]
+    NotFound,
+    /// A directory was given in the place of a file.
+    #[error("it is a directory")]
+    IsADirectory,
+    /// A file may not be read.
+    #[error("permission denied")]
+    PermissionDenied,
     /// A file cannot be read.
     #[error("cannot read it")]
     CannotRead,

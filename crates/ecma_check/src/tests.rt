@@ -81,11 +81,11 @@ fn faults_as_text(rt: HostRuntime) -> Result<(), Fail> {
         ("a", "files: 1, faults: 0, refused: 0, unread: 0\n||0"),
         (
             "\tbreak;",
-            "-:1:2: fault [TS1105]: `break` stands in a loop or in `switch`, or names a label around it (ECMA-262, 14.9.1)\n\tbreak;\n\t^^^^^^\nfiles: 1, faults: 1, refused: 0, unread: 0\n||1",
+            "-:1:2: fault [TS1105]: `break` stands outside of loops and of `switch`; move it into one, or name a label around it (ECMA-262, 14.9.1)\n\tbreak;\n\t^^^^^^\nfiles: 1, faults: 1, refused: 0, unread: 0\n||1",
         ),
         (
             "a\r\n'\u{1d4b3}\u{4e00}'; throw\n;/*\u{7}*/",
-            "-:3:1: refused [LineBreakInThrow]: what is thrown stands on the line of `throw` (ECMA-262, 14.14)\n;/*\u{fffd}*/\n^\nfiles: 1, faults: 1, refused: 1, unread: 0\n||2",
+            "-:3:1: refused [LineBreakInThrow]: the line ends behind `throw`; write what is thrown on the same line (ECMA-262, 14.14)\n;/*\u{fffd}*/\n^\nfiles: 1, faults: 1, refused: 1, unread: 0\n||2",
         ),
     ];
     for (text, wanted) in rows {
@@ -100,7 +100,7 @@ fn an_earlier_place(rt: HostRuntime) -> Result<(), Fail> {
     let found = printed(&rt, &[], b"\ta b", false, 1000)?;
     assert_eq!(rt;
         found.as_str(),
-        "-:1:4: refused [ExpectedSemiForExprStmt]: the expression before this ends its statement; a `;` or a line break is wanted (ECMA-262, 12.10)\n\ta b\n\t  ^\n-:1:2: note: the expression stands here\n\ta b\n\t^\nfiles: 1, faults: 1, refused: 1, unread: 0\n||2"
+        "-:1:4: refused [ExpectedSemiForExprStmt]: the statement before this has not ended; write a `;` or a line break between them (ECMA-262, 12.10)\n\ta b\n\t  ^\n-:1:2: note: the expression stands here\n\ta b\n\t^\nfiles: 1, faults: 1, refused: 1, unread: 0\n||2"
     );
     Ok(())
 }
@@ -116,7 +116,7 @@ fn faults_as_json(rt: HostRuntime) -> Result<(), Fail> {
     )?;
     assert_eq!(rt;
         found.as_str(),
-        "{\"file\":\"-\",\"severity\":\"fault\",\"kind\":\"ReturnNotAllowed\",\"message\":\"`return` stands only in the body of a function (ECMA-262, 14.10)\",\"byteStart\":8,\"byteEnd\":14,\"start\":6,\"end\":12,\"line\":1,\"column\":7,\"endLine\":1,\"endColumn\":13}\n||1"
+        "{\"file\":\"-\",\"severity\":\"fault\",\"kind\":\"ReturnNotAllowed\",\"message\":\"`return` stands outside of functions; move it into the body of one (ECMA-262, 14.10)\",\"byteStart\":8,\"byteEnd\":14,\"start\":6,\"end\":12,\"line\":1,\"column\":7,\"endLine\":1,\"endColumn\":13}\n||1"
     );
     Ok(())
 }
@@ -150,11 +150,11 @@ fn what_fails(rt: HostRuntime) -> Result<(), Fail> {
         "files: 1, faults: 0, refused: 0, unread: 1\n|-: it is not UTF-8\n|3"
     );
     let found = printed(&rt, &["--format", "json"], b"break", false, 4)?;
-    assert_eq!(rt; found.as_str(), "{\"fi|-: cannot write standard output\n|3");
+    assert_eq!(rt; found.as_str(), "{\"fi|ecma-check: cannot write standard output\n|3");
     let found = printed(&rt, &["nosuch\u{1b}file"], b"", false, 1000)?;
     assert_eq!(rt;
         found.as_str(),
-        "files: 1, faults: 0, refused: 0, unread: 1\n|nosuch\u{fffd}file: cannot read it\n|3"
+        "files: 1, faults: 0, refused: 0, unread: 1\n|nosuch\u{fffd}file: there is no such file\n|3"
     );
     let found = printed(&rt, &["--format", "estree", "a", "b"], b"", false, 1000)?;
     assert_eq!(rt;
@@ -169,15 +169,19 @@ fn a_line_that_is_cut(rt: HostRuntime) -> Result<(), Fail> {
     let rows = [
         (
             "                                                            break;                                                            ",
-            "-:1:61: fault [TS1105]: `break` stands in a loop or in `switch`, or names a label around it (ECMA-262, 14.9.1)\n...                                        break;                            ...\n                                           ^^^^^^\nfiles: 1, faults: 1, refused: 0, unread: 0\n||1",
+            "-:1:61: fault [TS1105]: `break` stands outside of loops and of `switch`; move it into one, or name a label around it (ECMA-262, 14.9.1)\n...                                      break;                              ...\n                                         ^^^^^^\nfiles: 1, faults: 1, refused: 0, unread: 0\n||1",
+        ),
+        (
+            "'\u{4e00}\u{4e00}\u{4e00}\u{4e00}\u{4e00}\u{4e00}\u{4e00}\u{4e00}\u{4e00}\u{4e00}\u{4e00}\u{4e00}\u{4e00}\u{4e00}\u{4e00}\u{4e00}\u{4e00}\u{4e00}\u{4e00}\u{4e00}\u{4e00}\u{4e00}\u{4e00}\u{4e00}\u{4e00}\u{4e00}\u{4e00}\u{4e00}\u{4e00}\u{4e00}\u{4e00}\u{4e00}\u{4e00}\u{4e00}\u{4e00}\u{4e00}\u{4e00}\u{4e00}\u{4e00}';break;'\u{4e00}\u{4e00}\u{4e00}\u{4e00}\u{4e00}\u{4e00}\u{4e00}\u{4e00}\u{4e00}\u{4e00}\u{4e00}\u{4e00}\u{4e00}\u{4e00}\u{4e00}\u{4e00}\u{4e00}\u{4e00}\u{4e00}\u{4e00}\u{4e00}\u{4e00}\u{4e00}\u{4e00}\u{4e00}\u{4e00}\u{4e00}\u{4e00}\u{4e00}\u{4e00}\u{4e00}\u{4e00}\u{4e00}\u{4e00}\u{4e00}\u{4e00}\u{4e00}\u{4e00}\u{4e00}\u{4e00}'",
+            "-:1:43: fault [TS1105]: `break` stands outside of loops and of `switch`; move it into one, or name a label around it (ECMA-262, 14.9.1)\n...\u{4e00}\u{4e00}\u{4e00}\u{4e00}\u{4e00}\u{4e00}\u{4e00}\u{4e00}\u{4e00}\u{4e00}\u{4e00}\u{4e00}\u{4e00}\u{4e00}\u{4e00}\u{4e00}\u{4e00}\u{4e00}';break;'\u{4e00}\u{4e00}\u{4e00}\u{4e00}\u{4e00}\u{4e00}\u{4e00}\u{4e00}\u{4e00}\u{4e00}\u{4e00}\u{4e00}\u{4e00}\u{4e00}...\n                                         ^^^^^^\nfiles: 1, faults: 1, refused: 0, unread: 0\n||1",
         ),
         (
             "a\u{2028}break;",
-            "-:2:1: fault [TS1105]: `break` stands in a loop or in `switch`, or names a label around it (ECMA-262, 14.9.1)\nbreak;\n^^^^^^\nfiles: 1, faults: 1, refused: 0, unread: 0\n||1",
+            "-:2:1: fault [TS1105]: `break` stands outside of loops and of `switch`; move it into one, or name a label around it (ECMA-262, 14.9.1)\nbreak;\n^^^^^^\nfiles: 1, faults: 1, refused: 0, unread: 0\n||1",
         ),
         (
             "'\u{4e00}'; break;",
-            "-:1:6: fault [TS1105]: `break` stands in a loop or in `switch`, or names a label around it (ECMA-262, 14.9.1)\n'\u{4e00}'; break;\n      ^^^^^^\nfiles: 1, faults: 1, refused: 0, unread: 0\n||1",
+            "-:1:6: fault [TS1105]: `break` stands outside of loops and of `switch`; move it into one, or name a label around it (ECMA-262, 14.9.1)\n'\u{4e00}'; break;\n      ^^^^^^\nfiles: 1, faults: 1, refused: 0, unread: 0\n||1",
         ),
     ];
     for (text, wanted) in rows {
@@ -192,7 +196,22 @@ fn the_other_files_go_on(rt: HostRuntime) -> Result<(), Fail> {
     let found = printed(&rt, &["nosuch", "-"], b"break", false, 1000)?;
     assert_eq!(rt;
         found.as_str(),
-        "-:1:1: fault [TS1105]: `break` stands in a loop or in `switch`, or names a label around it (ECMA-262, 14.9.1)\nbreak\n^^^^^\nfiles: 2, faults: 1, refused: 0, unread: 1\n|nosuch: cannot read it\n|3"
+        "-:1:1: fault [TS1105]: `break` stands outside of loops and of `switch`; move it into one, or name a label around it (ECMA-262, 14.9.1)\nbreak\n^^^^^\nfiles: 2, faults: 1, refused: 0, unread: 1\n|nosuch: there is no such file\n|3"
+    );
+    Ok(())
+}
+
+#[test]
+fn what_is_wrong_in_a_condition(rt: HostRuntime) -> Result<(), Fail> {
+    let found = printed(&rt, &["--script"], b"if ()", false, 1000)?;
+    assert_eq!(rt;
+        found.as_str(),
+        "-:1:5: refused [WithLabel]: no rule reads this; an expression is wanted in its place (ECMA-262, Annex A)\nif ()\n    ^\n-:1:1: note: it stands in the condition of this `if`\nif ()\n^^\nfiles: 1, faults: 1, refused: 1, unread: 0\n||2"
+    );
+    let found = printed(&rt, &["--script", "--format", "json"], b"{a", false, 1000)?;
+    assert_eq!(rt;
+        found.as_str(),
+        "{\"file\":\"-\",\"severity\":\"fault\",\"kind\":\"Expected\",\"message\":\"`}` is wanted behind this, where the text ends (ECMA-262, Annex A)\",\"byteStart\":1,\"byteEnd\":2,\"start\":1,\"end\":2,\"line\":1,\"column\":2,\"endLine\":1,\"endColumn\":3}\n||1"
     );
     Ok(())
 }
@@ -207,5 +226,7 @@ fn what_is_enabled(rt: HostRuntime) -> Result<(), Fail> {
         1000,
     )?;
     assert_eq!(rt; found.as_str(), "||0");
+    let found = printed(&rt, &["--script", "--module"], b"", false, 1000)?;
+    assert_eq!(rt; found.as_str(), "||3");
     Ok(())
 }

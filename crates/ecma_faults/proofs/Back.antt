@@ -1,19 +1,19 @@
 -- The part of a line that is shown.
-use Rattle.std.proofs.Common.{◌≡◌, ℕ, zero, suc, ◌-◌, ◌≤◌, ◌<◌, arith}
+use Rattle.std.proofs.Common.{◌≡◌, ℕ, zero, suc, ◌-◌, ◌<◌, true, false, cond, refl, ap, arith}
 use Rattle.std.proofs.lemmas.Bool.Decides.{nat_tests}
 use Rattle.ecma_estree_text.specs.Places.{Placed}
-use Rattle.ecma_faults.specs.Excerpt.{back, column_of}
+use Rattle.ecma_faults.specs.Excerpt.{back, is_far}
 
-pub back_here : (p : Placed) (most n : ℕ) → column_of p n ≤ most → back p most n ≡ n
+pub back_here : (p : Placed) (low n : ℕ) → is_far p low n ≡ true → back p low n ≡ n
 unfolding back
-back_here p most zero h = omega arith
-back_here p most (suc n) h = grind (arith, nat_tests)
+back_here p low zero h = refl
+back_here p low (suc n) h = ap (λ b. cond b (suc n) (back p low n)) h
 
-pub back_start : (p : Placed) (most : ℕ) → back p most 0 ≡ 0
+pub back_start : (p : Placed) (low : ℕ) → back p low 0 ≡ 0
 unfolding back
-back_start p most = omega arith
+back_start p low = refl
 
-pub back_more : (p : Placed) (most n : ℕ) → 0 < n → most < column_of p n → back p most n ≡ back p most (n - 1)
+pub back_more : (p : Placed) (low n : ℕ) → 0 < n → is_far p low n ≡ false → back p low n ≡ back p low (n - 1)
 unfolding back
-back_more p most zero h k = omega arith
-back_more p most (suc n) h k = grind (arith, nat_tests)
+back_more p low zero h k = omega arith
+back_more p low (suc n) h k = ap (λ b. cond b (suc n) (back p low n)) k

@@ -3,7 +3,7 @@ use Rattle.std.proofs.Common.{◌≡◌, ℕ, List, [], ◌∷◌, ◌++◌, ◌
 use Rattle.std.proofs.lemmas.Grind.{common_steps}
 use Rattle.std.proofs.lemmas.Bool.Decides.{nat_tests}
 use Rattle.std.proofs.lemmas.List.{at_drop_more, at_drop_all}
-use Rattle.ecma_faults.specs.Excerpt.{line_rest, rest_columns, is_line_end, cost}
+use Rattle.ecma_faults.specs.Excerpt.{line_rest, rest_columns, is_line_end, cost, room_left}
 use Rattle.ecma_faults.specs.Shown.{columns, shown_bytes}
 
 -- the characters from one on
@@ -101,3 +101,12 @@ summed_goes sum whole room cs n c width taken m w h e f g k i =
 
 pub summed_all : (sum whole room : ℕ) (cs : List ℕ) (n : ℕ) → sum + rest_columns room (drop n cs) ≡ whole → length cs ≤ n → sum ≡ whole
 summed_all sum whole room cs n w h = let r = columns_all room cs n h in omega arith
+
+-- the room that is left behind a character, and behind the last
+pub left_goes : (room whole : ℕ) (cs : List ℕ) (n c taken m : ℕ) → room_left room (drop n cs) ≡ whole
+    → (n < length cs) × (c ≡ get_or cs n c) → taken ≡ cost c → m ≡ n + 1 → room_left (room - taken) (drop m cs) ≡ whole
+left_goes room whole cs n c taken m w h g i =
+    rw (g, i) (sym (at_drop_more (room_left room) cs n c h.0 ∙ ap (λ x. room_left room (x ∷ drop (n + 1) cs)) (sym h.1)) ∙ w)
+
+pub left_all : (room whole : ℕ) (cs : List ℕ) (n : ℕ) → room_left room (drop n cs) ≡ whole → length cs ≤ n → room ≡ whole
+left_all room whole cs n w h = sym (at_drop_all (room_left room) cs n h) ∙ w

@@ -1,5 +1,5 @@
 -- The line of a place, and carets under the place. A long line is cut around it. Offsets are in bytes.
-use Rattle.std.specs.Prelude.{ℕ, zero, suc, List, [], ◌∷◌, ◌++◌, ◌+◌, ◌-◌, ◌==◌, ◌&&◌, ◌||◌, Bool, true, false, cond, if◌then◌else◌, min, max, nat_le, nat_lt, length, drop, replicate, slice_index, slice_range, codes, chars}
+use Rattle.std.specs.Prelude.{ℕ, zero, suc, List, [], ◌∷◌, ◌++◌, ◌+◌, ◌-◌, ◌==◌, ◌&&◌, ◌||◌, Bool, true, false, cond, if◌then◌else◌, min, max, nat_le, nat_lt, length, replicate, slice_index, slice_range, codes, chars}
 use Rattle.ecma_estree_text.specs.Places.{Placed}
 use Rattle.ecma_estree_text.specs.Spots.{spot_at}
 use Rattle.ecma_faults.specs.Shown.{columns, shown_bytes, shown_text, blank_text}
@@ -7,19 +7,6 @@ use Rattle.ecma_faults.specs.Shown.{columns, shown_bytes, shown_text, blank_text
 -- the column of an offset, from 0, in code units of UTF-16; 0 where no columns are known
 abbrev pub column_of : Placed → ℕ → ℕ
 column_of p n = cond p.has_locations (spot_at p.text n).column 0
-
--- the last offset up to one whose column is at most so great
-unfoldable pub back : Placed → (most : ℕ) → ℕ → ℕ
-back p most zero = 0
-back p most (suc n) = if nat_le (column_of p (suc n)) most then suc n else back p most n
-
--- where the part of the line begins that is shown: at most 40 units before the place
-abbrev pub start_of : Placed → ℕ → ℕ
-start_of p low = back p (column_of p low - 40) low
-
--- how many columns are left for what stands from the place on
-abbrev pub room_of : Placed → ℕ → ℕ
-room_of p low = 74 - (column_of p low - column_of p (start_of p low))
 
 -- no character of UTF-8 has its middle there
 abbrev pub is_boundary : List ℕ → ℕ → Bool
@@ -33,9 +20,31 @@ piece text from to = if nat_le from to && is_boundary text from && is_boundary t
 abbrev pub is_line_end : ℕ → Bool
 is_line_end c = c == 10 || c == 13 || c == 0x2028 || c == 0x2029
 
--- the room that a character takes away, so that there is none for many without a width
+-- The room that a character takes away: its columns, 8 for a tab, and at least 1, so that there is none for many without a width.
 abbrev pub cost : ℕ → ℕ
-cost c = max 1 (columns c)
+cost c = if c == 9 then 8 else max 1 (columns c)
+
+-- the room that is left behind characters
+abbrev pub room_left : (room : ℕ) → List ℕ → ℕ
+room_left room [] = room
+room_left room (c ∷ cs) = room_left (room - cost c) cs
+
+-- where the part of the line that is shown can begin: at the start of the line, or where all but 2 of 40 columns stand before the place
+abbrev pub is_far : Placed → (low : ℕ) → ℕ → Bool
+is_far p low n = column_of p n == 0 || nat_lt (room_left 40 (chars (piece p.text n low))) 3
+
+-- the last such offset up to one
+unfoldable pub back : Placed → (low : ℕ) → ℕ → ℕ
+back p low zero = 0
+back p low (suc n) = if is_far p low (suc n) then suc n else back p low n
+
+-- where the part of the line begins that is shown
+abbrev pub start_of : Placed → ℕ → ℕ
+start_of p low = back p low low
+
+-- how many columns are left for what stands from the place on
+abbrev pub room_of : Placed → ℕ → ℕ
+room_of p low = room_left 74 (chars (piece p.text (start_of p low) low))
 
 -- what is shown of characters: those of the line, as far as there is room
 abbrev pub line_rest : (room : ℕ) → List ℕ → List ℕ

@@ -7,6 +7,6 @@ use Rattle.ecma_faults.specs.Sentence.{sentence_of}
 
 -- the sentence of its kind, with what is wanted where the fault holds that
 abbrev pub message_of : SyntaxError → List ℕ
-message_of (kinds.Expected texts) = codes "`" ++ (texts.wanted ++ codes "` is wanted here (ECMA-262, Annex A)")
-message_of (kinds.Unexpected texts) = codes "no rule reads this token here; what may stand here is " ++ (texts.wanted ++ codes " (ECMA-262, Annex A)")
+message_of (kinds.Expected texts) = codes "`" ++ (texts.wanted ++ codes "` is wanted in the place of this (ECMA-262, Annex A)")
+message_of (kinds.Unexpected texts) = codes "no rule reads this; " ++ (texts.wanted ++ codes " is wanted in its place (ECMA-262, Annex A)")
 message_of k = sentence_of (kind_of k)

@@ -1,10 +1,10 @@
 //! The line that a fault stands in, and carets under what is wrong there.
 
 ghost use Rattle.std.specs.Prelude.{◌≡◌, ◌++◌, ◌≤◌, OnOk, chars};
-ghost use Rattle.ecma_faults.specs.Excerpt.{caret_text, cost, dots, excerpt_text, is_line_end, line_rest, line_text, rest_columns};
-ghost use Rattle.ecma_faults.specs.Shown.{columns};
+ghost use Rattle.ecma_faults.specs.Excerpt.{caret_text, dots, excerpt_text, is_line_end, line_rest, line_text, rest_columns};
 
 use crate::place::{column, piece, room, start};
+use crate::room::room_taken;
 use crate::shown::{push_blanks, push_char, push_shown, push_times, width};
 use ecma_estree_text::Places;
 use std::alloc::AllocError;
@@ -17,14 +17,6 @@ fn ends_line(c: char) -> bool
         '\n' | '\r' | '\u{2028}' | '\u{2029}' => true,
         _ => false,
     }
-}
-
-/// The room that a character takes away, at least 1.
-fn room_taken(c: char) -> usize
-    ensures value { result ≡ cost c }
-    ensures bound { columns c ≤ result }
-{
-    width(c).max(1)
 }
 
 /// Writes what stands from a place on, up to the end of the line or as far as there is room; dots where there is not enough.

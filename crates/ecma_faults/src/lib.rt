@@ -6,6 +6,7 @@ mod json;
 mod messages;
 mod note;
 mod place;
+mod room;
 mod sentences;
 mod shown;
 mod text;

@@ -28,13 +28,13 @@ pub fn message(alloc: Global, kind: &SyntaxError) -> Result<String, AllocError>
             alloc,
             "`",
             texts.get().wanted.as_str(),
-            "` is wanted here (ECMA-262, Annex A)",
+            "` is wanted in the place of this (ECMA-262, Annex A)",
         ),
         SyntaxError::Unexpected(texts) => joined(
             alloc,
-            "no rule reads this token here; what may stand here is ",
+            "no rule reads this; ",
             texts.get().wanted.as_str(),
-            " (ECMA-262, Annex A)",
+            " is wanted in its place (ECMA-262, Annex A)",
         ),
         _ => {
             let text = String::from_str(alloc, sentence(kind))?;

@@ -1,12 +1,13 @@
 //! Which part of a line is shown around a place. Work is bounded, however long the line is.
 
-ghost use Rattle.std.specs.Prelude.{◌≡◌, ◌≤◌};
+ghost use Rattle.std.specs.Prelude.{◌≡◌, ◌≤◌, chars};
 ghost use Rattle.ecma_faults.specs.Excerpt as show;
 ghost use Rattle.ecma_faults.specs.Excerpt.{back, column_of, is_boundary, room_of, start_of};
 
+use crate::room::room_left;
 use ecma_estree_text::Places;
 
-/// How many code units of UTF-16 are shown before what is wrong.
+/// How many columns are shown before what is wrong.
 const BEFORE: usize = 40;
 
 /// How many columns are shown in all.
@@ -22,13 +23,20 @@ pub(crate) fn column(places: &Places<'_>, position: usize) -> usize
     }
 }
 
-/// The last offset up to one whose column is at most so great.
+/// Whether the part of the line that is shown can begin at an offset: at the start of the line, or far enough before the place.
+fn is_far(places: &Places<'_>, low: usize, at: usize) -> bool
+    ensures { result ≡ show.is_far places.now low at }
+{
+    column(places, at) == 0 || room_left(BEFORE, piece(places.text(), at, low)) < 3
+}
+
+/// The last such offset up to one.
 #[tactic(auto, using(crate::proofs::Back::back_here, crate::proofs::Back::back_start, crate::proofs::Back::back_more))]
-fn at_most(places: &Places<'_>, most: usize, from: usize) -> usize
-    ensures { result ≡ back places.now most from }
+fn back_from(places: &Places<'_>, low: usize, from: usize) -> usize
+    ensures { result ≡ back places.now low from }
 {
     let mut at = from;
-    while 0 < at && most < column(places, at) {
+    while 0 < at && !is_far(places, low, at) {
         at -= 1;
     }
     at
@@ -38,7 +46,7 @@ fn at_most(places: &Places<'_>, most: usize, from: usize) -> usize
 pub(crate) fn start(places: &Places<'_>, low: usize) -> usize
     ensures { result ≡ start_of places.now low }
 {
-    at_most(places, column(places, low).saturating_sub(BEFORE), low)
+    back_from(places, low, low)
 }
 
 /// How many columns are left for what stands from a place on.
@@ -46,8 +54,7 @@ pub(crate) fn room(places: &Places<'_>, low: usize) -> usize
     ensures value { result ≡ room_of places.now low }
     ensures bound { result ≤ 74 }
 {
-    let shown = column(places, low).saturating_sub(column(places, start(places, low)));
-    MOST.saturating_sub(shown)
+    room_left(MOST, piece(places.text(), start(places, low), low))
 }
 
 /// Whether a text may be cut at an offset.
