@@ -1,13 +1,20 @@
 -- What is said of each kind of fault.
-use Rattle.std.proofs.Common.{◌≡◌, ◌≢◌, ℕ, List, refl}
-use Rattle.swc_ecma_parser_error.specs.declared.kind.SyntaxError.{SyntaxError}
+use Rattle.std.proofs.Common.{◌≡◌, ◌≢◌, ℕ, List, refl, ap}
+use Rattle.swc_ecma_parser_error.specs.declared.kind.SyntaxError.{SyntaxError, out-SyntaxError}
 use Rattle.swc_ecma_parser_error.specs.declared.kind.SyntaxError.TheVariants as kinds
+use Rattle.swc_ecma_parser_error.specs.declared.kind.Labelled.{Labelled}
 use Rattle.swc_ecma_parser_error.specs.declared.kind.Texts.{Texts}
 use Rattle.swc_ecma_parser_error.specs.Kind.{kind_of}
-use Rattle.ecma_faults.specs.Message.{message_of}
+use Rattle.ecma_faults.specs.Message.{message_of, plain_message}
 use Rattle.ecma_faults.specs.Sentence.{sentence_of}
 
-pub message_other : (k : SyntaxError) → ((t : Texts) → k ≢ kinds.Expected t) → ((t : Texts) → k ≢ kinds.Unexpected t) → message_of k ≡ sentence_of (kind_of k)
+pub message_other : (k : SyntaxError) → ((t : Texts) → k ≢ kinds.Expected t) → ((t : Texts) → k ≢ kinds.Unexpected t) → plain_message k ≡ sentence_of (kind_of k)
 message_other (kinds.Expected t) e u = absurd (e t refl)
 message_other (kinds.Unexpected t) e u = absurd (u t refl)
 message_other k e u = refl
+
+pub message_inner : (labelled : Labelled) → message_of (kinds.WithLabel labelled) ≡ plain_message labelled.inner.kind
+message_inner labelled = refl
+
+pub message_plain : (k : SyntaxError) → ((l : Labelled) → k ≢ kinds.WithLabel l) → message_of k ≡ plain_message k
+message_plain k h = refl

@@ -8,7 +8,6 @@ use Rattle.ecma_estree_text.specs.Quoted.{quoted}
 use Rattle.ecma_estree_text.specs.Spots.{spot_at}
 use Rattle.ecma_estree_text.specs.declared.spot.Spot.{Spot}
 use Rattle.ecma_faults.specs.Message.{message_of}
-use Rattle.ecma_faults.specs.declared.note.Note.{Note}
 
 -- how a further field begins
 unfoldable pub key : List ℕ → List ℕ
@@ -43,9 +42,9 @@ span_json p span =
 unfoldable pub first : List ℕ → List ℕ → List ℕ
 first name text = 123 ∷ (quoted name ++ (58 ∷ quoted text))
 
-abbrev pub note_json : Placed → Option Note → List ℕ
+abbrev pub note_json : Placed → Option (Span × List ℕ) → List ℕ
 note_json p None = []
-note_json p (Some note) = key (codes "note") ++ (first (codes "message") note.sentence.now ++ (span_json p note.span ++ codes "}"))
+note_json p (Some note) = key (codes "note") ++ (first (codes "message") note.1 ++ (span_json p note.0 ++ codes "}"))
 
 -- what a fault says
 unfoldable pub head_json : (file word : List ℕ) → Error → List ℕ
@@ -54,5 +53,5 @@ head_json file word e =
     ++ (string (codes "kind") (name_of (kind_of e.kind)) ++ string (codes "message") (message_of e.kind)))
 
 -- a fault of a file, with the other place that it speaks of
-unfoldable pub fault_json : Placed → (file word : List ℕ) → Error → Option Note → List ℕ
+unfoldable pub fault_json : Placed → (file word : List ℕ) → Error → Option (Span × List ℕ) → List ℕ
 fault_json p file word e note = head_json file word e ++ (span_json p e.span ++ (note_json p note ++ codes "}\n"))

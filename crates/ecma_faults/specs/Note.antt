@@ -1,17 +1,21 @@
 -- The other place that a fault speaks of.
-use Rattle.std.specs.Prelude.{◌≡◌, ℕ, List, codes, Option, Some, None, IfSome, IsSome}
+use Rattle.std.specs.Prelude.{ℕ, List, codes, Option, Some, None}
 use Rattle.swc_ecma_parser_common.specs.declared.span.Span.{Span}
-use Rattle.swc_ecma_parser_error.specs.declared.kind.SyntaxError.{SyntaxError}
-use Rattle.swc_ecma_parser_error.specs.declared.kind.SyntaxError.TheVariants as kinds
+use Rattle.swc_ecma_parser_error.specs.declared.kind.SyntaxError.{SyntaxError, out-SyntaxError}
+use Rattle.swc_ecma_parser_error.specs.declared.kind.SyntaxError.TheOpen.{SyntaxError-F}
 use Rattle.ecma_faults.specs.declared.note.Note.{Note}
 
--- a note with the place and the sentence
-abbrev pub Says : Option Note → Span → List ℕ → Type 0
-Says note span sentence = IsSome note × IfSome note (λ it. (it.span ≡ span) × (it.sentence.now ≡ sentence))
+-- a note as its place and its sentence
+abbrev pub noted : Option Note → Option (Span × List ℕ)
+noted None = None
+noted (Some note) = Some (note.span, note.sentence.now)
 
--- The note on a kind of fault. Of one in a condition this tells the sentence, and not where the condition stands.
-abbrev pub IsNote : SyntaxError → Option Note → Type 0
-IsNote (kinds.MultipleDefault previous) note = Says note previous (codes "the first `default` stands here")
-IsNote (kinds.ExpectedSemiForExprStmt expr) note = Says note expr (codes "the expression stands here")
-IsNote (kinds.WithLabel' l n) note = IsSome note × IfSome note (λ it. it.sentence.now ≡ codes "it stands in the condition of this `if`")
-IsNote k note = note ≡ None
+abbrev note_in : SyntaxError-F SyntaxError → Option (Span × List ℕ)
+note_in (SyntaxError-F.MultipleDefault previous) = Some (previous, codes "the first `default` stands here")
+note_in (SyntaxError-F.ExpectedSemiForExprStmt expr) = Some (expr, codes "the expression stands here")
+note_in (SyntaxError-F.WithLabel labelled) = Some (labelled.span, codes "it stands in the condition of this `if`")
+note_in _ = None
+
+-- the note on a kind of fault
+abbrev pub note_of : SyntaxError → Option (Span × List ℕ)
+note_of k = note_in (out-SyntaxError k)

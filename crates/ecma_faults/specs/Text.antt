@@ -8,7 +8,6 @@ use Rattle.ecma_estree_text.specs.Spots.{spot_at}
 use Rattle.ecma_estree_text.specs.declared.spot.Spot.{Spot}
 use Rattle.ecma_faults.specs.Excerpt.{excerpt_text}
 use Rattle.ecma_faults.specs.Message.{message_of}
-use Rattle.ecma_faults.specs.declared.note.Note.{Note}
 use Rattle.ecma_faults.specs.Shown.{name_text}
 
 abbrev pub spot_text : (file : List ℕ) → Spot → List ℕ
@@ -23,11 +22,11 @@ unfoldable pub told_text : Placed → (file : List ℕ) → Span → (word sente
 told_text p file span word sentence =
     place_text p file span.lo.0 ++ (word ++ (codes ": " ++ (name_text sentence ++ (codes "\n" ++ excerpt_text p span.lo.0 span.hi.0))))
 
-abbrev pub note_text : Placed → (file : List ℕ) → Option Note → List ℕ
+abbrev pub note_text : Placed → (file : List ℕ) → Option (Span × List ℕ) → List ℕ
 note_text p file None = []
-note_text p file (Some note) = told_text p file note.span (codes "note") note.sentence.now
+note_text p file (Some note) = told_text p file note.0 (codes "note") note.1
 
 -- a fault, and the other place that it speaks of
-unfoldable pub fault_text : Placed → (file word : List ℕ) → Error → Option Note → List ℕ
+unfoldable pub fault_text : Placed → (file word : List ℕ) → Error → Option (Span × List ℕ) → List ℕ
 fault_text p file word e note =
     told_text p file e.span (word ++ (codes " [" ++ (name_of (kind_of e.kind) ++ codes "]"))) (message_of e.kind) ++ note_text p file note

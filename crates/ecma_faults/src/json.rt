@@ -2,6 +2,7 @@
 
 ghost use Rattle.std.specs.Prelude.{◌≡◌, ◌++◌, ◌<◌, ◌^◌, OnOk, length};
 ghost use Rattle.ecma_faults.specs.Json as json;
+ghost use Rattle.ecma_faults.specs.Note.{noted};
 ghost use Rattle.ecma_faults.specs.Json.{fault_json, first, head_json, key, note_json, offsets_json, place_json, span_json, spot_json};
 
 use crate::messages::message;
@@ -109,7 +110,7 @@ fn push_first(out: &mut Vec<u8>, name: &str, text: &str) -> Result<(), AllocErro
 /// Writes another place that a fault speaks of.
 fn push_note(out: &mut Vec<u8>, places: &Places<'_>, note: Option<Note>) -> Result<(), AllocError>
     requires { length places.now.text < 2 ^ 32 }
-    ensures { OnOk result (out.new.items ≡ out.old.items ++ note_json places.now note) }
+    ensures { OnOk result (out.new.items ≡ out.old.items ++ note_json places.now (noted note)) }
 {
     let Some(note) = note else {
         return Ok(());
@@ -149,7 +150,7 @@ pub fn push_fault(
     note: Option<Note>,
 ) -> Result<(), AllocError>
     requires { length places.now.text < 2 ^ 32 }
-    ensures { OnOk result (out.new.items ≡ out.old.items ++ fault_json places.now file.now word.now error.now note) }
+    ensures { OnOk result (out.new.items ≡ out.old.items ++ fault_json places.now file.now word.now error.now (noted note)) }
 {
     push_head(out, file, word, error)?;
     push_span(out, places, error.span)?;

@@ -1,7 +1,8 @@
 //! What else a fault speaks of: an earlier place.
 
-ghost use Rattle.std.specs.Prelude.{◌≡◌};
-ghost use Rattle.ecma_faults.specs.Note.{IsNote};
+ghost use Rattle.std.specs.Prelude.{◌≡◌, Some};
+ghost use Rattle.ecma_faults.specs.Note as spec;
+ghost use Rattle.ecma_faults.specs.Note.{noted};
 
 use swc_ecma_parser_common::Span;
 use swc_ecma_parser_error::SyntaxError;
@@ -18,22 +19,21 @@ macro_rules! note {
     ($of:expr, [$($plain:ident)*], { $($pattern:pat => $note:expr,)* }) => {
         match $of {
             $(SyntaxError::$plain { .. } => None,)*
-            $($pattern => Some($note),)*
+            $($pattern => $note,)*
         }
     };
 }
 
 /// A place with a sentence.
-fn place(span: Span, sentence: &'static str) -> Note
-    ensures span { result.span ≡ span }
-    ensures sentence { result.sentence.now ≡ sentence.now }
+fn place(span: Span, sentence: &'static str) -> Option<Note>
+    ensures { noted result ≡ Some (span, sentence.now) }
 {
-    Note { span, sentence }
+    Some(Note { span, sentence })
 }
 
 /// The other place of a fault, if it has one.
 pub fn note_of(kind: &SyntaxError) -> Option<Note>
-    ensures { IsNote kind.now result }
+    ensures { noted result ≡ spec.note_of kind.now }
 {
     note!(
         kind,

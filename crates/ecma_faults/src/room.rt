@@ -12,10 +12,11 @@ pub(crate) fn room_taken(c: char) -> usize
     ensures value { result ≡ cost c }
     ensures bound { columns c ≤ result }
 {
+    let columns = width(c);
     if c == '\t' {
         return 8;
     }
-    width(c).max(1)
+    columns.max(1)
 }
 
 /// The room that is left behind a text.

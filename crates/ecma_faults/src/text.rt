@@ -2,6 +2,7 @@
 
 ghost use Rattle.std.specs.Prelude.{◌≡◌, ◌++◌, ◌<◌, ◌^◌, IfOk, OnOk, length, codes};
 ghost use Rattle.swc_ecma_parser_error.specs.Kind.{kind_of, name_of};
+ghost use Rattle.ecma_faults.specs.Note.{noted};
 ghost use Rattle.ecma_faults.specs.Text.{fault_text, note_text, place_text, spot_text, told_text};
 
 use crate::excerpt::push_excerpt;
@@ -84,7 +85,7 @@ fn push_note(
     note: Option<Note>,
 ) -> Result<(), AllocError>
     requires { length places.now.text < 2 ^ 32 }
-    ensures { OnOk result (out.new.items ≡ out.old.items ++ note_text places.now file.now note) }
+    ensures { OnOk result (out.new.items ≡ out.old.items ++ note_text places.now file.now (noted note)) }
 {
     match note {
         Some(note) => push_told(out, file, places, note.span, b"note", note.sentence),
@@ -104,7 +105,7 @@ pub fn push_fault(
     note: Option<Note>,
 ) -> Result<(), AllocError>
     requires { length places.now.text < 2 ^ 32 }
-    ensures { OnOk result (out.new.items ≡ out.old.items ++ fault_text places.now file.now word.now error.now note) }
+    ensures { OnOk result (out.new.items ≡ out.old.items ++ fault_text places.now file.now word.now error.now (noted note)) }
 {
     let head = head(out, word, &error.kind)?;
     let said = message(*out.allocator(), &error.kind)?;
