@@ -242,14 +242,7 @@ pub fn check(alloc: Global, options: Options, file: &str, text: &str) -> Result<
     let faults = parser.take_errors();
     let checked = match tree {
         Ok(tree) => with_tree(alloc, options, file, text, tree, faults.as_slice())?,
-        Err(error) => without_tree(
-            alloc,
-            options.format,
-            file,
-            text,
-            &error,
-            faults.as_slice(),
-        )?,
+        Err(error) => without_tree(alloc, options.format, file, text, &error, faults.as_slice())?,
     };
     Ok(checked)
 }

@@ -160,12 +160,7 @@ fn write_bytes<W: Write>(output: &mut W, bytes: &[u8]) -> Result<(), Fault>
 }
 
 /// Writes the line that sums up a run, if people read it, and sees to it that all is written.
-fn finish<W: Write>(
-    alloc: Global,
-    output: &mut W,
-    format: Format,
-    sum: Sum,
-) -> Result<(), Fault> {
+fn finish<W: Write>(alloc: Global, output: &mut W, format: Format, sum: Sum) -> Result<(), Fault> {
     if format == Format::Text {
         let line = line(alloc, sum)?;
         write_bytes(output, line.as_slice())?;

@@ -150,7 +150,10 @@ fn what_fails(rt: HostRuntime) -> Result<(), Fail> {
         "files: 1, faults: 0, refused: 0, unread: 1\n|-: it is not UTF-8\n|3"
     );
     let found = printed(&rt, &["--format", "json"], b"break", false, 4)?;
-    assert_eq!(rt; found.as_str(), "{\"fi|ecma-check: cannot write standard output\n|3");
+    assert_eq!(rt;
+        found.as_str(),
+        "{\"fi|ecma-check: cannot write standard output\n|3"
+    );
     let found = printed(&rt, &["nosuch\u{1b}file"], b"", false, 1000)?;
     assert_eq!(rt;
         found.as_str(),

@@ -123,12 +123,7 @@ fn push_note(out: &mut Vec<u8>, places: &Places<'_>, note: Option<Note>) -> Resu
 
 /// Writes what a fault says.
 #[tactic(auto, unfolding(crate::specs::Json::head_json))]
-fn push_head(
-    out: &mut Vec<u8>,
-    file: &str,
-    word: &str,
-    error: &Error,
-) -> Result<(), AllocError>
+fn push_head(out: &mut Vec<u8>, file: &str, word: &str, error: &Error) -> Result<(), AllocError>
     ensures { OnOk result (out.new.items ≡ out.old.items ++ head_json file.now word.now error.now) }
 {
     let said = message(*out.allocator(), &error.kind)?;
