@@ -1,11 +1,13 @@
 -- What is told of the faults of a file.
-use Rattle.std.specs.Prelude.{ℕ, List, [], ◌∷◌, ◌++◌, true, false, codes, Option, Some, None}
+use Rattle.std.specs.Prelude.{◌≡◌, ℕ, List, [], ◌∷◌, ◌++◌, true, false, codes}
 use Rattle.std.specs.List.{flat_map}
 use Rattle.swc_ecma_parser_error.specs.declared.error.Error.{Error}
 use Rattle.ecma_estree_text.specs.Places.{Placed}
 use Rattle.ecma_faults.specs.Json.{fault_json}
 use Rattle.ecma_faults.specs.Note.{note_of}
 use Rattle.ecma_faults.specs.Text.{fault_text}
+use Rattle.ecma_check.specs.declared.check.Outcome.{Outcome}
+use Rattle.ecma_check.specs.declared.check.Outcome.TheVariants as outcome
 use Rattle.ecma_check.specs.declared.command.Format.{Format}
 use Rattle.ecma_check.specs.declared.command.Format.TheVariants as format
 
@@ -26,3 +28,14 @@ faults_in f p file es = flat_map (fault_in f p file (codes "fault")) es
 -- the same, and why there is no tree
 abbrev pub refused_in : Format → Placed → (file : List ℕ) → List Error → Error → List ℕ
 refused_in f p file es e = faults_in f p file es ++ fault_in f p file (codes "refused") e
+
+-- how a file with a tree comes out
+abbrev pub outcome_of : List Error → Outcome
+outcome_of [] = outcome.Clean
+outcome_of (e ∷ es) = outcome.Faulty
+
+-- where it is told: beside a tree that is printed, or in its place
+abbrev pub Tells : Format → (told out notes : List ℕ) → Type 0
+Tells format.Estree told out notes = notes ≡ told
+Tells format.Json told out notes = (out ≡ told) × (notes ≡ [])
+Tells format.Text told out notes = (out ≡ told) × (notes ≡ [])

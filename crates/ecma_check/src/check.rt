@@ -1,7 +1,7 @@
 //! One file: what it comes to.
 
-ghost use Rattle.std.specs.Prelude.{◌≡◌, ◌<◌, ◌+◌, ◌++◌, ◌∷◌, ◌^◌, [], codes, false, length, IfOk, OnOk};
-ghost use Rattle.ecma_check.specs.Told.{fault_in, faults_in, lined, refused_in};
+ghost use Rattle.std.specs.Prelude.{◌≡◌, ◌<◌, ◌++◌, ◌^◌, length, IfOk, OnOk};
+ghost use Rattle.ecma_check.specs.Told.{fault_in, faults_in, lined, outcome_of, refused_in, Tells};
 
 use crate::command::{Format, Options};
 use crate::fault::Fault;
@@ -142,6 +142,9 @@ fn of_tree(
     faults: &[Error],
 ) -> Result<Printed, AllocError>
     requires { length text.now < 2 ^ 32 }
+    ensures { IfOk result (λ printed. Tells options.format
+        (faults_in options.format (lined text.now) file.now faults.now)
+        printed.out.items printed.notes.items) }
 {
     let told = told(alloc, options.format, file, text, faults)?;
     match options.format {
@@ -167,6 +170,9 @@ fn of_refusal(
     faults: &[Error],
 ) -> Result<Printed, AllocError>
     requires { length text.now < 2 ^ 32 }
+    ensures { IfOk result (λ printed. Tells format
+        (refused_in format (lined text.now) file.now faults.now error.now)
+        printed.out.items printed.notes.items) }
 {
     let told = told_refusal(alloc, format, file, text, faults, error)?;
     match format {
@@ -191,6 +197,11 @@ fn with_tree(
     faults: &[Error],
 ) -> Result<Checked, AllocError>
     requires { length text.now < 2 ^ 32 }
+    ensures told { IfOk result (λ checked. Tells options.format
+        (faults_in options.format (lined text.now) file.now faults.now)
+        checked.out.items checked.notes.items) }
+    ensures outcome { IfOk result (λ checked. checked.outcome ≡ outcome_of faults.now) }
+    ensures faults { IfOk result (λ checked. checked.faults ≡ length faults.now) }
 {
     let printed = of_tree(alloc, options, file, text, &tree, faults);
     tree.discard();
@@ -218,6 +229,10 @@ fn without_tree(
     faults: &[Error],
 ) -> Result<Checked, Fault>
     requires { length text.now < 2 ^ 32 }
+    ensures told { IfOk result (λ checked. Tells format
+        (refused_in format (lined text.now) file.now faults.now error.now)
+        checked.out.items checked.notes.items) }
+    ensures outcome { IfOk result (λ checked. checked.outcome ≡ Outcome.Refused) }
 {
     if let SyntaxError::OutOfMemory = error.kind {
         return Err(Fault::OutOfMemory);

@@ -81,7 +81,7 @@ fn enable(alloc: Global) -> Arg<'static> {
 }
 
 /// What is printed.
-fn format(alloc: Global) -> Arg<'static> {
+fn format_word(alloc: Global) -> Arg<'static> {
     Arg::new(alloc, "format")
         .long("format")
         .value_name("FORMAT")
@@ -98,7 +98,7 @@ fn files(alloc: Global) -> Arg<'static> {
 }
 
 /// A word that says what files are read as, with those that say otherwise.
-fn goal(
+fn goal_word(
     alloc: Global,
     name: &'static str,
     others: &[&'static str],
@@ -109,19 +109,19 @@ fn goal(
 
 /// The words that say what files are read as.
 fn with_goals(alloc: Global, command: Command<'static>) -> Result<Command<'static>, AllocError> {
-    let script = goal(
+    let script = goal_word(
         alloc,
         "script",
         &["module", "program"],
         "reads each file as a script",
     )?;
-    let module = goal(
+    let module = goal_word(
         alloc,
         "module",
         &["script", "program"],
         "reads each file as a module",
     )?;
-    let program = goal(
+    let program = goal_word(
         alloc,
         "program",
         &["script", "module"],
@@ -148,7 +148,7 @@ pub fn command(alloc: Global) -> Result<Command<'static>, AllocError> {
     let command = command
         .arg(limit(alloc))?
         .arg(enable(alloc))?
-        .arg(format(alloc))?;
+        .arg(format_word(alloc))?;
     with_extras(alloc, command)?.arg(files(alloc))
 }
 

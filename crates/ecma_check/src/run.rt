@@ -89,7 +89,10 @@ fn tell<E: Write>(alloc: Global, errors: &mut E, name: &str, fault: Fault) {
 }
 
 /// A sum and a file more.
-fn added(sum: Sum, outcome: Result<(Outcome, usize), Fault>) -> Sum {
+fn added(sum: Sum, outcome: Result<(Outcome, usize), Fault>) -> Sum
+    ensures read { IfOk outcome (λ it. result ≡ spec.with_read sum it.0 it.1) }
+    ensures unread { IfErr outcome (λ _. result ≡ spec.with_unread sum) }
+{
     let files = sum.files.saturating_add(1);
     let Ok((outcome, faults)) = outcome else {
         return Sum {

@@ -1,6 +1,8 @@
 -- What is said of a fault.
 use Rattle.std.specs.Prelude.{ℕ, List, ◌++◌, codes, if◌then◌else◌}
 use Rattle.std.specs.Str.{bytes_eq}
+use Rattle.swc_ecma_parser_error.specs.declared.error.Error.{Error}
+use Rattle.swc_ecma_parser_error.specs.declared.kind.Labelled.{Labelled}
 use Rattle.swc_ecma_parser_error.specs.declared.kind.SyntaxError.{SyntaxError, out-SyntaxError}
 use Rattle.swc_ecma_parser_error.specs.declared.kind.SyntaxError.TheVariants as kinds
 use Rattle.swc_ecma_parser_error.specs.declared.kind.SyntaxError.TheOpen.{SyntaxError-F}
@@ -19,7 +21,7 @@ plain_message (kinds.Expected texts) = codes "`" ++ (texts.wanted ++ where_wante
 plain_message (kinds.Unexpected texts) = codes "no rule reads this; " ++ (texts.wanted ++ codes " is wanted in its place (ECMA-262, Annex A)")
 plain_message k = sentence_of (kind_of k)
 
-abbrev message_in : SyntaxError-F SyntaxError → SyntaxError → List ℕ
+abbrev pub message_in : SyntaxError-F SyntaxError Error Labelled → SyntaxError → List ℕ
 message_in (SyntaxError-F.WithLabel labelled) k = plain_message labelled.inner.kind
 message_in _ k = plain_message k
 

@@ -1,6 +1,8 @@
 -- The other place that a fault speaks of.
 use Rattle.std.specs.Prelude.{ℕ, List, codes, Option, Some, None}
 use Rattle.swc_ecma_parser_common.specs.declared.span.Span.{Span}
+use Rattle.swc_ecma_parser_error.specs.declared.error.Error.{Error}
+use Rattle.swc_ecma_parser_error.specs.declared.kind.Labelled.{Labelled}
 use Rattle.swc_ecma_parser_error.specs.declared.kind.SyntaxError.{SyntaxError, out-SyntaxError}
 use Rattle.swc_ecma_parser_error.specs.declared.kind.SyntaxError.TheOpen.{SyntaxError-F}
 use Rattle.ecma_faults.specs.declared.note.Note.{Note}
@@ -10,7 +12,7 @@ abbrev pub noted : Option Note → Option (Span × List ℕ)
 noted None = None
 noted (Some note) = Some (note.span, note.sentence.now)
 
-abbrev note_in : SyntaxError-F SyntaxError → Option (Span × List ℕ)
+abbrev pub note_in : SyntaxError-F SyntaxError Error Labelled → Option (Span × List ℕ)
 note_in (SyntaxError-F.MultipleDefault previous) = Some (previous, codes "the first `default` stands here")
 note_in (SyntaxError-F.ExpectedSemiForExprStmt expr) = Some (expr, codes "the expression stands here")
 note_in (SyntaxError-F.WithLabel labelled) = Some (labelled.span, codes "it stands in the condition of this `if`")
