@@ -32,6 +32,7 @@ fn place(span: Span, sentence: &'static str) -> Option<Note>
 }
 
 /// The other place of a fault, if it has one.
+#[tactic(auto, using(crate::proofs::Said::note_inner))]
 pub fn note_of(kind: &SyntaxError) -> Option<Note>
     ensures { noted result ≡ spec.note_of kind.now }
 {
