@@ -103,10 +103,10 @@ pub summed_all : (sum whole room : ℕ) (cs : List ℕ) (n : ℕ) → sum + rest
 summed_all sum whole room cs n w h = let r = columns_all room cs n h in omega arith
 
 -- the room that is left behind a character, and behind the last
-pub left_goes : (room whole : ℕ) (cs : List ℕ) (n c taken m : ℕ) → room_left room (drop n cs) ≡ whole
-    → (n < length cs) × (c ≡ get_or cs n c) → taken ≡ cost c → m ≡ n + 1 → room_left (room - taken) (drop m cs) ≡ whole
-left_goes room whole cs n c taken m w h g i =
-    rw (g, i) (sym (at_drop_more (room_left room) cs n c h.0 ∙ ap (λ x. room_left room (x ∷ drop (n + 1) cs)) (sym h.1)) ∙ w)
+pub left_goes : (room whole : ℕ) (cs : List ℕ) (n c taken next m : ℕ) → room_left room (drop n cs) ≡ whole
+    → (n < length cs) × (c ≡ get_or cs n c) → taken ≡ cost c → next ≡ room - taken → m ≡ n + 1 → room_left next (drop m cs) ≡ whole
+left_goes room whole cs n c taken next m w h g k i =
+    rw (k, g, i) (sym (at_drop_more (room_left room) cs n c h.0 ∙ ap (λ x. room_left room (x ∷ drop (n + 1) cs)) (sym h.1)) ∙ w)
 
 pub left_all : (room whole : ℕ) (cs : List ℕ) (n : ℕ) → room_left room (drop n cs) ≡ whole → length cs ≤ n → room ≡ whole
 left_all room whole cs n w h = sym (at_drop_all (room_left room) cs n h) ∙ w

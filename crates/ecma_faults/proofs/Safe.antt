@@ -25,8 +25,8 @@ none tab (c ∷ cs) t h = (no_order tab c t h, none tab cs t h)
 
 pub line_is_safe : (text : List ℕ) → NoCharPasses (is_order 9) (shown_text 9 text)
 unfolding shown_text
-line_is_safe text = (map (shown 9) (chars text), (spelled 9 (chars text), none 9 (chars text) refl refl))
+line_is_safe text = (map (shown 9) (chars text), spelled 9 (chars text), none 9 (chars text) refl refl)
 
 pub name_is_safe : (text : List ℕ) → NoCharPasses (is_order 0xFFFD) (name_text text)
 unfolding shown_text
-name_is_safe text = (map (shown 0xFFFD) (chars text), (spelled 0xFFFD (chars text), none 0xFFFD (chars text) refl refl))
+name_is_safe text = (map (shown 0xFFFD) (chars text), spelled 0xFFFD (chars text), none 0xFFFD (chars text) refl refl)

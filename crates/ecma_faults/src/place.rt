@@ -36,7 +36,10 @@ fn back_from(places: &Places<'_>, low: usize, from: usize) -> usize
     ensures { result ≡ back places.now low from }
 {
     let mut at = from;
-    while 0 < at && !is_far(places, low, at) {
+    while 0 < at {
+        if is_far(places, low, at) {
+            return at;
+        }
         at -= 1;
     }
     at
