@@ -1,0 +1,2 @@
+pub mod AsExpr
+mod Decorators

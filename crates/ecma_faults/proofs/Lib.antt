@@ -1,0 +1,5 @@
+mod Back
+mod Chars
+mod Columns
+mod Safe
+mod Said
