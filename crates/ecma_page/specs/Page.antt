@@ -1,0 +1,30 @@
+-- The text of a page: HTML Living Standard, "The script element" (section 4.12.1). A block of data is read up to its end tag, so that no `<`
+-- may stand in it.
+use Rattle.std.specs.Prelude.{ℕ, Bool, List, [], ◌∷◌, ◌++◌, ◌==◌, not, if◌then◌else◌, codes}
+use Rattle.std.specs.List.{flat_map}
+use Rattle.ecma_page.specs.declared.page.Page.{Page}
+
+-- A byte of JSON as it stands in a block: 60 is `<`, which JSON has in strings alone, where it may be escaped.
+abbrev pub escaped : ℕ → List ℕ
+escaped b = if b == 60 then codes "\\u003c" else b ∷ []
+
+unfoldable pub safe : List ℕ → List ℕ
+safe json = flat_map escaped json
+
+-- a byte that begins no tag
+abbrev pub is_inside : ℕ → Bool
+is_inside b = not (b == 60)
+
+-- a block of data with its name
+unfoldable pub block : (name json : List ℕ) → List ℕ
+block name json = codes "<script type=\"application/json\" id=\"" ++ (name ++ (codes "\">" ++ (safe json ++ codes "</script>\n")))
+
+-- the data of a page
+unfoldable pub data_text : Page → List ℕ
+data_text p =
+    block (codes "name") p.name.now ++ (block (codes "source") p.source.now
+    ++ (block (codes "tree") p.tree.now ++ block (codes "faults") p.faults.now))
+
+-- a page, between what all pages begin with and the script with which they end
+unfoldable pub page_text : (head script : List ℕ) → Page → List ℕ
+page_text head script p = head ++ (data_text p ++ script)

@@ -1,0 +1,67 @@
+//! A page.
+
+ghost use Rattle.std.specs.Prelude.{◌≡◌, ◌++◌, OnOk};
+ghost use Rattle.ecma_page.specs.Page.{data_text, page_text};
+
+use crate::block::push_block;
+use crate::head::{BODY, HEAD};
+use crate::rows::ROWS;
+use crate::source::SOURCE;
+use crate::style::STYLE;
+use crate::tree::TREE;
+use crate::view::VIEW;
+use std::alloc::AllocError;
+
+/// What a page shows. All of it is JSON (RFC 8259) in UTF-8.
+#[derive(Clone, Copy, Debug)]
+pub struct Page<'a> {
+    /// The name of the file, a string.
+    pub name: &'a [u8],
+    /// The text of the file, a string.
+    pub source: &'a [u8],
+    /// The tree as ESTree; `null`, where there is none.
+    pub tree: &'a [u8],
+    /// The faults, an object a line: `start` and `end` are offsets in code units of UTF-16, `line` and `column` count from 1, and `severity`,
+    /// `kind` and `message` are strings. Another place that a fault speaks of is an object `note` with `start`, `end` and `message`.
+    pub faults: &'a [u8],
+}
+
+/// Writes what all pages begin with.
+fn push_head(out: &mut Vec<u8>) -> Result<(), AllocError>
+    ensures { OnOk result (out.new.items ≡ out.old.items ++ (HEAD.now ++ (STYLE.now ++ BODY.now))) }
+{
+    out.extend_from_slice(HEAD.as_bytes())?;
+    out.extend_from_slice(STYLE.as_bytes())?;
+    out.extend_from_slice(BODY.as_bytes())
+}
+
+/// Writes the data of a page.
+#[tactic(auto, unfolding(crate::specs::Page::data_text))]
+fn push_data(out: &mut Vec<u8>, page: &Page<'_>) -> Result<(), AllocError>
+    ensures { OnOk result (out.new.items ≡ out.old.items ++ data_text page.now) }
+{
+    push_block(out, "name", page.name)?;
+    push_block(out, "source", page.source)?;
+    push_block(out, "tree", page.tree)?;
+    push_block(out, "faults", page.faults)
+}
+
+/// Writes the script, with which all pages end.
+fn push_script(out: &mut Vec<u8>) -> Result<(), AllocError>
+    ensures { OnOk result (out.new.items ≡ out.old.items ++ (ROWS.now ++ (SOURCE.now ++ (TREE.now ++ VIEW.now)))) }
+{
+    out.extend_from_slice(ROWS.as_bytes())?;
+    out.extend_from_slice(SOURCE.as_bytes())?;
+    out.extend_from_slice(TREE.as_bytes())?;
+    out.extend_from_slice(VIEW.as_bytes())
+}
+
+/// Writes a page. It names no address, and no text in it is taken for a tag.
+#[tactic(auto, unfolding(crate::specs::Page::page_text))]
+pub fn push_page(out: &mut Vec<u8>, page: &Page<'_>) -> Result<(), AllocError>
+    ensures { OnOk result (out.new.items ≡ out.old.items ++ page_text (HEAD.now ++ (STYLE.now ++ BODY.now)) (ROWS.now ++ (SOURCE.now ++ (TREE.now ++ VIEW.now))) page.now) }
+{
+    push_head(out)?;
+    push_data(out, page)?;
+    push_script(out)
+}
