@@ -1,6 +1,6 @@
 -- The text of a page: HTML Living Standard, "The script element" (section 4.12.1). A block of data is read up to its end tag, so that no `<`
 -- may stand in it.
-use Rattle.std.specs.Prelude.{ℕ, Bool, List, [], ◌∷◌, ◌++◌, ◌==◌, not, if◌then◌else◌, codes}
+use Rattle.std.specs.Prelude.{ℕ, List, [], ◌∷◌, ◌++◌, ◌==◌, if◌then◌else◌, codes}
 use Rattle.std.specs.List.{flat_map}
 use Rattle.ecma_page.specs.declared.page.Page.{Page}
 
@@ -11,9 +11,10 @@ escaped b = if b == 60 then codes "\\u003c" else b ∷ []
 unfoldable pub safe : List ℕ → List ℕ
 safe json = flat_map escaped json
 
--- a byte that begins no tag
-abbrev pub is_inside : ℕ → Bool
-is_inside b = not (b == 60)
+-- what is read of a block: what stands before the next `<`
+abbrev pub up_to_tag : List ℕ → List ℕ
+up_to_tag [] = []
+up_to_tag (b ∷ bs) = if b == 60 then [] else b ∷ up_to_tag bs
 
 -- a block of data with its name
 unfoldable pub block : (name json : List ℕ) → List ℕ

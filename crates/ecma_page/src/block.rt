@@ -1,7 +1,7 @@
 //! Data in a page.
 
-ghost use Rattle.std.specs.Prelude.{◌≡◌, ◌++◌, ◌∷◌, OnOk, List, ℕ, take_while};
-ghost use Rattle.ecma_page.specs.Page.{block, escaped, is_inside, safe};
+ghost use Rattle.std.specs.Prelude.{◌≡◌, ◌++◌, ◌∷◌, OnOk, List, ℕ};
+ghost use Rattle.ecma_page.specs.Page.{block, escaped, safe, up_to_tag};
 
 use std::alloc::AllocError;
 
@@ -20,7 +20,7 @@ fn push_escaped(out: &mut Vec<u8>, byte: u8) -> Result<(), AllocError>
 #[tactic(auto, using(crate::proofs::Whole::whole), unfolding(crate::specs::Page::safe))]
 fn push_safe(out: &mut Vec<u8>, json: &[u8]) -> Result<(), AllocError>
     ensures value { OnOk result (out.new.items ≡ out.old.items ++ safe json.now) }
-    ensures whole { (rest : List ℕ) → take_while is_inside (safe json.now ++ 60 ∷ rest) ≡ safe json.now }
+    ensures whole { (rest : List ℕ) → up_to_tag (safe json.now ++ 60 ∷ rest) ≡ safe json.now }
 {
     for byte in json {
         push_escaped(out, *byte)?;

@@ -154,7 +154,7 @@ class Source {
         return looks.join(' ');
     }
 
-    // The offset that one points at; -1 beside the text. A caret goes to the nearer side of a character, which may be its end.
+    // The offset that one points at; -1 beside the text.
     offsetAt(event) {
         const piece = event.target.closest('[data-from]');
         if (!piece) return -1;
@@ -162,14 +162,16 @@ class Source {
         const node = piece.firstChild;
         if (!node) return from;
         const range = document.createRange();
-        for (let low = 0, high = node.length; ;) {
+        range.setStart(node, 0);
+        let low = 0;
+        let high = node.length;
+        while (high - low > 1) {
             const middle = (low + high) >> 1;
-            if (high - low <= 1) return from + low;
-            range.setStart(node, 0);
             range.setEnd(node, middle);
             if (range.getBoundingClientRect().right <= event.clientX) low = middle;
             else high = middle;
         }
+        return from + low;
     }
 
     light(start, end) {

@@ -81,6 +81,7 @@ class Tree {
     // Lists all rows anew. The cursor stays with its node, or goes to what it is folded into.
     list() {
         const path = this.entries ? this.pathTo(this.cursor) : [this.root.node];
+        this.lit = -1;
         this.entries = this.unfolded(this.root);
         this.cursor = this.indexOf(this.seenOf(path));
         this.rows.resize(this.entries.length);
@@ -122,6 +123,7 @@ class Tree {
     fold(index, isOpen) {
         const { node, level } = this.entries[index];
         this.folds.set(node, isOpen);
+        this.lit = -1;
         let end = index + 1;
         while (end < this.entries.length && this.entries[end].level > level) end++;
         this.entries = this.entries.slice(0, index).concat(this.unfolded(this.entries[index]), this.entries.slice(end));

@@ -48,6 +48,8 @@ const text = JSON.parse(take('source'));
 const faults = new Faults(find('list'), take('faults').split('\n').filter((line) => line).map((line) => JSON.parse(line)));
 const source = new Source(find('text'), text, faults.faults);
 let tree = null;
+// The offset that one points at.
+let pointed = -1;
 
 // A node in a few words.
 function said(node) {
@@ -77,7 +79,9 @@ function lightAt(offset) {
     if (!tree) return;
     const path = tree.pathAt(offset);
     const node = path[path.length - 1];
-    source.light(node.start, node.end);
+    // Around what is in no statement is the whole, which is not lit up.
+    if (path.length > 1) source.light(node.start, node.end);
+    else source.light(0, 0);
     tree.light(tree.indexOf(tree.seenOf(path)));
     tree.rows.reveal(tree.lit);
     tellPath(path);
@@ -86,6 +90,7 @@ function lightAt(offset) {
 // Lights up a row of the tree, and what it stands for.
 function lightNode(index) {
     const { node } = tree.entries[index];
+    pointed = -1;
     tree.light(index);
     source.light(node.start, node.end);
     source.rows.reveal(source.rowOf(node.start));
@@ -113,7 +118,7 @@ function goToNode(index) {
 }
 
 function unfoldAt(offset) {
-    if (!tree || offset < 0) return;
+    if (!tree) return;
     tree.unfoldTo(tree.pathAt(offset));
     tree.light(tree.cursor);
 }
@@ -160,12 +165,17 @@ function listKey(key, list, go, pane) {
 
 function treeKey(key, pane) {
     const { node, level } = tree.entries[tree.cursor];
+    const isLeaf = tree.partsOf(node).length === 0;
     switch (key) {
-        case 'ArrowRight': return tree.isOpen(node) ? goToNode(tree.cursor + 1) : tree.fold(tree.cursor, true);
+        case 'ArrowRight':
+            if (isLeaf) return undefined;
+            return tree.isOpen(node) ? goToNode(tree.cursor + 1) : tree.fold(tree.cursor, true);
         case 'ArrowLeft':
-            if (tree.isOpen(node) && tree.partsOf(node).length) return tree.fold(tree.cursor, false);
+            if (!isLeaf && tree.isOpen(node)) return tree.fold(tree.cursor, false);
             return goToNode(tree.entries.findLastIndex((entry, index) => index < tree.cursor && entry.level < level));
-        case 'k': return foldKind(node.type, !tree.isOpen(node));
+        case 'k':
+            foldKind(node.type, !tree.isOpen(node));
+            return listKinds();
         case 'Enter':
             goTo(node.start);
             return find('text').focus();
@@ -176,7 +186,6 @@ function treeKey(key, pane) {
 function foldKind(kind, isOpen) {
     tree.foldKind(kind, isOpen);
     tree.rows.reveal(tree.cursor);
-    listKinds();
 }
 
 function keyDown(event) {
@@ -203,7 +212,17 @@ function pointAtSource(event) {
     if (isMarking(event)) return;
     const offset = source.offsetAt(event);
     tellFaults(offset, event.clientX, event.clientY);
-    if (offset >= 0 && offset < text.length) lightAt(offset);
+    if (offset < 0 || offset === pointed) return;
+    pointed = offset;
+    lightAt(offset);
+}
+
+function clickSource(event) {
+    if (isMarking(event)) return;
+    const offset = source.offsetAt(event);
+    if (offset < 0) return;
+    source.moveCaret(offset);
+    unfoldAt(offset);
 }
 
 function clickTree(event) {
@@ -244,7 +263,7 @@ function start() {
     document.addEventListener('keydown', keyDown);
     find('text').addEventListener('pointermove', pointAtSource);
     find('text').addEventListener('pointerleave', () => tellFaults(-1));
-    find('text').addEventListener('click', (event) => unfoldAt(source.offsetAt(event)));
+    find('text').addEventListener('click', clickSource);
     find('nodes').addEventListener('pointermove', (event) => {
         const index = indexAt(event);
         if (tree && index >= 0 && index !== tree.lit) lightNode(index);
