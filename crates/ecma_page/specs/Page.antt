@@ -20,12 +20,11 @@ up_to_tag (b ∷ bs) = if b == 60 then [] else b ∷ up_to_tag bs
 unfoldable pub block : (name json : List ℕ) → List ℕ
 block name json = codes "<script type=\"application/json\" id=\"" ++ (name ++ (codes "\">" ++ (safe json ++ codes "</script>\n")))
 
--- the data of a page
-unfoldable pub data_text : Page → List ℕ
-data_text p =
-    block (codes "name") p.name.now ++ (block (codes "source") p.source.now
-    ++ (block (codes "tree") p.tree.now ++ block (codes "faults") p.faults.now))
+-- what is shown of a text without its tree
+unfoldable pub text_blocks : Page → List ℕ
+text_blocks p =
+    block (codes "name") p.name.now ++ (block (codes "source") p.source.now ++ block (codes "faults") p.faults.now)
 
--- a page, between what all pages begin with and the script with which they end
-unfoldable pub page_text : (head script : List ℕ) → Page → List ℕ
-page_text head script p = head ++ (data_text p ++ script)
+-- A page: what all pages begin with, a text, the script that shows it, the tree, which may be long, and what has it shown.
+unfoldable pub page_text : (head script end : List ℕ) → Page → List ℕ
+page_text head script end p = head ++ (text_blocks p ++ (script ++ (block (codes "tree") p.tree.now ++ end)))

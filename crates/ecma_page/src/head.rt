@@ -1,4 +1,4 @@
-//! What all pages begin with.
+//! What all pages begin and end with.
 
 /// The head, up to the style.
 pub(crate) const HEAD: &str = r#"<!doctype html>
@@ -35,4 +35,12 @@ pub(crate) const BODY: &str = r#"</style>
 <footer id="path" role="status"></footer>
 <div id="box" role="tooltip" hidden></div>
 <noscript>This page is drawn by its own script.</noscript>
+"#;
+
+/// What has the tree shown, and the end of a page.
+pub(crate) const END: &str = r#"<script>
+readTree();
+</script>
+</body>
+</html>
 "#;

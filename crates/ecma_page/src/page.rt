@@ -1,10 +1,10 @@
 //! A page.
 
 ghost use Rattle.std.specs.Prelude.{◌≡◌, ◌++◌, OnOk};
-ghost use Rattle.ecma_page.specs.Page.{data_text, page_text};
+ghost use Rattle.ecma_page.specs.Page.{page_text, text_blocks};
 
 use crate::block::push_block;
-use crate::head::{BODY, HEAD};
+use crate::head::{BODY, END, HEAD};
 use crate::rows::ROWS;
 use crate::source::SOURCE;
 use crate::style::STYLE;
@@ -35,18 +35,17 @@ fn push_head(out: &mut Vec<u8>) -> Result<(), AllocError>
     out.extend_from_slice(BODY.as_bytes())
 }
 
-/// Writes the data of a page.
-#[tactic(auto, unfolding(crate::specs::Page::data_text))]
-fn push_data(out: &mut Vec<u8>, page: &Page<'_>) -> Result<(), AllocError>
-    ensures { OnOk result (out.new.items ≡ out.old.items ++ data_text page.now) }
+/// Writes what is shown of a text without its tree.
+#[tactic(auto, unfolding(crate::specs::Page::text_blocks))]
+fn push_text(out: &mut Vec<u8>, page: &Page<'_>) -> Result<(), AllocError>
+    ensures { OnOk result (out.new.items ≡ out.old.items ++ text_blocks page.now) }
 {
     push_block(out, "name", page.name)?;
     push_block(out, "source", page.source)?;
-    push_block(out, "tree", page.tree)?;
     push_block(out, "faults", page.faults)
 }
 
-/// Writes the script, with which all pages end.
+/// Writes the script.
 fn push_script(out: &mut Vec<u8>) -> Result<(), AllocError>
     ensures { OnOk result (out.new.items ≡ out.old.items ++ (ROWS.now ++ (SOURCE.now ++ (TREE.now ++ VIEW.now)))) }
 {
@@ -59,9 +58,12 @@ fn push_script(out: &mut Vec<u8>) -> Result<(), AllocError>
 /// Writes a page. It names no address, and no text in it is taken for a tag.
 #[tactic(auto, unfolding(crate::specs::Page::page_text))]
 pub fn push_page(out: &mut Vec<u8>, page: &Page<'_>) -> Result<(), AllocError>
-    ensures { OnOk result (out.new.items ≡ out.old.items ++ page_text (HEAD.now ++ (STYLE.now ++ BODY.now)) (ROWS.now ++ (SOURCE.now ++ (TREE.now ++ VIEW.now))) page.now) }
+    ensures { OnOk result (out.new.items ≡ out.old.items ++ page_text (HEAD.now ++ (STYLE.now ++ BODY.now))
+        (ROWS.now ++ (SOURCE.now ++ (TREE.now ++ VIEW.now))) END.now page.now) }
 {
     push_head(out)?;
-    push_data(out, page)?;
-    push_script(out)
+    push_text(out, page)?;
+    push_script(out)?;
+    push_block(out, "tree", page.tree)?;
+    out.extend_from_slice(END.as_bytes())
 }

@@ -1,4 +1,4 @@
-//! The last part of the script: what one does, and the end of a page.
+//! The last part of the script: what one does.
 
 /// Reads the blocks of data, and answers the pointer and the keys.
 pub(crate) const VIEW: &str = r#"
@@ -249,6 +249,7 @@ function listKinds() {
     }));
 }
 
+// Shows the tree. The page has it behind this script, so that a long one does not keep the text waiting.
 function readTree() {
     const root = JSON.parse(take('tree'));
     if (root) tree = new Tree(find('nodes'), root);
@@ -271,12 +272,8 @@ function start() {
     find('nodes').addEventListener('click', clickTree);
     find('list').addEventListener('click', (event) => indexAt(event) >= 0 && goToFault(indexAt(event)));
     find('kinds').addEventListener('toggle', listKinds);
-    // The source is painted first: the tree takes longer.
-    setTimeout(readTree, 50);
 }
 
 start();
 </script>
-</body>
-</html>
 "#;
