@@ -2,6 +2,7 @@
 -- may stand in it.
 use Rattle.std.specs.Prelude.{ℕ, List, [], ◌∷◌, ◌++◌, ◌==◌, if◌then◌else◌, codes}
 use Rattle.std.specs.List.{flat_map}
+use Rattle.ecma_page.specs.declared.frame.Frame.{Frame}
 use Rattle.ecma_page.specs.declared.page.Page.{Page}
 
 -- A byte of JSON as it stands in a block: 60 is `<`, which JSON has in strings alone, where it may be escaped.
@@ -25,6 +26,12 @@ unfoldable pub text_blocks : Page → List ℕ
 text_blocks p =
     block (codes "name") p.name.now ++ (block (codes "source") p.source.now ++ block (codes "faults") p.faults.now)
 
--- A page: what all pages begin with, a text, the script that shows it, the tree, which may be long, and what has it shown.
-unfoldable pub page_text : (head script end : List ℕ) → Page → List ℕ
-page_text head script end p = head ++ (text_blocks p ++ (script ++ (block (codes "tree") p.tree.now ++ end)))
+unfoldable pub head_text : Frame → List ℕ
+head_text f = f.head.now ++ (f.style.now ++ f.body.now)
+
+unfoldable pub script_text : Frame → List ℕ
+script_text f = f.rows.now ++ (f.source.now ++ (f.tree.now ++ f.view.now))
+
+-- A page: a text, the script that shows it, the tree, which may be long, and what has it shown.
+unfoldable pub page_text : Frame → Page → List ℕ
+page_text f p = head_text f ++ (text_blocks p ++ (script_text f ++ (block (codes "tree") p.tree.now ++ f.end.now)))

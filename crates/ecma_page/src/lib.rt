@@ -2,6 +2,7 @@
 #![tactic(auto)]
 
 mod block;
+mod frame;
 mod head;
 mod page;
 mod rows;
@@ -10,4 +11,5 @@ mod style;
 mod tree;
 mod view;
 
+pub use frame::{FRAME, Frame};
 pub use page::{Page, push_page};

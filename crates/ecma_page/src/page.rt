@@ -4,12 +4,7 @@ ghost use Rattle.std.specs.Prelude.{◌≡◌, ◌++◌, OnOk};
 ghost use Rattle.ecma_page.specs.Page.{page_text, text_blocks};
 
 use crate::block::push_block;
-use crate::head::{BODY, END, HEAD};
-use crate::rows::ROWS;
-use crate::source::SOURCE;
-use crate::style::STYLE;
-use crate::tree::TREE;
-use crate::view::VIEW;
+use crate::frame::{FRAME, Frame, push_head, push_script};
 use std::alloc::AllocError;
 
 /// What a page shows. All of it is JSON (RFC 8259) in UTF-8.
@@ -26,15 +21,6 @@ pub struct Page<'a> {
     pub faults: &'a [u8],
 }
 
-/// Writes what all pages begin with.
-fn push_head(out: &mut Vec<u8>) -> Result<(), AllocError>
-    ensures { OnOk result (out.new.items ≡ out.old.items ++ (HEAD.now ++ (STYLE.now ++ BODY.now))) }
-{
-    out.extend_from_slice(HEAD.as_bytes())?;
-    out.extend_from_slice(STYLE.as_bytes())?;
-    out.extend_from_slice(BODY.as_bytes())
-}
-
 /// Writes what is shown of a text without its tree.
 #[tactic(auto, unfolding(crate::specs::Page::text_blocks))]
 fn push_text(out: &mut Vec<u8>, page: &Page<'_>) -> Result<(), AllocError>
@@ -45,25 +31,21 @@ fn push_text(out: &mut Vec<u8>, page: &Page<'_>) -> Result<(), AllocError>
     push_block(out, "faults", page.faults)
 }
 
-/// Writes the script.
-fn push_script(out: &mut Vec<u8>) -> Result<(), AllocError>
-    ensures { OnOk result (out.new.items ≡ out.old.items ++ (ROWS.now ++ (SOURCE.now ++ (TREE.now ++ VIEW.now)))) }
+/// Writes a page in a frame.
+#[tactic(auto, unfolding(crate::specs::Page::page_text))]
+fn push_framed(out: &mut Vec<u8>, frame: &Frame, page: &Page<'_>) -> Result<(), AllocError>
+    ensures { OnOk result (out.new.items ≡ out.old.items ++ page_text frame.now page.now) }
 {
-    out.extend_from_slice(ROWS.as_bytes())?;
-    out.extend_from_slice(SOURCE.as_bytes())?;
-    out.extend_from_slice(TREE.as_bytes())?;
-    out.extend_from_slice(VIEW.as_bytes())
+    push_head(out, frame)?;
+    push_text(out, page)?;
+    push_script(out, frame)?;
+    push_block(out, "tree", page.tree)?;
+    out.extend_from_slice(frame.end.as_bytes())
 }
 
 /// Writes a page. It names no address, and no text in it is taken for a tag.
-#[tactic(auto, unfolding(crate::specs::Page::page_text))]
 pub fn push_page(out: &mut Vec<u8>, page: &Page<'_>) -> Result<(), AllocError>
-    ensures { OnOk result (out.new.items ≡ out.old.items ++ page_text (HEAD.now ++ (STYLE.now ++ BODY.now))
-        (ROWS.now ++ (SOURCE.now ++ (TREE.now ++ VIEW.now))) END.now page.now) }
+    ensures { OnOk result (out.new.items ≡ out.old.items ++ page_text FRAME page.now) }
 {
-    push_head(out)?;
-    push_text(out, page)?;
-    push_script(out)?;
-    push_block(out, "tree", page.tree)?;
-    out.extend_from_slice(END.as_bytes())
+    push_framed(out, &FRAME, page)
 }
