@@ -154,6 +154,7 @@ fn a_page(rt: HostRuntime) -> Result<(), Fail> {
     for (text, data, end) in rows {
         let words = ["--format", "html", "--ranges", "--tokens"];
         let found = printed(&rt, &words, text.as_bytes(), false, 100_000)?;
+        let found = found.as_str();
         assert!(rt; found.starts_with("<!doctype html>\n"), "{text:?}");
         assert!(rt; found.contains(data), "{text:?}");
         assert!(rt; found.ends_with(end), "{text:?}");
