@@ -5,7 +5,7 @@ ghost use Rattle.std.specs.Prelude.{◌<◌, ◌^◌, length};
 use crate::command::Options;
 use crate::tree::{Tree, write};
 use ecma_estree_text::{Extras, push_quoted};
-use ecma_page::{Page, push_page};
+use ecma_page::{FRAME, Page, push_page};
 use std::alloc::{AllocError, Global};
 
 /// A page of a text, with its tree and its faults as JSON.
@@ -27,7 +27,7 @@ pub fn page_of(
         tree,
         faults,
     };
-    push_page(&mut out, &page)?;
+    push_page(&mut out, &FRAME, &page)?;
     Ok(out)
 }
 

@@ -27,7 +27,7 @@ pub struct Frame {
     pub(crate) end: &'static str,
 }
 
-/// That of this crate.
+/// The frame of this crate. It names no address.
 pub const FRAME: Frame = Frame {
     head: HEAD,
     style: STYLE,

@@ -4,7 +4,7 @@ ghost use Rattle.std.specs.Prelude.{◌≡◌, ◌++◌, OnOk};
 ghost use Rattle.ecma_page.specs.Page.{page_text, text_blocks};
 
 use crate::block::push_block;
-use crate::frame::{FRAME, Frame, push_head, push_script};
+use crate::frame::{Frame, push_head, push_script};
 use std::alloc::AllocError;
 
 /// What a page shows. All of it is JSON (RFC 8259) in UTF-8.
@@ -31,9 +31,9 @@ fn push_text(out: &mut Vec<u8>, page: &Page<'_>) -> Result<(), AllocError>
     push_block(out, "faults", page.faults)
 }
 
-/// Writes a page in a frame.
+/// Writes a page: `frame` is what all pages have, as `FRAME`. No text in the data is taken for a tag.
 #[tactic(auto, unfolding(crate::specs::Page::page_text))]
-fn push_framed(out: &mut Vec<u8>, frame: &Frame, page: &Page<'_>) -> Result<(), AllocError>
+pub fn push_page(out: &mut Vec<u8>, frame: &Frame, page: &Page<'_>) -> Result<(), AllocError>
     ensures { OnOk result (out.new.items ≡ out.old.items ++ page_text frame.now page.now) }
 {
     push_head(out, frame)?;
@@ -41,11 +41,4 @@ fn push_framed(out: &mut Vec<u8>, frame: &Frame, page: &Page<'_>) -> Result<(), 
     push_script(out, frame)?;
     push_block(out, "tree", page.tree)?;
     out.extend_from_slice(frame.end.as_bytes())
-}
-
-/// Writes a page. It names no address, and no text in it is taken for a tag.
-pub fn push_page(out: &mut Vec<u8>, page: &Page<'_>) -> Result<(), AllocError>
-    ensures { OnOk result (out.new.items ≡ out.old.items ++ page_text FRAME page.now) }
-{
-    push_framed(out, &FRAME, page)
 }
