@@ -15,9 +15,10 @@ use Rattle.ecma_check.specs.declared.command.Format.TheVariants as format
 abbrev pub lined : List ℕ → Placed
 lined text = record { text = text; has_locations = true; has_ranges = false }
 
--- a fault in a format: beside a tree as text
+-- a fault in a format: beside a tree as text, in a page as JSON
 abbrev pub fault_in : Format → Placed → (file word : List ℕ) → Error → List ℕ
 fault_in format.Json p file word e = fault_json p file word e (note_of e.kind)
+fault_in format.Html p file word e = fault_json p file word e (note_of e.kind)
 fault_in format.Text p file word e = fault_text p file word e (note_of e.kind)
 fault_in format.Estree p file word e = fault_text p file word e (note_of e.kind)
 

@@ -5,6 +5,7 @@ ghost use Rattle.ecma_check.specs.Told.{fault_in, faults_in, lined, outcome_of, 
 
 use crate::command::{Format, Options};
 use crate::fault::Fault;
+use crate::page::{page_of, page_of_tree};
 use crate::tree::{Tree, lexer_of, parse, write};
 use ecma_estree_text::{Extras, Places};
 use ecma_faults::{note_of, push_json, push_text};
@@ -50,7 +51,7 @@ fn push_fault(
 {
     let note = note_of(&error.kind);
     match format {
-        Format::Json => push_json(out, file, places, word, error, note),
+        Format::Json | Format::Html => push_json(out, file, places, word, error, note),
         Format::Text | Format::Estree => push_text(out, file, places, word, error, note),
     }
 }
@@ -157,6 +158,10 @@ fn of_tree(
             out.push(b'\n')?;
             Ok(Printed { out, notes: told })
         }
+        Format::Html => Ok(Printed {
+            out: page_of_tree(alloc, options, file, text, tree, told.as_slice())?,
+            notes: Vec::new(alloc),
+        }),
     }
 }
 
@@ -183,6 +188,10 @@ fn of_refusal(
         Format::Estree => Ok(Printed {
             out: Vec::new(alloc),
             notes: told,
+        }),
+        Format::Html => Ok(Printed {
+            out: page_of(alloc, file, text, b"null", told.as_slice())?,
+            notes: Vec::new(alloc),
         }),
     }
 }

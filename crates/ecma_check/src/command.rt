@@ -22,6 +22,8 @@ pub enum Format {
     Json,
     /// The tree.
     Estree,
+    /// A page that shows the text, its faults and its tree.
+    Html,
 }
 
 /// What is asked for, but for the files.
@@ -40,7 +42,7 @@ pub struct Options {
 }
 
 /// The formats.
-static FORMATS: [&str; 3] = ["text", "json", "estree"];
+static FORMATS: [&str; 4] = ["text", "json", "estree", "html"];
 
 /// What can be enabled.
 static FLAGS: [&str; 7] = [
@@ -168,6 +170,7 @@ fn format_of(matches: &ArgMatches<'_>) -> Format {
     match matches.get_str("format") {
         Some("json") => Format::Json,
         Some("estree") => Format::Estree,
+        Some("html") => Format::Html,
         _ => Format::Text,
     }
 }

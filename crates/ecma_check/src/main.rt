@@ -4,6 +4,7 @@
 mod check;
 mod command;
 mod fault;
+mod page;
 mod run;
 #[cfg(test)]
 mod tests;

@@ -213,7 +213,8 @@ fn run_files<R: Files + AllocGlobal, I: Read, W: Write, E: Write>(
 ) -> u8
     ensures { result ≤ 3 }
 {
-    if options.format == Format::Estree && files.len() != 1 {
+    let is_of_one_file = matches!(&options.format, Format::Estree | Format::Html);
+    if is_of_one_file && files.len() != 1 {
         let _ = writeln!(errors, "ecma-check: a tree is written of one file");
         return 3;
     }

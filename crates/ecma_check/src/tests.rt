@@ -138,6 +138,31 @@ fn a_tree_with_all_its_extras(rt: HostRuntime) -> Result<(), Fail> {
 }
 
 #[test]
+fn a_page(rt: HostRuntime) -> Result<(), Fail> {
+    let rows = [
+        (
+            "'</script>\u{2028}'",
+            "<script type=\"application/json\" id=\"name\">\"-\"</script>\n<script type=\"application/json\" id=\"source\">\"'\\u003c/script>\u{2028}'\"</script>\n<script type=\"application/json\" id=\"faults\"></script>\n<script>\n'use strict';\n",
+            "</script>\n<script type=\"application/json\" id=\"tree\">{\"type\":\"Program\",\"start\":0,\"end\":12,\"body\":[{\"type\":\"ExpressionStatement\",\"start\":0,\"end\":12,\"expression\":{\"type\":\"Literal\",\"start\":0,\"end\":12,\"value\":\"\\u003c/script>\u{2028}\",\"raw\":\"'\\u003c/script>\u{2028}'\"},\"directive\":\"\\u003c/script>\u{2028}\"}],\"sourceType\":\"script\"}</script>\n<script>\nreadTree();\n</script>\n</body>\n</html>\n||0",
+        ),
+        (
+            "a '<",
+            "<script type=\"application/json\" id=\"source\">\"a '\\u003c\"</script>\n<script type=\"application/json\" id=\"faults\">{\"file\":\"-\",\"severity\":\"refused\",",
+            "</script>\n<script type=\"application/json\" id=\"tree\">null</script>\n<script>\nreadTree();\n</script>\n</body>\n</html>\n||2",
+        ),
+    ];
+    for (text, data, end) in rows {
+        let words = ["--format", "html", "--ranges", "--tokens"];
+        let found = printed(&rt, &words, text.as_bytes(), false, 100_000)?;
+        let found = found.as_str();
+        assert!(rt; found.starts_with("<!doctype html>\n"), "{text:?}");
+        assert!(rt; found.contains(data), "{text:?}");
+        assert!(rt; found.ends_with(end), "{text:?}");
+    }
+    Ok(())
+}
+
+#[test]
 fn what_fails(rt: HostRuntime) -> Result<(), Fail> {
     let found = printed(&rt, &[], b"a", true, 1000)?;
     assert_eq!(rt;
