@@ -1,6 +1,7 @@
 //! Members and calls.
 
-ghost use Rattle.std.specs.Prelude.{◌≡◌, map, OnOk};
+ghost use Rattle.std.specs.Prelude.{◌≡◌, ◌++◌, codes, false, map, OnOk};
+ghost use Rattle.ecma_estree_writer.specs.Parts.{key, bool_field, end, open_list, end_list};
 ghost use Rattle.ecma_estree_writer.specs.Estree.{json, plain, argument, arguments_text};
 ghost use Rattle.ecma_estree_writer.specs.Writing.{Pushes, Writes};
 ghost use Rattle.swc_ecma_parser_ast.specs.Parts.{view_option};
@@ -72,6 +73,18 @@ pub fn write_super_member<'a>(w: &mut Writer<'a>, x: &'a SuperPropExpr) -> Resul
     }
 }
 
+/// Has the arguments of a call written, with what stands around them behind what is called.
+fn push_arguments<'a>(w: &mut Writer<'a>, args: &'a [ExprOrSpread]) -> Result<(), AllocError>
+    ensures { OnOk result (Pushes w.old w.new (key (codes "arguments") ++ (open_list ++ (json w.old.source plain (listed (map view_expr_or_spread args.now)) ++ (end_list ++ (bool_field (codes "optional") false ++ end)))))) }
+{
+    w.push(Work::End)?;
+    w.push(Work::Bool("optional", false))?;
+    w.push(Work::EndList)?;
+    w.push(Work::Arguments(args, true))?;
+    w.push(Work::OpenList)?;
+    w.push(Work::Key("arguments"))
+}
+
 /// Writes a call.
 #[tactic(auto, using(crate::proofs::AsExpr::call_of_expr, ecma_estree_writer::proofs::Written::appended_on_ok))]
 pub fn write_call<'a>(w: &mut Writer<'a>, x: &'a CallExpr) -> Result<(), AllocError>
@@ -82,12 +95,7 @@ pub fn write_call<'a>(w: &mut Writer<'a>, x: &'a CallExpr) -> Result<(), AllocEr
     }
     w.open("CallExpression", x.span)?;
     w.key("callee")?;
-    w.push(Work::End)?;
-    w.push(Work::Bool("optional", false))?;
-    w.push(Work::EndList)?;
-    w.push(Work::Arguments(x.args.as_slice(), true))?;
-    w.push(Work::OpenList)?;
-    w.push(Work::Key("arguments"))?;
+    push_arguments(w, x.args.as_slice())?;
     match &x.callee {
         Callee::Super(callee) => w.leaf("Super", callee.span),
         Callee::Import(callee) => w.leaf("Import", callee.span),

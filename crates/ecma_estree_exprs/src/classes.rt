@@ -1,11 +1,11 @@
 //! Classes.
 
 ghost use Rattle.std.specs.Prelude.{◌≡◌, ◌++◌, codes, map, OnOk};
-ghost use Rattle.ecma_estree_writer.specs.Parts.{node_at, key, end, open_list};
-ghost use Rattle.ecma_estree_writer.specs.Estree.{json, plain, class, end_of, end_of_optional, class_rest};
-ghost use Rattle.ecma_estree_writer.specs.Writing.{Appends, Writes};
+ghost use Rattle.ecma_estree_writer.specs.Parts.{node_at, key, end, open_list, end_list};
+ghost use Rattle.ecma_estree_writer.specs.Estree.{json, plain, members, class, end_of, end_of_optional, class_rest};
+ghost use Rattle.ecma_estree_writer.specs.Writing.{Appends, Pushes, Writes};
 ghost use Rattle.swc_ecma_parser_ast.specs.Parts.{view_option};
-ghost use Rattle.swc_ecma_parser_ast.specs.View.{view_class, view_decorator, view_ident};
+ghost use Rattle.swc_ecma_parser_ast.specs.View.{view_class, view_class_member, view_decorator, view_ident};
 ghost use Rattle.swc_ecma_parser_model.specs.Tree.{listed};
 ghost use Rattle.ecma_estree_writer.specs.Parts as parts;
 ghost use Rattle.ecma_estree_writer.specs.Estree as estree;
@@ -56,6 +56,17 @@ fn brace(w: &Writer<'_>, x: &Class, name_end: usize) -> usize
     w.find(b'{', expr_end(&x.super_class).max(name_end.max(start)))
 }
 
+/// Has the body of a class written, from its brace on.
+fn push_class_body<'a>(w: &mut Writer<'a>, x: &'a Class, start: usize) -> Result<(), AllocError>
+    ensures { OnOk result (Pushes w.old w.new (key (codes "body") ++ (node_at w.old.source (codes "ClassBody") start x.now.span.hi.0 ++ (key (codes "body") ++ (open_list ++ (json w.old.source members (listed (map view_class_member x.now.body.items)) ++ (end_list ++ end))))))) }
+{
+    w.push(Work::End)?;
+    w.push(Work::EndList)?;
+    w.push(Work::Members(x.body.as_slice(), true))?;
+    w.push(Work::ClassBody(start, x.span.hi.0 as usize))?;
+    w.push(Work::Key("body"))
+}
+
 /// Has what a class has behind its name written.
 fn write_rest<'a>(w: &mut Writer<'a>, x: &'a Class, name_end: usize) -> Result<(), AllocError>
     ensures { OnOk result (Writes w.old w.new (class_rest w.old.source name_end (view_class x.now))) }
@@ -64,11 +75,7 @@ fn write_rest<'a>(w: &mut Writer<'a>, x: &'a Class, name_end: usize) -> Result<(
     w.key("superClass")?;
     w.push(Work::End)?;
     push_decorators(w, x.decorators.as_slice())?;
-    w.push(Work::End)?;
-    w.push(Work::EndList)?;
-    w.push(Work::Members(x.body.as_slice(), true))?;
-    w.push(Work::ClassBody(start, x.span.hi.0 as usize))?;
-    w.push(Work::Key("body"))?;
+    push_class_body(w, x, start)?;
     push_optional(w, &x.super_class)
 }
 

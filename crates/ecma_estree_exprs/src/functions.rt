@@ -62,6 +62,19 @@ pub fn write_accessor(w: &mut Writer<'_>, start: usize, end: usize) -> Result<()
     w.list_key("params")
 }
 
+/// Has the body of a function written, with what stands around it behind the parameters.
+pub fn push_rest_of_function<'a>(
+    w: &mut Writer<'a>,
+    body: &'a Option<BlockStmt>,
+) -> Result<(), AllocError>
+    ensures { OnOk result (Pushes w.old w.new (end_list ++ (key (codes "body") ++ (json w.old.source directives (view_option view_block_stmt body.now) ++ end)))) }
+{
+    w.push(Work::End)?;
+    push_body(w, body)?;
+    w.push(Work::Key("body"))?;
+    w.push(Work::EndList)
+}
+
 /// Writes what a function has behind its name.
 fn write_rest<'a>(w: &mut Writer<'a>, x: &'a Function) -> Result<(), AllocError>
     ensures { OnOk result (Writes w.old w.new (function_rest w.old.source (view_function x.now))) }
@@ -70,10 +83,7 @@ fn write_rest<'a>(w: &mut Writer<'a>, x: &'a Function) -> Result<(), AllocError>
     w.flag("generator", x.is_generator)?;
     w.flag("async", x.is_async)?;
     w.list_key("params")?;
-    w.push(Work::End)?;
-    push_body(w, &x.body)?;
-    w.push(Work::Key("body"))?;
-    w.push(Work::EndList)?;
+    push_rest_of_function(w, &x.body)?;
     w.push(Work::Params(x.params.as_slice(), true))
 }
 
@@ -115,6 +125,19 @@ pub fn write_function_decl<'a>(w: &mut Writer<'a>, x: &'a FnDecl) -> Result<(), 
     write_rest(w, &x.function)
 }
 
+/// Writes how an arrow function begins, up to its parameters.
+fn open_arrow(w: &mut Writer<'_>, x: &ArrowExpr, is_expression: bool) -> Result<(), AllocError>
+    ensures { OnOk result (Appends w.old w.new (node w.old.source (codes "ArrowFunctionExpression") x.now.span ++ (function_fields nothing is_expression false x.now.is_async ++ (key (codes "params") ++ open_list)))) }
+{
+    w.open("ArrowFunctionExpression", x.span)?;
+    w.key("id")?;
+    w.nothing()?;
+    w.flag("expression", is_expression)?;
+    w.flag("generator", false)?;
+    w.flag("async", x.is_async)?;
+    w.list_key("params")
+}
+
 /// Writes an arrow function with its body.
 fn write_arrow_with<'a>(
     w: &mut Writer<'a>,
@@ -125,13 +148,7 @@ fn write_arrow_with<'a>(
     ensures { OnOk result (Writes w.old w.new (node w.old.source (codes "ArrowFunctionExpression") x.now.span ++ (function_fields nothing is_expression false x.now.is_async
         ++ (key (codes "params") ++ (open_list ++ (json w.old.source plain (listed (map view_pat x.now.params.items)) ++ (end_list ++ (key (codes "body") ++ (work_text w.old.source body.entry ++ end))))))))) }
 {
-    w.open("ArrowFunctionExpression", x.span)?;
-    w.key("id")?;
-    w.nothing()?;
-    w.flag("expression", is_expression)?;
-    w.flag("generator", false)?;
-    w.flag("async", x.is_async)?;
-    w.list_key("params")?;
+    open_arrow(w, x, is_expression)?;
     w.push(Work::End)?;
     w.push(body)?;
     w.push(Work::Key("body"))?;

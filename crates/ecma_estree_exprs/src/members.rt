@@ -8,7 +8,7 @@ ghost use Rattle.swc_ecma_parser_ast.specs.Parts.{view_option};
 ghost use Rattle.swc_ecma_parser_ast.specs.View.{view_auto_accessor, view_class_member, view_class_method, view_class_prop, view_constructor, view_decorator, view_private_method, view_private_prop, view_static_block};
 ghost use Rattle.swc_ecma_parser_model.specs.Tree.{listed};
 
-use crate::functions::{method_start, push_accessor, push_body, push_decorators};
+use crate::functions::{method_start, push_accessor, push_decorators, push_rest_of_function};
 use crate::objects::{is_computed, write_prop_name};
 use crate::operators::push_optional;
 use ecma_estree_writer::{Work, Writer, method_word, write_private_name};
@@ -57,10 +57,7 @@ fn write_constructor<'a>(w: &mut Writer<'a>, x: &'a Constructor) -> Result<(), A
 {
     open_member(w, "MethodDefinition", x.span, false, is_computed(&x.key))?;
     w.push(Work::End)?;
-    w.push(Work::End)?;
-    push_body(w, &x.body)?;
-    w.push(Work::Key("body"))?;
-    w.push(Work::EndList)?;
+    push_rest_of_function(w, &x.body)?;
     w.push(Work::ConstructorParams(x.params.as_slice(), true))?;
     push_accessor(w, &x.key, x.span)?;
     w.push(Work::Word("kind", "constructor"))?;

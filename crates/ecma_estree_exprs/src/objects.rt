@@ -1,14 +1,14 @@
 //! Arrays and objects.
 
 ghost use Rattle.std.specs.Prelude.{◌≡◌, ◌++◌, codes, OnOk};
-ghost use Rattle.ecma_estree_writer.specs.Parts.{key};
+ghost use Rattle.ecma_estree_writer.specs.Parts.{node, key};
 ghost use Rattle.ecma_estree_writer.specs.Estree.{json, plain, attributes, property};
 ghost use Rattle.ecma_estree_writer.specs.Writing.{Appends, Writes};
-ghost use Rattle.swc_ecma_parser_ast.specs.View.{view_array_lit, view_assign_prop, view_getter_prop, view_key_value_prop, view_method_prop, view_object_lit, view_prop, view_prop_name, view_prop_or_spread, view_setter_prop, view_spread_element};
+ghost use Rattle.swc_ecma_parser_ast.specs.View.{view_array_lit, view_assign_prop, view_getter_prop, view_ident, view_key_value_prop, view_method_prop, view_object_lit, view_prop, view_prop_name, view_prop_or_spread, view_setter_prop, view_spread_element};
 ghost use Rattle.swc_ecma_parser_model.specs.Tree.{shorthand_prop};
 ghost use Rattle.swc_ecma_parser_model.specs.Kinds as kinds;
 
-use crate::functions::{method_start, push_accessor, push_body};
+use crate::functions::{method_start, push_accessor, push_rest_of_function};
 use ecma_estree_writer::{Work, Writer, write_big_int, write_name, write_number, write_str};
 use std::alloc::AllocError;
 use swc_ecma_parser_ast::{
@@ -161,6 +161,16 @@ pub fn write_attribute<'a>(w: &mut Writer<'a>, part: &'a PropOrSpread) -> Result
     write_prop_name(w, &x.key)
 }
 
+/// Writes how a name with a default begins, up to the default.
+fn open_default(w: &mut Writer<'_>, x: &AssignProp) -> Result<(), AllocError>
+    ensures { OnOk result (Appends w.old w.new (node w.old.source (codes "AssignmentPattern") x.now.span ++ (key (codes "left") ++ (json w.old.source plain (view_ident x.now.key) ++ key (codes "right"))))) }
+{
+    w.open("AssignmentPattern", x.span)?;
+    w.key("left")?;
+    write_name(w, &x.key)?;
+    w.key("right")
+}
+
 /// Writes a name with a default.
 fn write_assign_prop<'a>(w: &mut Writer<'a>, x: &'a AssignProp) -> Result<(), AllocError>
     ensures { OnOk result (Writes w.old w.new (json w.old.source plain (view_assign_prop x.now))) }
@@ -168,10 +178,7 @@ fn write_assign_prop<'a>(w: &mut Writer<'a>, x: &'a AssignProp) -> Result<(), Al
     open_property(w, x.span, false, true, false)?;
     write_name(w, &x.key)?;
     w.key("value")?;
-    w.open("AssignmentPattern", x.span)?;
-    w.key("left")?;
-    write_name(w, &x.key)?;
-    w.key("right")?;
+    open_default(w, x)?;
     w.push(Work::End)?;
     w.push(Work::Word("kind", "init"))?;
     w.push(Work::End)?;
@@ -185,10 +192,7 @@ fn write_getter<'a>(w: &mut Writer<'a>, x: &'a GetterProp) -> Result<(), AllocEr
     open_property(w, x.span, false, false, is_computed(&x.key))?;
     w.push(Work::End)?;
     w.push(Work::Word("kind", "get"))?;
-    w.push(Work::End)?;
-    push_body(w, &x.body)?;
-    w.push(Work::Key("body"))?;
-    w.push(Work::EndList)?;
+    push_rest_of_function(w, &x.body)?;
     push_accessor(w, &x.key, x.span)?;
     write_prop_name(w, &x.key)
 }
@@ -200,10 +204,7 @@ fn write_setter<'a>(w: &mut Writer<'a>, x: &'a SetterProp) -> Result<(), AllocEr
     open_property(w, x.span, false, false, is_computed(&x.key))?;
     w.push(Work::End)?;
     w.push(Work::Word("kind", "set"))?;
-    w.push(Work::End)?;
-    push_body(w, &x.body)?;
-    w.push(Work::Key("body"))?;
-    w.push(Work::EndList)?;
+    push_rest_of_function(w, &x.body)?;
     w.push(Work::Pattern(&x.param))?;
     push_accessor(w, &x.key, x.span)?;
     write_prop_name(w, &x.key)

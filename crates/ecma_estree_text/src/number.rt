@@ -29,6 +29,13 @@ fn radix(bytes: &[u8]) -> Option<u64>
     }
 }
 
+/// Whether a byte stands in numbers: a letter, a digit or a sign.
+fn is_numeral(byte: u8) -> bool
+    ensures { result ≡ number.is_numeral byte }
+{
+    matches!(byte, b'0'..=b'9' | b'a'..=b'z' | b'A'..=b'Z' | b'+' | b'-')
+}
+
 /// The value of a digit.
 fn digit(byte: u8) -> u64
     ensures { result ≡ digit_value byte }
@@ -104,7 +111,9 @@ fn push_decimal_byte(out: &mut Vec<u8>, is_behind_point: bool, byte: u8) -> Resu
         out.push(byte)?;
         return Ok(());
     }
-    out.push(byte)?;
+    if is_numeral(byte) {
+        out.push(byte)?;
+    }
     Ok(())
 }
 
@@ -140,7 +149,9 @@ fn push_bare_byte(out: &mut Vec<u8>, byte: u8) -> Result<(), AllocError>
     if byte == b'_' || byte == b'n' {
         return Ok(());
     }
-    out.push(byte)?;
+    if is_numeral(byte) {
+        out.push(byte)?;
+    }
     Ok(())
 }
 

@@ -38,37 +38,37 @@ pub data Role : Type 0 where
   -- a class of a kind and with a name, which ends at a place if there is one
   class : (kind name : List ℕ) → (name_end : ℕ) → Role
 
-abbrev is_bare : Role → Bool
+abbrev pub is_bare : Role → Bool
 is_bare bare = true
 is_bare _ = false
 
-abbrev is_attributes : Role → Bool
+abbrev pub is_attributes : Role → Bool
 is_attributes attributes = true
 is_attributes _ = false
 
-abbrev is_directives : Role → Bool
+abbrev pub is_directives : Role → Bool
 is_directives directives = true
 is_directives _ = false
 
-abbrev function_kind : Role → List ℕ
+abbrev pub function_kind : Role → List ℕ
 function_kind declared = codes "FunctionDeclaration"
 function_kind _ = codes "FunctionExpression"
 
-abbrev class_kind : Role → List ℕ
+abbrev pub class_kind : Role → List ℕ
 class_kind declared = codes "ClassDeclaration"
 class_kind _ = codes "ClassExpression"
 
-abbrev is_zero : ℕ → Bool
+abbrev pub is_zero : ℕ → Bool
 is_zero zero = true
 is_zero (suc n) = false
 
 -- what is no part of the list that is written
-abbrev skips : Role → Tree → Bool
+abbrev pub skips : Role → Tree → Bool
 skips members x = is_empty_member x
 skips _ x = false
 
 -- what a part of a list and the parts behind it are written as
-abbrev next : Role → Tree → Role
+abbrev pub next : Role → Tree → Role
 next directives x = cond (is_string_statement x) directives plain
 next r x = r
 
