@@ -1,4 +1,7 @@
-//! Scripts, modules and programs.
+//! Scripts, modules and programs: a tree goes in, and the bytes of its ESTree come out.
+//!
+//! The clause `bytes` of a function says those bytes from the first to the last. `json` of `Estree.antt`, in the definitions of
+//! `ecma_estree_writer`, is the text of a tree.
 
 ghost use Rattle.std.specs.Prelude.{◌≡◌, ◌++◌, codes, length, IfOk};
 ghost use Rattle.ecma_estree_writer.specs.Source.{source_of};
@@ -13,7 +16,7 @@ use ecma_estree_writer::{Work, Writer};
 use std::alloc::{AllocError, Global};
 use swc_ecma_parser_ast::{Module, Program, Script};
 
-/// A whole, with the word of its source and its body.
+/// A whole, with the word of its source and its body. `ensures` has its bytes one field behind another, up to the brace that ends it.
 fn write_whole<'a>(
     alloc: Global,
     places: &'a Places<'a>,
@@ -37,15 +40,15 @@ fn write_whole<'a>(
     Ok(w.into_out())
 }
 
-/// A script as ESTree, with the places of the text that it was read from; `fields` are more fields of it, as JSON. It fails only where memory
-/// runs out.
+/// A script as ESTree, with the places of the text that it was read from; `fields` are more fields of it, as JSON, which
+/// stand behind its own. The bytes are exactly `json` of its tree: the clause `bytes` says it. It fails only where memory runs out.
 pub fn write_script(
     alloc: Global,
     places: &Places<'_>,
     fields: &[u8],
     script: &Script,
 ) -> Result<Vec<u8>, AllocError>
-    ensures { IfOk result (λ out. out.items ≡ json (source_of places.now fields.now) plain (view_script script.now)) }
+    ensures bytes { IfOk result (λ out. out.items ≡ json (source_of places.now fields.now) plain (view_script script.now)) }
 {
     write_whole(
         alloc,
@@ -56,15 +59,15 @@ pub fn write_script(
     )
 }
 
-/// A module as ESTree, with the places of the text that it was read from; `fields` are more fields of it, as JSON. It fails only where memory
-/// runs out.
+/// A module as ESTree, with the places of the text that it was read from; `fields` are more fields of it, as JSON, which
+/// stand behind its own. The bytes are exactly `json` of its tree: the clause `bytes` says it. It fails only where memory runs out.
 pub fn write_module(
     alloc: Global,
     places: &Places<'_>,
     fields: &[u8],
     module: &Module,
 ) -> Result<Vec<u8>, AllocError>
-    ensures { IfOk result (λ out. out.items ≡ json (source_of places.now fields.now) plain (view_module module.now)) }
+    ensures bytes { IfOk result (λ out. out.items ≡ json (source_of places.now fields.now) plain (view_module «module».now)) }
 {
     write_whole(
         alloc,
@@ -75,15 +78,15 @@ pub fn write_module(
     )
 }
 
-/// A script or a module as ESTree, with the places of the text that it was read from; `fields` are more fields of it, as JSON. It fails only
-/// where memory runs out.
+/// A script or a module as ESTree, with the places of the text that it was read from; `fields` are more fields of it, as JSON, which
+/// stand behind its own. The bytes are exactly `json` of its tree: the clause `bytes` says it. It fails only where memory runs out.
 pub fn write_program(
     alloc: Global,
     places: &Places<'_>,
     fields: &[u8],
     program: &Program,
 ) -> Result<Vec<u8>, AllocError>
-    ensures { IfOk result (λ out. out.items ≡ json (source_of places.now fields.now) plain (view_program program.now)) }
+    ensures bytes { IfOk result (λ out. out.items ≡ json (source_of places.now fields.now) plain (view_program program.now)) }
 {
     match program {
         Program::Module(x) => write_module(alloc, places, fields, x),

@@ -1,11 +1,12 @@
 //! Exports, and items of a module.
 
-ghost use Rattle.std.specs.Prelude.{◌++◌, codes, OnOk};
-ghost use Rattle.ecma_estree_writer.specs.Parts.{node, key, end, open_list, end_list};
+ghost use Rattle.std.specs.Prelude.{◌≡◌, ◌++◌, codes, false, map, MatchOption, OnOk};
+ghost use Rattle.ecma_estree_writer.specs.Parts.{node, key, end, open_list, end_list, is_namespace_alone};
 ghost use Rattle.ecma_estree_writer.specs.Estree.{json, plain, directives, attributes, next, first_or};
 ghost use Rattle.ecma_estree_writer.specs.Writing.{Appends, Pushes, Writes};
 ghost use Rattle.swc_ecma_parser_ast.specs.Parts.{view_option};
-ghost use Rattle.swc_ecma_parser_ast.specs.View.{view_export_all, view_export_decl, view_export_default_decl, view_export_default_expr, view_export_named_specifier, view_export_specifier, view_module_decl, view_module_export_name, view_module_item, view_named_export, view_object_lit, view_str};
+ghost use Rattle.swc_ecma_parser_ast.specs.View.{view_export_all, view_export_decl, view_export_default_decl, view_export_default_expr, view_export_named_specifier, view_export_namespace_specifier, view_export_specifier, view_module_decl, view_module_export_name, view_module_item, view_named_export, view_object_lit, view_str};
+ghost use Rattle.swc_ecma_parser_model.specs.Tree.{listed, list, also, none};
 
 use crate::imports::{push_attributes, write_export_name, write_import};
 use crate::stmts::{write_directive, write_stmt};
@@ -14,7 +15,8 @@ use ecma_estree_writer::{Work, Writer, write_name};
 use std::alloc::AllocError;
 use swc_ecma_parser_ast::{
     DefaultDecl, ExportAll, ExportDecl, ExportDefaultDecl, ExportDefaultExpr, ExportNamedSpecifier,
-    ExportSpecifier, ModuleDecl, ModuleExportName, ModuleItem, NamedExport, Span, Str,
+    ExportNamespaceSpecifier, ExportSpecifier, ModuleDecl, ModuleExportName, ModuleItem,
+    NamedExport, Span, Str,
 };
 
 /// Writes an item.
@@ -29,7 +31,7 @@ pub(crate) fn write_item<'a>(w: &mut Writer<'a>, item: &'a ModuleItem) -> Result
 }
 
 /// Writes an item that is a directive where it is a string; else as it is.
-#[tactic(auto, using(ecma_estree_writer::proofs::Written::appended_on_ok, ecma_estree_writer::proofs::Written::pushed_on_ok))]
+#[tactic(auto, using(crate::proofs::Directives::declaration_as_it_is))]
 pub(crate) fn write_directive_item<'a>(
     w: &mut Writer<'a>,
     item: &'a ModuleItem,
@@ -57,6 +59,15 @@ fn write_module_decl<'a>(w: &mut Writer<'a>, decl: &'a ModuleDecl) -> Result<(),
     }
 }
 
+/// Has a field written that is a list of nothing.
+fn push_empty_list(w: &mut Writer<'_>, name: &'static str) -> Result<(), AllocError>
+    ensures { OnOk result (Pushes w.old w.new (key name.now ++ (open_list ++ end_list))) }
+{
+    w.push(Work::EndList)?;
+    w.push(Work::OpenList)?;
+    w.push(Work::Key(name))
+}
+
 /// Writes an exported declaration.
 fn write_export_decl<'a>(w: &mut Writer<'a>, x: &'a ExportDecl) -> Result<(), AllocError>
     ensures { OnOk result (Writes w.old w.new (json w.old.source plain (view_export_decl x.now))) }
@@ -64,14 +75,10 @@ fn write_export_decl<'a>(w: &mut Writer<'a>, x: &'a ExportDecl) -> Result<(), Al
     w.open("ExportNamedDeclaration", x.span)?;
     w.key("declaration")?;
     w.push(Work::End)?;
-    w.push(Work::EndList)?;
-    w.push(Work::OpenList)?;
-    w.push(Work::Key("attributes"))?;
+    push_empty_list(w, "attributes")?;
     w.push(Work::Nothing)?;
     w.push(Work::Key("source"))?;
-    w.push(Work::EndList)?;
-    w.push(Work::OpenList)?;
-    w.push(Work::Key("specifiers"))?;
+    push_empty_list(w, "specifiers")?;
     w.push(Work::Declaration(&x.decl))
 }
 
@@ -85,21 +92,48 @@ fn push_source<'a>(w: &mut Writer<'a>, src: &'a Option<Str>) -> Result<(), Alloc
     }
 }
 
+/// Has the rest of an export written: what it takes names from, and attributes.
+fn push_origin<'a>(w: &mut Writer<'a>, x: &'a NamedExport) -> Result<(), AllocError>
+    ensures { OnOk result (Pushes w.old w.new (key (codes "source") ++ (json w.old.source plain (view_option view_str x.now.src) ++ (key (codes "attributes") ++ (open_list ++ (json w.old.source attributes (view_option view_object_lit x.now.with) ++ (end_list ++ end))))))) }
+{
+    w.push(Work::End)?;
+    push_attributes(w, &x.with)?;
+    push_source(w, &x.src)?;
+    w.push(Work::Key("source"))
+}
+
+/// The name for all that a module exports, where it stands alone.
+#[tactic(auto, using(crate::proofs::Exports::not_one))]
+fn namespace_alone(specifiers: &[ExportSpecifier]) -> Option<&ExportNamespaceSpecifier>
+    ensures { MatchOption result (is_namespace_alone (listed (map view_export_specifier specifiers.now)) ≡ false)
+        (λ x. listed (map view_export_specifier specifiers.now) ≡ list (also (view_export_namespace_specifier x.now) none)) }
+{
+    let Some((first, rest)) = specifiers.split_first() else {
+        return None;
+    };
+    if !rest.is_empty() {
+        return None;
+    }
+    match first {
+        ExportSpecifier::Namespace(x) => Some(x),
+        ExportSpecifier::Default(_) => None,
+        ExportSpecifier::Named(_) => None,
+    }
+}
+
 /// Writes exported names, of this module or of another.
+#[tactic(auto, using(crate::proofs::Exports::written_alone, crate::proofs::Exports::written_in_braces))]
 fn write_named_export<'a>(w: &mut Writer<'a>, x: &'a NamedExport) -> Result<(), AllocError>
     ensures { OnOk result (Writes w.old w.new (json w.old.source plain (view_named_export x.now))) }
 {
-    if let [ExportSpecifier::Namespace(namespace)] = x.specifiers.as_slice() {
+    if let Some(namespace) = namespace_alone(x.specifiers.as_slice()) {
         return write_namespace_export(w, x, &namespace.name);
     }
     w.open("ExportNamedDeclaration", x.span)?;
     w.key("declaration")?;
     w.nothing()?;
     w.list_key("specifiers")?;
-    w.push(Work::End)?;
-    push_attributes(w, &x.with)?;
-    push_source(w, &x.src)?;
-    w.push(Work::Key("source"))?;
+    push_origin(w, x)?;
     w.push(Work::EndList)?;
     w.push(Work::Exports(x.specifiers.as_slice(), true))
 }
@@ -115,10 +149,7 @@ fn write_namespace_export<'a>(
     w.open("ExportAllDeclaration", x.span)?;
     w.key("exported")?;
     write_export_name(w, name)?;
-    w.push(Work::End)?;
-    push_attributes(w, &x.with)?;
-    push_source(w, &x.src)?;
-    w.push(Work::Key("source"))
+    push_origin(w, x)
 }
 
 /// Writes a function or class that is exported by default.
@@ -197,6 +228,7 @@ fn write_exported(
 }
 
 /// Writes the name that something is exported by: its own, where there is no other.
+#[tactic(auto, using(crate::proofs::Exports::first_name))]
 fn write_exported_name(w: &mut Writer<'_>, x: &ExportNamedSpecifier) -> Result<(), AllocError>
     ensures { OnOk result (Appends w.old w.new (first_or w.old.source (view_option view_module_export_name x.now.exported) (view_module_export_name x.now.orig))) }
 {

@@ -104,6 +104,7 @@ fn write_local(w: &mut Writer<'_>, kind: &str, span: Span, local: &Ident) -> Res
 }
 
 /// Writes the name that something is exported by: its own, where there is no other.
+#[tactic(auto, using(crate::proofs::Exports::first_name))]
 fn write_imported(w: &mut Writer<'_>, x: &ImportNamedSpecifier) -> Result<(), AllocError>
     ensures { OnOk result (Appends w.old w.new (first_or w.old.source (view_option view_module_export_name x.now.imported) (view_ident x.now.local))) }
 {

@@ -268,7 +268,18 @@ pub(crate) fn write_constructor_params<'a>(
     }
 }
 
+/// Whether a member of a class is a `;` alone.
+fn is_empty_member(member: &ClassMember) -> bool
+    ensures { result ≡ parts.is_empty_member (view_class_member member.now) }
+{
+    match member {
+        ClassMember::Empty(_) => true,
+        _ => false,
+    }
+}
+
 /// Writes the members of a class, but for those that are a `;` alone.
+#[tactic(auto, using(crate::proofs::Listed::member_left_out, crate::proofs::Listed::member_listed))]
 pub(crate) fn write_members<'a>(
     w: &mut Writer<'a>,
     parts: &'a [ClassMember],
@@ -279,7 +290,7 @@ pub(crate) fn write_members<'a>(
     let Some((x, rest)) = parts.split_first() else {
         return Ok(());
     };
-    if let ClassMember::Empty(_) = x {
+    if is_empty_member(x) {
         return w.push(Work::Members(rest, is_first));
     }
     w.comma(is_first)?;
@@ -288,6 +299,7 @@ pub(crate) fn write_members<'a>(
 }
 
 /// Writes statements, the first ones as directives as long as they are strings.
+#[tactic(auto, using(crate::proofs::Listed::directive_listed, crate::proofs::Listed::statement_listed))]
 pub(crate) fn write_directives<'a>(
     w: &mut Writer<'a>,
     parts: &'a [Stmt],
@@ -309,6 +321,7 @@ pub(crate) fn write_directives<'a>(
 }
 
 /// Writes items, the first ones as directives as long as they are strings.
+#[tactic(auto, using(crate::proofs::Listed::directive_listed, crate::proofs::Listed::statement_listed))]
 pub(crate) fn write_directive_items<'a>(
     w: &mut Writer<'a>,
     parts: &'a [ModuleItem],
@@ -330,6 +343,7 @@ pub(crate) fn write_directive_items<'a>(
 }
 
 /// Whether an item may stand before a directive.
+#[tactic(auto, using(crate::proofs::Directives::no_string))]
 fn can_precede_directive(item: &ModuleItem) -> bool
     ensures { result ≡ is_string_statement (view_module_item item.now) }
 {

@@ -38,6 +38,7 @@ pub(crate) fn write_do_while<'a>(w: &mut Writer<'a>, x: &'a DoWhileStmt) -> Resu
 }
 
 /// Writes `for` with three parts.
+#[tactic(auto, using(ecma_estree_exprs::proofs::AsExpr::as_expr_json))]
 pub(crate) fn write_for<'a>(w: &mut Writer<'a>, x: &'a ForStmt) -> Result<(), AllocError>
     ensures { OnOk result (Writes w.old w.new (json w.old.source plain (view_for_stmt x.now))) }
 {

@@ -1,11 +1,13 @@
 //! Statements and declarations.
 
-ghost use Rattle.std.specs.Prelude.{◌++◌, codes, OnOk};
+ghost use Rattle.std.specs.Prelude.{◌≡◌, ◌++◌, codes, false, MatchOption, OnOk};
 ghost use Rattle.ecma_estree_writer.specs.Parts.{node, key, end};
 ghost use Rattle.ecma_estree_writer.specs.Estree.{json, plain, directives, next};
 ghost use Rattle.ecma_estree_writer.specs.Writing.{Appends, Pushes, Writes};
 ghost use Rattle.swc_ecma_parser_ast.specs.Parts.{view_option};
-ghost use Rattle.swc_ecma_parser_ast.specs.View.{view_block_stmt, view_catch_clause, view_decl, view_declarator, view_expr_stmt, view_ident, view_if_stmt, view_labeled_stmt, view_return_stmt, view_stmt, view_switch_case, view_switch_stmt, view_throw_stmt, view_try_stmt, view_using_decl, view_var_decl, view_with_stmt};
+ghost use Rattle.swc_ecma_parser_ast.specs.View.{view_block_stmt, view_catch_clause, view_decl, view_declarator, view_expr_stmt, view_ident, view_if_stmt, view_labeled_stmt, view_return_stmt, view_stmt, view_str, view_switch_case, view_switch_stmt, view_throw_stmt, view_try_stmt, view_using_decl, view_var_decl, view_with_stmt};
+ghost use Rattle.swc_ecma_parser_model.specs.Directive.{is_string_statement};
+ghost use Rattle.swc_ecma_parser_model.specs.Tree.{expr_stmt};
 
 use crate::loops::{write_do_while, write_for, write_for_in, write_for_of, write_while};
 use ecma_estree_exprs::{push_optional, write_class_decl, write_function_decl};
@@ -13,7 +15,7 @@ use ecma_estree_writer::{Work, Writer, kind_word, using_word, write_optional_nam
 use std::alloc::AllocError;
 use swc_ecma_parser_ast::{
     BlockStmt, CatchClause, Decl, Expr, ExprStmt, Ident, IfStmt, LabeledStmt, Lit, ReturnStmt,
-    Span, Stmt, StmtBox, SwitchCase, SwitchStmt, ThrowStmt, TryStmt, UsingDecl, VarDecl,
+    Span, Stmt, StmtBox, Str, SwitchCase, SwitchStmt, ThrowStmt, TryStmt, UsingDecl, VarDecl,
     VarDeclarator, WithStmt,
 };
 
@@ -96,18 +98,30 @@ fn write_expr_stmt<'a>(w: &mut Writer<'a>, x: &'a ExprStmt) -> Result<(), AllocE
     w.push(Work::Expr(&x.expr))
 }
 
+/// The string that a statement is, with no parentheses around it, and where the statement stands.
+#[tactic(auto, using(swc_ecma_parser_ast::proofs::Directive::not_expr_string))]
+fn string_statement(stmt: &Stmt) -> Option<(Span, &Str)>
+    ensures { MatchOption result (is_string_statement (view_stmt stmt.now) ≡ false)
+        (λ p. view_stmt stmt.now ≡ expr_stmt p.0 (view_str p.1.now)) }
+{
+    match stmt {
+        Stmt::Expr(x) => match x.expr.get() {
+            Some(Expr::Lit(Lit::Str(literal))) => Some((x.span, literal)),
+            _ => None,
+        },
+        _ => None,
+    }
+}
+
 /// Writes a statement that is a directive where it is a string; else as it is.
-#[tactic(auto, using(ecma_estree_writer::proofs::Written::appended_on_ok, ecma_estree_writer::proofs::Written::pushed_on_ok))]
+#[tactic(auto, using(crate::proofs::Directives::as_it_is))]
 pub(crate) fn write_directive<'a>(w: &mut Writer<'a>, stmt: &'a Stmt) -> Result<(), AllocError>
     ensures { OnOk result (Writes w.old w.new (json w.old.source (next directives (view_stmt stmt.now)) (view_stmt stmt.now))) }
 {
-    let Stmt::Expr(x) = stmt else {
+    let Some((span, literal)) = string_statement(stmt) else {
         return write_stmt(w, stmt);
     };
-    let Some(Expr::Lit(Lit::Str(literal))) = x.expr.get() else {
-        return write_stmt(w, stmt);
-    };
-    w.open("ExpressionStatement", x.span)?;
+    w.open("ExpressionStatement", span)?;
     w.key("expression")?;
     w.push(Work::End)?;
     w.push(Work::Directive(literal))?;

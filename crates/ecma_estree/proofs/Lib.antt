@@ -1,0 +1,3 @@
+pub mod Directives
+pub mod Exports
+pub mod Listed
