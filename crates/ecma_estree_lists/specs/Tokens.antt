@@ -1,5 +1,6 @@
 -- Tokens as text, as espree names them.
 use Rattle.std.specs.Prelude.{ℕ, List, [], ◌∷◌, ◌++◌, Bool, true, false, ◌&&◌, ◌||◌, cond, Option, Some, None, codes, length, min, slice_range}
+use Rattle.std.specs.Str.{bytes_eq}
 use Rattle.ecma_estree_text.specs.Places.{Placed, place_fields}
 use Rattle.ecma_estree_text.specs.Quoted.{wrapped}
 use Rattle.swc_ecma_parser_common.specs.declared.span.Span.{Span}
@@ -17,12 +18,16 @@ unfoldable pub keyword_type : Keyword → List ℕ
 keyword_type keyword.Await = codes "Identifier"
 keyword_type _ = codes "Keyword"
 
+-- `static` is the one name that espree has for a keyword
+unfoldable pub name_type : List ℕ → List ℕ
+name_type text = cond (bytes_eq text (codes "static")) (codes "Keyword") (codes "Identifier")
+
 unfoldable pub word_type : Word → List ℕ
 word_type (word.Keyword k) = keyword_type k
 word_type word.Null = codes "Null"
 word_type word.True = codes "Boolean"
 word_type word.False = codes "Boolean"
-word_type (word.Ident text) = codes "Identifier"
+word_type (word.Ident text) = name_type text
 
 unfoldable pub token_type : Token → List ℕ
 token_type (token.Word w) = word_type w

@@ -1,4 +1,4 @@
-//! Tokens, as espree names them: a word is a `Keyword` where it is one in every context, and `#` and its name are one token.
+//! Tokens, as espree names them: a word is a `Keyword` where it is one in every context or is `static`, and `#` and its name are one token.
 
 ghost use Rattle.std.specs.Prelude.{◌≡◌, ◌++◌, OnOk, true, None};
 ghost use Rattle.ecma_estree_lists.specs.Tokens as tokens;
@@ -20,6 +20,18 @@ fn keyword_type(keyword: Keyword) -> &'static str
     }
 }
 
+/// What a name is: espree has `static` for a keyword.
+#[tactic(auto, unfolding(crate::specs::Tokens::name_type))]
+fn name_type(text: &str) -> &'static str
+    ensures { result.now ≡ tokens.name_type text.now }
+{
+    if text == "static" {
+        "Keyword"
+    } else {
+        "Identifier"
+    }
+}
+
 /// What a word is.
 #[tactic(auto, unfolding(crate::specs::Tokens::word_type))]
 fn word_type(word: &Word) -> &'static str
@@ -29,7 +41,7 @@ fn word_type(word: &Word) -> &'static str
         Word::Keyword(keyword) => keyword_type(*keyword),
         Word::Null => "Null",
         Word::True | Word::False => "Boolean",
-        Word::Ident(_) => "Identifier",
+        Word::Ident(text) => name_type(text.as_str()),
     }
 }
 
