@@ -7,15 +7,17 @@ use std::alloc::{AllocError, Global};
 use std::marker::Brand;
 use std::test::Fail;
 use swc_ecma_parser_ast::{
-    Atom, BytePos, Decl, EmptyStmt, Expr, ExprBox, ExprStmt, Lit, Span, Stmt, StmtBox, Str,
-    VarDecl, VarDeclKind,
+    Atom, BlockStmt, BlockStmtOrExpr, BytePos, Decl, EmptyStmt, Expr, ExprBox, ExprStmt, Lit, Span,
+    Spanned, Stmt, StmtBox, Str, VarDecl, VarDeclKind,
 };
 use swc_ecma_parser_ast_trees::Ast;
 use swc_ecma_parser_error::PResult;
+use swc_ecma_parser_function_bodies::FnBodyParser;
+use swc_ecma_parser_functions::function::Manner;
 use swc_ecma_parser_grammar::Position;
 use swc_ecma_parser_input::{Syntax, Tokens};
 use swc_ecma_parser_lexer::{Lexer, StringInput};
-use swc_ecma_parser_output_readers::{ListEnd, block_body};
+use swc_ecma_parser_output_readers::{Levels, ListEnd, block_body};
 use swc_ecma_parser_state::{Call, Origin, State};
 use swc_ecma_parser_trees::{Maker, MakerOf};
 
@@ -153,5 +155,109 @@ fn the_body_of_a_block_is_read_as_handles(rt: HostRuntime) -> Result<(), Fail> {
     let (_state, read) = handles(alloc, state);
     let found = read?;
     assert_eq!(rt; found.len(), 2);
+    Ok(())
+}
+
+/// What reads in a hundred levels.
+const LEVELS: Levels = Levels { depth: 100 };
+
+/// A function that is neither async nor a generator.
+const PLAIN: Manner = Manner {
+    is_async: false,
+    is_generator: false,
+};
+
+/// How many statements stand in a block.
+fn count(body: &BlockStmt) -> usize {
+    match body.stmts.get() {
+        Some(stmts) => stmts.len(),
+        None => 0,
+    }
+}
+
+/// The body of a function, from its `{` on, in a call that begins here.
+fn block_from<O: Origin, I: Tokens>(
+    alloc: Global,
+    state: State<I>,
+    is_simple: bool,
+) -> (State<I>, PResult<Option<BlockStmt>>)
+    requires { O.start ≡ state }
+{
+    let mut call = state.begin::<O>();
+    let maker: MakerOf<Ast> = Maker::new(alloc);
+    let read = FnBodyParser::<Ast, Option<BlockStmt>>::parse_fn_body_inner(
+        &mut call, &LEVELS, &maker, PLAIN, is_simple,
+    );
+    maker.finish();
+    (call.end(), read)
+}
+
+fn block<I: Tokens>(
+    alloc: Global,
+    state: State<I>,
+    is_simple: bool,
+) -> (State<I>, PResult<Option<BlockStmt>>) {
+    block_from::<Brand, I>(alloc, state, is_simple)
+}
+
+#[test]
+fn the_body_of_a_function_is_read_as_a_block(rt: HostRuntime) -> Result<(), Fail> {
+    let alloc = rt.alloc();
+    let state = opened(alloc, "{ a; return b } c")?;
+    let (mut state, read) = block(alloc, state, true);
+    match read? {
+        Some(body) => assert_eq!(rt; count(&body), 2),
+        None => assert!(rt; false),
+    }
+    assert_eq!(rt; state.take_errors().len(), 0);
+    Ok(())
+}
+
+#[test]
+fn a_strict_body_of_parameters_that_are_no_plain_names_is_a_fault(
+    rt: HostRuntime,
+) -> Result<(), Fail> {
+    let alloc = rt.alloc();
+    let state = opened(alloc, "{ 'use strict' }")?;
+    let (mut state, read) = block(alloc, state, false);
+    assert!(rt; read.is_ok());
+    let faults = state.take_errors();
+    assert_eq!(rt; faults.len(), 1);
+    Ok(())
+}
+
+/// The body of an arrow function, in a call that begins here.
+fn arrow_from<O: Origin, I: Tokens>(
+    alloc: Global,
+    state: State<I>,
+) -> (State<I>, PResult<Box<BlockStmtOrExpr>>)
+    requires { O.start ≡ state }
+{
+    let mut call = state.begin::<O>();
+    let maker: MakerOf<Ast> = Maker::new(alloc);
+    let read = FnBodyParser::<Ast, Box<BlockStmtOrExpr>>::parse_fn_body_inner(
+        &mut call, &LEVELS, &maker, PLAIN, true,
+    );
+    maker.finish();
+    (call.end(), read)
+}
+
+fn arrow<I: Tokens>(alloc: Global, state: State<I>) -> (State<I>, PResult<Box<BlockStmtOrExpr>>) {
+    arrow_from::<Brand, I>(alloc, state)
+}
+
+#[test]
+fn the_body_of_an_arrow_function_is_a_block_or_an_expression(rt: HostRuntime) -> Result<(), Fail> {
+    let alloc = rt.alloc();
+    let (_state, read) = arrow(alloc, opened(alloc, "{ a }")?);
+    match &*read? {
+        BlockStmtOrExpr::BlockStmt(body) => assert_eq!(rt; count(body), 1),
+        BlockStmtOrExpr::Expr(_) => assert!(rt; false),
+    }
+    let (_state, read) = arrow(alloc, opened(alloc, "a + b, c")?);
+    match &*read? {
+        BlockStmtOrExpr::BlockStmt(_) => assert!(rt; false),
+        BlockStmtOrExpr::Expr(body) => assert_eq!(rt; body.span(), span(0, 5)),
+    }
     Ok(())
 }
