@@ -22,7 +22,7 @@ use swc_ecma_parser_shared::readers::Readers;
 use swc_ecma_parser_statements::jump::{break_stmt, continue_stmt};
 use swc_ecma_parser_statements::leave::{return_stmt, throw};
 use swc_ecma_parser_statements::simple::{debugger, empty, import_stmt_at};
-use swc_ecma_parser_statements::using::using_stmt;
+use swc_ecma_parser_statements::using::{await_stmt, begins_await_using, using_stmt};
 use swc_ecma_parser_statements::variables::const_stmt;
 use swc_ecma_parser_token::TokenKind;
 use swc_ecma_parser_trees::{
@@ -70,8 +70,9 @@ fn async_or_other<
     using_or_other(g, t, p, at)
 }
 
-/// A statement, by its first token. A class and a `var` are read by the caller, so neither begins here.
-#[tactic(auto, unfolding(swc_ecma_parser_reader::specs::Reader::stmt_level))]
+/// A statement without decorators, by its first token: first whether `await using` declares here, then by the kind of that token. A
+/// class and a `var` are read by the caller, so neither begins here.
+#[tactic(auto, unfolding(swc_ecma_parser_reader::specs::Reader::stmt_level), using(swc_ecma_parser_reader::proofs::AwaitWords::begins_behind, swc_ecma_parser_reader::proofs::AwaitWords::begins_elsewhere))]
 pub fn level<
     P: Cursor,
     T: BuildsPattern
@@ -88,12 +89,12 @@ pub fn level<
     requires readers { G.ready g.now }
     requires no_class { looks.kind_at (P.seen p.now).at ≢ kind.Class }
     requires no_var { looks.kind_at (P.seen p.now).at ≢ kind.Var }
-    ensures { GivesAs T.stmt_of
-        (rules.stmt_level (rules.stmt (G.depth g.now)) (rules.expr (G.depth g.now))
-        (rules.pattern (G.depth g.now)) (rules.head_cover (G.depth g.now))
-        (rules.parameters (G.depth g.now)) (rules.member (G.depth g.now))
-        (rules.operators (G.depth g.now)) at (P.seen p.old)) result (P.seen p.new) }
+    ensures { GivesAs T.stmt_of (rules.plain_stmt (G.depth g.now) at (P.seen p.old)) result
+        (P.seen p.new) }
 {
+    if begins_await_using(p, g.levels(), at) {
+        return await_stmt(g, t, p, at);
+    }
     match p.kind() {
         TokenKind::LBrace => block(g, t, p),
         TokenKind::Function => function_stmt(g, t, p, at),

@@ -22,10 +22,11 @@ ghost use Rattle.swc_ecma_parser_reader.specs.Reader as rules;
 ghost use Rattle.swc_ecma_parser_reader.specs.State.{Gives, GivesAs};
 
 use crate::covering::Covering;
-use crate::levels::{cover_level, plain_level};
+use crate::levels::cover_level;
 use swc_ecma_parser_classes::class::{NamedClass, class_decl_with, class_expr_with};
 use swc_ecma_parser_classes::readers::ClassGrammar;
 use swc_ecma_parser_common::Span;
+use swc_ecma_parser_control::stmt::level;
 use swc_ecma_parser_cursor::{Cursor, Wanted};
 use swc_ecma_parser_error::{PResult, SyntaxError};
 use swc_ecma_parser_functions::function::{Manner, function_parts_with, function_word, star};
@@ -57,7 +58,7 @@ macro_rules! readers {
     };
 }
 
-/// A statement in so many levels.
+/// A statement in so many levels. It takes one level off, and decides whether decorators begin here.
 #[cycle(knot)]
 #[tactic(auto, using(swc_ecma_parser_reader::proofs::Loops::stmt_lowest, crate::proofs::Declared::decorated_is_stmt, crate::proofs::Declared::plain_is_stmt))]
 pub fn stmt<P: Cursor, T: BuildsStatements>(
@@ -77,7 +78,8 @@ pub fn stmt<P: Cursor, T: BuildsStatements>(
     plain_stmt::<P, T>(t, p, depth - 1, at)
 }
 
-/// A statement without decorators, with what stands in it in so many levels.
+/// A statement without decorators, with what stands in it in so many levels. It decides whether a declared function, a `var` or a class
+/// begins here, which functions of the knot read; all else is read by its first token (`level`).
 #[cycle(knot)]
 #[tactic(auto, using(crate::proofs::Declared::function_is_stmt, crate::proofs::Declared::var_is_stmt, crate::proofs::Declared::class_is_stmt))]
 pub fn plain_stmt<P: Cursor, T: BuildsStatements>(
@@ -99,7 +101,7 @@ pub fn plain_stmt<P: Cursor, T: BuildsStatements>(
         return class_statement::<P, T>(t, p, depth, at);
     }
     let g = readers!(depth);
-    plain_level(&g, t, p, at)
+    level(&g, t, p, at)
 }
 
 /// Whether decorators begin here.

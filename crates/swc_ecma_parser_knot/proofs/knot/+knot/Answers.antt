@@ -94,12 +94,12 @@ covered-returns g t c =
     (sym (covered_above c.args.depth (g.P.Cursor.seen c.args.p.now) c.args.place (omega arith))) c.cover_level.ensures
 
 -- a class was read before
-pub plain_stmt-plain_level-requires-clause-no_class : goal.plain_stmt-plain_level-requires-clause-no_class
-plain_stmt-plain_level-requires-clause-no_class g t c = no_class (g.P.Cursor.seen c.args.p.now).at (sym c.sees-2.ensures ∙ c.if-sees-2.false)
+pub plain_stmt-level-requires-clause-no_class : goal.plain_stmt-level-requires-clause-no_class
+plain_stmt-level-requires-clause-no_class g t c = no_class (g.P.Cursor.seen c.args.p.now).at (sym c.sees-2.ensures ∙ c.if-sees-2.false)
 
 -- and so was a `var`
-pub plain_stmt-plain_level-requires-clause-no_var : goal.plain_stmt-plain_level-requires-clause-no_var
-plain_stmt-plain_level-requires-clause-no_var g t c = no_var (g.P.Cursor.seen c.args.p.now).at (sym c.sees.ensures ∙ c.if-sees.false)
+pub plain_stmt-level-requires-clause-no_var : goal.plain_stmt-level-requires-clause-no_var
+plain_stmt-level-requires-clause-no_var g t c = no_var (g.P.Cursor.seen c.args.p.now).at (sym c.sees.ensures ∙ c.if-sees.false)
 
 pub pat-returns-then-depth-eq0 : goal.pat-returns-then-depth-eq0
 pat-returns-then-depth-eq0 g t c = λ h. read_pat_lowest c.args.depth c.args.part (g.P.Cursor.seen c.args.p.now) _ c.if-depth-eq0.true (c.too_deep.ensures h)
