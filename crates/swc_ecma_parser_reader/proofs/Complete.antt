@@ -55,7 +55,10 @@ use Rattle.swc_ecma_parser_grammar.proofs.Widens.{parameters_same}
 use Rattle.swc_ecma_parser_grammar.specs.scaffold.Supported.{supported_in, is_supported_key_in, has_no_note}
 use Rattle.swc_ecma_parser_grammar.specs.language.Reads as language
 use Rattle.swc_ecma_parser_reader.proofs.PlainParameters.{parameter_plain}
-use Rattle.swc_ecma_parser_reader.proofs.CompleteParts.{break_reads, continue_reads, debugger_reads, empty_reads, expr_stmt_reads, import_stmt_reads, name_no_function, name_no_class, no_brace, no_label_here, return_reads, statement_calm, throw_reads, variables_reads, using_reads}
+use Rattle.swc_ecma_parser_reader.proofs.CompleteJumps.{break_reads, continue_reads, return_reads, throw_reads}
+use Rattle.swc_ecma_parser_reader.proofs.CompleteSimple.{debugger_reads, empty_reads, expr_stmt_reads, import_stmt_reads, statement_calm}
+use Rattle.swc_ecma_parser_reader.proofs.CompleteParts.{name_no_function, name_no_class, no_brace, no_label_here}
+use Rattle.swc_ecma_parser_reader.proofs.CompleteDeclarations.{variables_reads, using_reads}
 use Rattle.swc_ecma_parser_grammar.specs.scaffold.Using.{is_await_using_declaration}
 use Rattle.swc_ecma_parser_reader.proofs.CompleteFirst.{declares, placed, declares_so, plain_reads}
 use Rattle.swc_ecma_parser_grammar.proofs.Using.{using_stands, using_no_function}

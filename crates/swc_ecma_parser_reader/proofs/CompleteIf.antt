@@ -27,7 +27,7 @@ use Rattle.swc_ecma_parser_reader.proofs.expressions.CompleteKinds.{seen}
 use Rattle.swc_ecma_parser_reader.proofs.Below.{Below}
 use Rattle.swc_ecma_parser_reader.proofs.classes.Shared.{MemberFollows}
 use Rattle.swc_ecma_parser_reader.proofs.Chains.{if_last, if_more}
-use Rattle.swc_ecma_parser_reader.proofs.CompleteParts.{condition_reads}
+use Rattle.swc_ecma_parser_reader.proofs.CompleteHeads.{condition_reads}
 
 module _ (n : ℕ) (below : Below n) (reads : (at : Position) (k : Code) (x : Tree) (c d : Place) → ReadsStmt n k at x c d → ReadsCalm (stmt n at) k x c d)
     (members : (k : Code) (x : Tree) (c d : Place) → ReadsMember n k x c d → MemberFollows d → Reads (member n) k x c d) where

@@ -24,7 +24,8 @@ use Rattle.swc_ecma_parser_reader.proofs.Calm.{calm_last}
 use Rattle.swc_ecma_parser_reader.proofs.Errors.{is_error}
 use Rattle.swc_ecma_parser_reader.proofs.Below.{Below}
 use Rattle.swc_ecma_parser_reader.proofs.classes.Shared.{MemberFollows}
-use Rattle.swc_ecma_parser_reader.proofs.CompleteParts.{expect_reads, head_reads, optional_end_reads}
+use Rattle.swc_ecma_parser_reader.proofs.CompleteParts.{expect_reads, optional_end_reads}
+use Rattle.swc_ecma_parser_reader.proofs.CompleteHeads.{head_reads}
 
 module _ (n : ℕ) (below : Below n) (reads : (at : Position) (k : Code) (x : Tree) (c d : Place) → ReadsStmt n k at x c d → ReadsCalm (stmt n at) k x c d)
     (members : (k : Code) (x : Tree) (c d : Place) → ReadsMember n k x c d → MemberFollows d → Reads (member n) k x c d) where

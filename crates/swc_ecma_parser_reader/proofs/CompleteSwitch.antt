@@ -27,7 +27,8 @@ use Rattle.swc_ecma_parser_reader.proofs.expressions.CompleteKinds.{seen}
 use Rattle.swc_ecma_parser_reader.proofs.Below.{Below, expr_reads}
 use Rattle.swc_ecma_parser_reader.proofs.classes.Shared.{MemberFollows}
 use Rattle.swc_ecma_parser_reader.proofs.Loops.{stmt_shorter, clauses_done, clauses_more}
-use Rattle.swc_ecma_parser_reader.proofs.CompleteParts.{clause_ends, code_stays, expect_reads, head_reads, items_read}
+use Rattle.swc_ecma_parser_reader.proofs.CompleteParts.{clause_ends, code_stays, expect_reads, items_read}
+use Rattle.swc_ecma_parser_reader.proofs.CompleteHeads.{head_reads}
 
 module _ (n : ℕ) (below : Below n) (reads : (at : Position) (k : Code) (x : Tree) (c d : Place) → ReadsStmt n k at x c d → ReadsCalm (stmt n at) k x c d)
     (members : (k : Code) (x : Tree) (c d : Place) → ReadsMember n k x c d → MemberFollows d → Reads (member n) k x c d) where

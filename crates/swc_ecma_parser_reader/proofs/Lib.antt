@@ -59,6 +59,10 @@ pub mod HeadWords
 pub mod AwaitWords
 pub mod Declarators
 pub mod PlainParameters
+mod CompleteHeads
+mod CompleteJumps
+mod CompleteDeclarations
+mod CompleteSimple
 pub mod CompleteParts
 mod CompleteFor
 mod CompleteFirst
