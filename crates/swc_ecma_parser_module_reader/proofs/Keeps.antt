@@ -36,7 +36,9 @@ use Rattle.swc_ecma_parser_reader.specs.State.{State, Reader, moved, coded, with
 use Rattle.swc_ecma_parser_reader.specs.Words.{any_word}
 use Rattle.swc_ecma_parser_reader.specs.Entry.{unmarked, Stays}
 use Rattle.swc_ecma_parser_reader.proofs.Behind.{NothingLost, Kept, Lost, Passes, ItemPasses, Follows, item_self, items_from, items_follow, flagged_kept, behind_self, behind_after, behind_seen, too_deep_keeps, wanted_keeps, refuse_keeps, reject_keeps, end_keeps, expect_keeps, name_keeps, shebang_keeps, loop_keeps}
-use Rattle.swc_ecma_parser_reader.proofs.Keeps.{items_keeps, whole_stmt_keeps, outcome_behind, function_word_keeps, function_params_keep, function_body_keep, stmt_keeps, expr_keeps, parameters_keep, member_keeps}
+use Rattle.swc_ecma_parser_reader.proofs.KeepsBlocks.{items_keeps}
+use Rattle.swc_ecma_parser_reader.proofs.Keeps.{whole_stmt_keeps, outcome_behind, stmt_keeps, expr_keeps, parameters_keep, member_keeps}
+use Rattle.swc_ecma_parser_reader.proofs.KeepsFunctions.{function_word_keeps, function_params_keep, function_body_keep}
 use Rattle.swc_ecma_parser_reader.proofs.classes.Keeps as classes
 use Rattle.swc_ecma_parser_reader.proofs.Objects.{object_alone_keeps}
 use Rattle.swc_ecma_parser_reader.proofs.Meets.{Answers, answers_then, answers_if, meant, saw}

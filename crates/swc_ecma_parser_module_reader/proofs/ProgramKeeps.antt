@@ -11,7 +11,8 @@ use Rattle.swc_ecma_parser_reader.specs.Reader.{at_end, whole_stmt, shebang, dir
 use Rattle.swc_ecma_parser_reader.specs.State.{State, Outcome, Reader, says_out_of_memory, coded}
 use Rattle.swc_ecma_parser_reader.specs.Entry.{unmarked, IsBehind, Stays}
 use Rattle.swc_ecma_parser_reader.proofs.Behind.{Passes, Remembers, Follows, behind_self, behind_then, shebang_keeps, NothingLost, Kept, Lost, loop_keeps}
-use Rattle.swc_ecma_parser_reader.proofs.Keeps.{directed_keeps, items_keeps, whole_stmt_keeps, outcome_behind}
+use Rattle.swc_ecma_parser_reader.proofs.KeepsBlocks.{directed_keeps, items_keeps}
+use Rattle.swc_ecma_parser_reader.proofs.Keeps.{whole_stmt_keeps, outcome_behind}
 use Rattle.swc_ecma_parser_reader.proofs.Meets.{Answers, answers_then, answers_if, meant}
 use Rattle.swc_ecma_parser_module_reader.specs.Modules.{module_item, item_behind}
 use Rattle.swc_ecma_parser_module_reader.specs.Programs.{program_code, entered, as_script, as_module, program_body, program_whole, Front, begins_module, front_turn, front, behind_front}

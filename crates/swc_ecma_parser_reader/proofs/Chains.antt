@@ -11,7 +11,8 @@ use Rattle.swc_ecma_parser_reader.specs.State.{State, Outcome, Reader, and_then,
 use Rattle.swc_ecma_parser_reader.specs.Reader.{Link, goes_on, closed_link, alternative, link, behind_link, links, if_stmt, stmt, expr}
 use Rattle.swc_ecma_parser_reader.proofs.Steps.{same_if}
 use Rattle.swc_ecma_parser_reader.proofs.Takes.{Falls, takes}
-use Rattle.swc_ecma_parser_reader.proofs.Falls.{link_falls, stmt_falls, expr_falls}
+use Rattle.swc_ecma_parser_reader.proofs.FallsIf.{link_falls}
+use Rattle.swc_ecma_parser_reader.proofs.Falls.{stmt_falls, expr_falls}
 use Rattle.swc_ecma_parser_reader.proofs.Opens.{chain_goes}
 
 -- what follows a step may be whatever agrees with it where the step went well

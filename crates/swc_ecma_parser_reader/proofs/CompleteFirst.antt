@@ -28,7 +28,7 @@ use Rattle.swc_ecma_parser_reader.specs.Reader.{declarators, expr, pattern, awai
 use Rattle.swc_ecma_parser_reader.proofs.Meets.{saw}
 use Rattle.swc_ecma_parser_reader.proofs.Answered.{ReadsCalm, st}
 use Rattle.swc_ecma_parser_reader.proofs.Below.{Below}
-use Rattle.swc_ecma_parser_reader.proofs.CompleteParts.{await_using_reads, declarators_nest}
+use Rattle.swc_ecma_parser_reader.proofs.CompleteDeclarations.{await_using_reads, declarators_nest}
 use Rattle.swc_ecma_parser_reader.proofs.Opens.{let_stands, import_stands}
 use Rattle.swc_ecma_parser_reader.proofs.expressions.CompleteKinds.{seen}
 use Rattle.swc_ecma_parser_reader.proofs.First.{is_first, not_first}

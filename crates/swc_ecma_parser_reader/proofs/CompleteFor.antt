@@ -48,7 +48,7 @@ use Rattle.swc_ecma_parser_reader.proofs.Answered.{st, Gets, ReadsAs}
 use Rattle.swc_ecma_parser_reader.proofs.Calm.{settled_as}
 use Rattle.swc_ecma_parser_reader.proofs.Errors.{is_error}
 use Rattle.swc_ecma_parser_reader.proofs.Below.{Below, pattern_reads}
-use Rattle.swc_ecma_parser_reader.proofs.CompleteParts.{many_declarators}
+use Rattle.swc_ecma_parser_reader.proofs.CompleteDeclarations.{many_declarators}
 use Rattle.swc_ecma_parser_reader.proofs.Meets.{saw}
 use Rattle.swc_ecma_parser_reader.proofs.Opens.{head_begins, let_stands}
 use Rattle.swc_ecma_parser_reader.proofs.SoundFor.{awaited_walk, awaited_notes}

@@ -1,23 +1,20 @@
--- What the grammar allows of the parts of statements is read: ends, declarators, statements one behind another, and statements that
--- hold no other.
+-- What the grammar allows of the parts of statements is read: ends, tokens, statements one behind another and the first line of a
+-- script. And what a statement's first tokens are not.
 use Rattle.swc_ecma_parser_token.specs.declared.token.Word.TheVariants as word
 use Rattle.swc_ecma_parser_token.specs.declared.keyword.Keyword.TheVariants as keyword
 use Rattle.swc_ecma_parser_input.specs.declared.context.Context.{Context}
 use Rattle.swc_ecma_parser_token.specs.Text.{word_text}
 use Rattle.swc_ecma_parser_token.specs.declared.keyword.Keyword.{Keyword}
 use Rattle.swc_ecma_parser_token.specs.declared.token.Word.{Word}
-use Rattle.std.proofs.Common.{Err, true≢false, ◌≡◌, ◌⊎◌, inl, inr, ℕ, zero, suc, ◌<◌, Bool, true, false, cond, List, [], ◌∷◌, ◌++◌, length, Option, Some, None, Ok, refl, sym, ◌∙◌, ap, append_assoc, append-nil}
+use Rattle.std.proofs.Common.{Err, true≢false, ◌≡◌, inl, inr, ℕ, zero, suc, ◌<◌, Bool, true, false, cond, List, [], ◌∷◌, ◌++◌, length, Option, Some, None, Ok, refl, sym, ◌∙◌, ap, append_assoc, append-nil}
 use Rattle.swc_ecma_parser_reader.proofs.Meets.{saw}
 use Rattle.swc_ecma_parser_reader.specs.Notes.{no_notes, Notes, held, ◌⊕◌, notes_of, all_notes_of}
-use Rattle.swc_ecma_parser_grammar.proofs.Unnoted.{import_unnamed}
-use Rattle.swc_ecma_parser_grammar.proofs.Tests.{and_yes, and_no}
+use Rattle.swc_ecma_parser_grammar.proofs.Tests.{and_yes}
 use Rattle.swc_ecma_parser_grammar.proofs.Marks.{name_before_colon}
 use Rattle.swc_ecma_parser_grammar.specs.Names.{is_name, is_reserved, name_at, is_clean_name, is_identifier, Code}
-use Rattle.swc_ecma_parser_reader.proofs.StatementEnds.{no_lack}
-use Rattle.swc_ecma_parser_reader.specs.Reader.{begins_label, note_with, expr, pattern, target, unbroken, break_stmt, uncontinued, continue_stmt, misplaced, operand, returned, return_stmt, empty, debugger, initialized, declarator, declarators_turn, declarators, declaration_end, variables, closes, at_end, close, directs, items_turn, items, note_statement, no_label, stmt_end, expr_stmt, optional_end, thrown, throw, head, condition, begins_clause, closes_clause, shebang_of, shebang_in, shebang, misusing, using_from, using_stmt, await_using_stmt, nests, operators}
-use Rattle.std.specs.Prelude.{◌&&◌, ◌||◌, codes}
+use Rattle.swc_ecma_parser_reader.specs.Reader.{begins_label, note_with, expr, declaration_end, closes, at_end, close, directs, items_turn, items, optional_end, begins_clause, closes_clause, shebang_of, shebang_in, shebang}
+use Rattle.std.specs.Prelude.{◌&&◌, ◌||◌}
 use Rattle.swc_ecma_parser_common.specs.declared.span.Span.{Span}
-use Rattle.swc_ecma_parser_error.specs.Kind as faults
 use Rattle.swc_ecma_parser_error.specs.Kind.{Kind, Fault}
 use Rattle.swc_ecma_parser_token.specs.declared.kind.TokenKind.{TokenKind}
 use Rattle.swc_ecma_parser_token.specs.declared.kind.TokenKind.TheVariants as kind
@@ -26,45 +23,33 @@ use Rattle.swc_ecma_parser_token.specs.declared.token.Token.TheVariants as token
 use Rattle.swc_ecma_parser_token.specs.declared.token.TokenAndSpan.{TokenAndSpan}
 use Rattle.swc_ecma_parser_token.specs.Kind.{token_kind, word_kind, keyword_kind}
 use Rattle.swc_ecma_parser_input.specs.Place.{Place, after}
-use Rattle.swc_ecma_parser_model.specs.declared.leaves.VarDeclKind.{VarDeclKind}
-use Rattle.swc_ecma_parser_model.specs.declared.leaves.VarDeclKind.TheVariants as decl
 use Rattle.swc_ecma_parser_model.specs.Tree as tree
-use Rattle.swc_ecma_parser_model.specs.Tree.{Tree, Text, listed, trees}
+use Rattle.swc_ecma_parser_model.specs.Tree.{Tree, Text, trees}
 use Rattle.swc_ecma_parser_model.specs.Directive.{is_use_strict}
-use Rattle.swc_ecma_parser_model.specs.Forms.{is_ident, is_ident_named, span_of}
-use Rattle.swc_ecma_parser_grammar.specs.Looks.{kind_at, breaks_at, sees, same_kind, spanned}
+use Rattle.swc_ecma_parser_model.specs.Forms.{is_ident}
+use Rattle.swc_ecma_parser_grammar.specs.Looks.{kind_at, sees, same_kind}
 use Rattle.swc_ecma_parser_grammar.specs.Ends.{Ends, by_semicolon, by_insertion, OptionalEnds, by_a_semicolon, by_nothing}
-use Rattle.swc_ecma_parser_grammar.specs.Follows.{begins_import_expression}
-use Rattle.swc_ecma_parser_grammar.specs.scaffold.Reads.{SmallDeclaratorRule, plain_rule, initialized_rule, ReadsItems, SmallTargetRule, no_target_rule, target_rule, SmallReturnedRule, no_operand_rule, operand_rule, ReadsHead}
-use Rattle.swc_ecma_parser_grammar.specs.scaffold.ReadsSupported.{ReadsClass, ReadsPat}
+use Rattle.swc_ecma_parser_grammar.specs.scaffold.Reads.{ReadsItems}
+use Rattle.swc_ecma_parser_grammar.specs.scaffold.ReadsSupported.{ReadsClass}
 use Rattle.swc_ecma_parser_grammar.specs.language.Items.{directed, directs_on}
-use Rattle.swc_ecma_parser_grammar.specs.language.Lists.{ReadsSeparated}
 use Rattle.swc_ecma_parser_grammar.specs.language.Parts.{ReadsToken}
 use Rattle.swc_ecma_parser_grammar.specs.language.Contexts.{with_in, in_strict}
-use Rattle.swc_ecma_parser_grammar.specs.language.Goals.{expression, assignment}
+use Rattle.swc_ecma_parser_grammar.specs.language.Goals.{expression}
 use Rattle.swc_ecma_parser_grammar.specs.scaffold.Entries.{ReadsShebang, some_shebang, no_shebang}
-use Rattle.swc_ecma_parser_grammar.specs.Notes.{notes, statement_note, as_note, with_note}
-use Rattle.swc_ecma_parser_grammar.specs.language.Noted.{has_meta}
+use Rattle.swc_ecma_parser_grammar.specs.Notes.{with_note}
 use Rattle.swc_ecma_parser_grammar.specs.Walk as walks_of
 use Rattle.swc_ecma_parser_grammar.specs.Walk.{env_of, walk, walks}
-use Rattle.swc_ecma_parser_reader.specs.State.{Scope, State, Outcome, Reader, noted, holding_back, labelled, expect, end, fault_at, loop}
+use Rattle.swc_ecma_parser_reader.specs.State.{Scope, State, Outcome, Reader, expect, end, loop}
 use Rattle.swc_ecma_parser_reader.proofs.Notes.{or_nil, or_assoc}
-use Rattle.swc_ecma_parser_reader.proofs.Answered.{st, Reads, Calm, ReadsCalm}
-use Rattle.swc_ecma_parser_reader.proofs.Calm.{told_reads, calm_same, calm_first, calm_last, calm_before}
+use Rattle.swc_ecma_parser_reader.proofs.Answered.{st, Calm, ReadsCalm}
 use Rattle.swc_ecma_parser_reader.proofs.Errors.{is_error}
-use Rattle.swc_ecma_parser_reader.proofs.expressions.CompleteParts.{name_reads}
-use Rattle.swc_ecma_parser_grammar.specs.Own.{break_faults, continue_faults, return_faults}
 use Rattle.swc_ecma_parser_reader.proofs.expressions.CompleteKinds.{seen, named_here}
-use Rattle.swc_ecma_parser_reader.proofs.Below.{Below, expr_reads, pattern_reads}
-use Rattle.swc_ecma_parser_reader.proofs.Declarators.{declarator_begins}
-use Rattle.swc_ecma_parser_reader.proofs.Loops.{items_stop, items_more, directs_push, declarators_done, declarators_more}
-use Rattle.swc_ecma_parser_grammar.proofs.SupportedBegins.{expr_opens}
-use Rattle.swc_ecma_parser_reader.proofs.Opens.{goes_open}
+use Rattle.swc_ecma_parser_reader.proofs.Below.{Below, expr_reads}
+use Rattle.swc_ecma_parser_reader.proofs.Loops.{items_stop, items_more, directs_push}
 use Rattle.swc_ecma_parser_grammar.proofs.Naming.{name_is_free}
 use Rattle.swc_ecma_parser_reader.proofs.CleanStarts.{Starts, expressions_start}
 use Rattle.swc_ecma_parser_grammar.proofs.Ended.{ends_name, ended_awaits}
 use Rattle.swc_ecma_parser_grammar.specs.language.Begins.{awaits}
-use Rattle.swc_ecma_parser_grammar.specs.scaffold.Using.{using_faults}
 
 -- ---- fixed tokens and ends
 
@@ -88,160 +73,6 @@ optional_end_reads c d k w f h (by_nothing e g) = rw (e, g) refl
 pub close_reads : (c : Place) (k : Code) (w : Scope) (f : List Fault) (h : Notes) → kind_at c ≡ kind.RBrace → close (st c k w f h) ≡ Ok (tt, st (after c) k w f h)
 unfolding close
 close_reads c k w f h e = rw (seen c kind.RBrace e) refl
-
--- ---- `break`, `continue` and `return`
-
-pub target_reads : (x : Tree) (c d : Place) (k : Code) (w : Scope) (f : List Fault) (h : Notes) → SmallTargetRule k x c d → target (st c k w f h) ≡ Ok (x, st d k w f h)
-unfolding target
-target_reads x c d k w f h (no_target_rule e g i) = rw (e, g, i) refl
-target_reads x c d k w f h (target_rule v sp e r n i) = rw (e, name_reads faults.ExpectedIdent v sp c d k w f h r n, i) refl
-
--- a label has no notes
-pub target_quiet : {k : Code} {x : Tree} {c d : Place} → SmallTargetRule k x c d → (notes x ≡ []) × (has_meta x ≡ false)
-target_quiet (no_target_rule e g i) = (ap notes i, ap has_meta i)
-target_quiet (target_rule v sp e r n i) = (ap notes i, ap has_meta i)
-
-pub break_reads : (y : Tree) (m : Place) (k : Code) (x : Tree) (c d : Place) → SmallTargetRule k y (after c) m → Ends m d → x ≡ tree.break (spanned c d) y → ReadsCalm break_stmt k x c d
-unfolding break_stmt unbroken spanned
-break_reads y m k x c d r g e w f h q =
-    let l = break_faults k.flags.is_break_allowed w.labels y (spanned c d) in
-    rw (
-      target_reads y (after c) m k w f h r,
-      ends_read faults.Expected m d k w f h g,
-      told_reads l d k w f h (calm_same d (walk (env_of k w.labels) x) l (ap (walk (env_of k w.labels)) e) q),
-      e,
-      (target_quiet r).0,
-      (target_quiet r).1,
-      append-nil h.held_back,
-      or_nil h.found_module_item,
-    ) refl
-
-pub continue_reads : (y : Tree) (m : Place) (k : Code) (x : Tree) (c d : Place) → SmallTargetRule k y (after c) m → Ends m d → x ≡ tree.continue (spanned c d) y → ReadsCalm continue_stmt k x c d
-unfolding continue_stmt uncontinued spanned
-continue_reads y m k x c d r g e w f h q =
-    let l = continue_faults k.flags.is_continue_allowed w.labels y (spanned c d) in
-    rw (
-      target_reads y (after c) m k w f h r,
-      ends_read faults.Expected m d k w f h g,
-      told_reads l d k w f h (calm_same d (walk (env_of k w.labels) x) l (ap (walk (env_of k w.labels)) e) q),
-      e,
-      (target_quiet r).0,
-      (target_quiet r).1,
-      append-nil h.held_back,
-      or_nil h.found_module_item,
-    ) refl
-
-pub operand_reads : (n : ℕ) (below : Below n) (k : Code) (x : Tree) (c d : Place) → SmallReturnedRule (ReadsClass n) k x c d → ReadsCalm (operand (expr n expression)) k x c d
-unfolding operand
-operand_reads n below k x c d (no_operand_rule e g i) w f h q = rw (e, i, g, append-nil f, append-nil h.held_back, or_nil h.found_module_item) refl
-operand_reads n below k x c d (operand_rule e r) w f h q = rw (e, expr_reads n below expression (with_in k) x c d r w f h q) refl
-
-pub return_reads : (n : ℕ) (below : Below n) (y : Tree) (m : Place) (k : Code) (x : Tree) (c d : Place) → SmallReturnedRule (ReadsClass n) k y (after c) m → Ends m d → x ≡ tree.return (spanned c d) y
-    → ReadsCalm (return_stmt (expr n expression)) k x c d
-unfolding return_stmt returned misplaced spanned
-return_reads n below y m k x c d r g e w f h q =
-    let l = return_faults (k.flags.in_function || k.setting.allow_return_outside_function) (spanned c d) in
-    let a = walk (env_of k w.labels) y in
-    let whole = walk (env_of k w.labels) x in
-    let z = ap (walk (env_of k w.labels)) e in
-    rw (
-      operand_reads n below k y (after c) m r w f h (calm_before m d a g (calm_first d a l whole z q)),
-      ends_read faults.Expected m d k w (f ++ a) (h ⊕ notes_of y) g,
-      told_reads l d k w (f ++ a) (h ⊕ notes_of y) (calm_last d a l whole z q),
-      e,
-      append_assoc f a l,
-    ) refl
-
--- ---- statements that hold none
-
-pub empty_reads : (k : Code) (x : Tree) (c d : Place) → d ≡ after c → x ≡ tree.empty (spanned c d) → Reads empty k x c d
-unfolding empty
-empty_reads k x c d e g w f h = rw (g, e, append-nil f, append-nil h.held_back, or_nil h.found_module_item) refl
-
-pub debugger_reads : (k : Code) (x : Tree) (c d : Place) → Ends (after c) d → x ≡ tree.debugger (spanned c d) → Reads debugger k x c d
-unfolding debugger
-debugger_reads k x c d e g w f h = rw (ends_read faults.Expected (after c) d k w f h e, g, append-nil f, append-nil h.held_back, or_nil h.found_module_item) refl
-
--- ---- declarators
-
-module _ (n : ℕ) (below : Below n) (in_head : Bool) (word : VarDeclKind) where
-  pub declarator_reads : (k : Code) (x : Tree) (c d : Place) → SmallDeclaratorRule (ReadsClass n assignment) (ReadsPat n) k in_head word x c d
-      → ReadsCalm (declarator (expr n) (pattern n) in_head word) k x c d
-  unfolding declarator initialized spanned
-  declarator_reads k x c d (plain_rule p r e b g) w f h q = rw (pattern_reads n below (with_in k) p c d r w f h, e, b, g, append-nil (walk (env_of k w.labels) p), append-nil (notes p), or_nil (has_meta p)) refl
-  declarator_reads k x c d (initialized_rule p y m r e s g) w f h q =
-      rw (
-        pattern_reads n below (with_in k) p c m r w f h,
-        seen m kind.Assign e,
-        expr_reads n below assignment k y (after m) d s w (f ++ walk (env_of k w.labels) p) (h ⊕ notes_of p) (calm_last d (walk (env_of k w.labels) p) (walk (env_of k w.labels) y) _ (ap (walk (env_of k w.labels)) g) q),
-        g,
-        append_assoc f (walk (env_of k w.labels) p) (walk (env_of k w.labels) y),
-        append_assoc h.held_back (notes p) (notes y),
-        or_assoc h.found_module_item (has_meta p) (has_meta y),
-      ) refl
-
-  pub many_declarators : (xs found : List Tree) (k : Code) (c d : Place) (w : Scope) (f : List Fault) (h : Notes)
-      → ReadsSeparated (SmallDeclaratorRule (ReadsClass n assignment) (ReadsPat n) k in_head word) xs c d
-      → (walks (env_of k w.labels) false (trees xs) ≡ []) ⊎ (is_error (kind_at d) ≡ false)
-      → loop (declarators_turn (expr n) (pattern n) in_head word) found (st c k w f h)
-      ≡ Ok (found ++ xs, st d k w (f ++ walks (env_of k w.labels) false (trees xs)) (h ⊕ all_notes_of (trees xs)))
-  many_declarators [] found k c d w f h r q = absurd r
-  many_declarators (x ∷ []) found k c d w f h r q =
-      rw (append-nil (walk (env_of k w.labels) x), append-nil (notes x), or_nil (has_meta x))
-      (declarators_done n in_head word found (st c k w f h) x (st d k w (f ++ walk (env_of k w.labels) x) (h ⊕ notes_of x)) (declarator_begins n k in_head word x c d r.0) (declarator_reads k x c d r.0 w f h (calm_first d (walk (env_of k w.labels) x) [] (walks (env_of k w.labels) false (trees (x ∷ []))) refl q)) r.1)
-  many_declarators (x ∷ y ∷ ys) found k c d w f h (m, r, e, more) q =
-      declarators_more n in_head word found (st c k w f h) x (st m k w (f ++ walk (env_of k w.labels) x) (h ⊕ notes_of x)) (declarator_begins n k in_head word x c m r) (declarator_reads k x c m r w f h (inr (ap is_error e))) (seen m kind.Comma e)
-      ∙ many_declarators (y ∷ ys) (found ++ x ∷ []) k (after m) d w (f ++ walk (env_of k w.labels) x) (h ⊕ notes_of x) more
-      (calm_last d (walk (env_of k w.labels) x) (walks (env_of k w.labels) false (trees (y ∷ ys))) (walks (env_of k w.labels) false (trees (x ∷ y ∷ ys))) refl q) ∙ simp (append_assoc, or_assoc) refl
-
-pub variables_reads : (n : ℕ) (below : Below n) (word : VarDeclKind) (xs : List Tree) (m : Place) (k : Code) (x : Tree) (c d : Place)
-    → ReadsSeparated (SmallDeclaratorRule (ReadsClass n assignment) (ReadsPat n) (with_in k) false word) xs (after c) m → Ends m d
-    → x ≡ tree.var (spanned c d) word (listed xs) → ReadsCalm (variables (expr n) (pattern n) word) k x c d
-unfolding variables declarators
-variables_reads n below word xs m k x c d r e g w f h q =
-    let a = walks (env_of k w.labels) false (trees xs) in
-    rw (
-      many_declarators n below false word xs [] (with_in k) (after c) m w f h r (calm_before m d a e (calm_same d _ a (ap (walk (env_of k w.labels)) g) q)),
-      declaration_end_reads (expr n expression) m d k w (f ++ walks (env_of k w.labels) false (trees xs)) (h ⊕ all_notes_of (trees xs)) e,
-      g,
-    ) refl
-
-pub using_reads : (n : ℕ) (below : Below n) (xs : List Tree) (m : Place) (k : Code) (x : Tree) (c d : Place)
-    → ReadsSeparated (SmallDeclaratorRule (ReadsClass n assignment) (ReadsPat n) (with_in k) false decl.Var) xs (after c) m
-    → using_faults k.setting.explicit_resource_management (spanned c m) xs ≡ [] → Ends m d → x ≡ tree.using (spanned c d) false (listed xs)
-    → ReadsCalm (using_stmt (declarators (expr n) (pattern n) false decl.Var)) k x c d
-unfolding using_stmt using_from misusing declarators spanned
-using_reads n below xs m k x c d r e o g w f h q =
-    let a = walks (env_of k w.labels) false (trees xs) in
-    rw (
-      many_declarators n below false decl.Var xs [] (with_in k) (after c) m w f h r (calm_before m d a o (calm_same d _ a (ap (walk (env_of k w.labels)) g) q)),
-      e,
-      ends_read faults.Expected m d k w (f ++ walks (env_of k w.labels) false (trees xs)) (h ⊕ all_notes_of (trees xs)) o,
-      g,
-    ) refl
-
-pub await_using_reads : (n : ℕ) (below : Below n) (xs : List Tree) (m : Place) (k : Code) (x : Tree) (c d : Place)
-    → ReadsSeparated (SmallDeclaratorRule (ReadsClass n assignment) (ReadsPat n) (with_in k) false decl.Var) xs (after (after c)) m
-    → using_faults k.setting.explicit_resource_management (spanned c m) xs ≡ [] → Ends m d → x ≡ tree.using (spanned c d) true (listed xs)
-    → ReadsCalm (await_using_stmt (declarators (expr n) (pattern n) false decl.Var)) k x c d
-unfolding await_using_stmt using_from misusing declarators spanned
-await_using_reads n below xs m k x c d r e o g w f h q =
-    let a = walks (env_of k w.labels) false (trees xs) in
-    rw (
-      many_declarators n below false decl.Var xs [] (with_in k) (after (after c)) m w f h r (calm_before m d a o (calm_same d _ a (ap (walk (env_of k w.labels)) g) q)),
-      e,
-      ends_read faults.Expected m d k w (f ++ walks (env_of k w.labels) false (trees xs)) (h ⊕ all_notes_of (trees xs)) o,
-      g,
-    ) refl
-
--- where a declarator is read, a part of it can be
-pub declarators_nest : (n : ℕ) (k : Code) (xs : List Tree) (c d : Place) → ReadsSeparated (SmallDeclaratorRule (ReadsClass n assignment) (ReadsPat n) k false decl.Var) xs c d → nests n ≡ true
-declarators_nest (suc n) k xs c d r = refl
-declarators_nest zero k [] c d r = absurd r
-declarators_nest zero k (x ∷ []) c d (plain_rule p r e b g, o) = absurd r.0
-declarators_nest zero k (x ∷ []) c d (initialized_rule p y m r e s g, o) = absurd r.0
-declarators_nest zero k (x ∷ y ∷ ys) c d (m, plain_rule p r e b g, o, rs) = absurd r.0
-declarators_nest zero k (x ∷ y ∷ ys) c d (m, initialized_rule p z i r e s g, o, rs) = absurd r.0
 
 -- ---- statements one behind another
 
@@ -320,19 +151,7 @@ pub at_end_at : (c : Place) → kind_at c ≡ kind.End → at_end c ≡ true
 unfolding at_end same_kind
 at_end_at c e = rw e refl
 
--- ---- expression statements
-
--- what a bare name `interface` leaves behind: the grammar has none in module code, and elsewhere its fault is held back
-pub note_by : (b in_module : Bool) (e : Fault) (s : State) → in_module && b ≡ false
-    → ◌≡◌ {A = Outcome (Unit {0})} (cond b (Ok (tt, cond in_module (noted e s) (holding_back e s))) (Ok (tt, s))) (Ok (tt, record s { notes = s.notes ⊕ held (cond b (as_note e ∷ []) []) }))
-note_by false in_module e s g = rw (append-nil s.notes.held_back, or_nil s.notes.found_module_item) refl
-note_by true false e s g = rw (or_nil s.notes.found_module_item) refl
-note_by true true e s g = cc
-
-pub note_reads : (e : Tree) (m : Place) (k : Code) (w : Scope) (f : List Fault) (h : Notes) → k.flags.module && is_ident_named (codes "interface") e ≡ false
-    → note_statement e (st m k w f h) ≡ Ok (tt, st m k w f (h ⊕ held (statement_note e)))
-unfolding note_statement
-note_reads e m k w f h g = note_by (is_ident_named (codes "interface") e) k.flags.module (fault_at (span_of e) faults.InvalidIdentInStrict) (st m k w f h) g
+-- ---- what `with` notes
 
 -- a `with` is none in module code, and elsewhere its fault is held back
 pub note_with_reads : (span : Span) (m : Place) (k : Code) (w : Scope) (f : List Fault) (h : Notes) → k.flags.module ≡ false
@@ -340,76 +159,12 @@ pub note_with_reads : (span : Span) (m : Place) (k : Code) (w : Scope) (f : List
 unfolding note_with
 note_with_reads span m k w f h o = rw (o, or_nil h.found_module_item) refl
 
--- the expression of a statement is calm where the statement is
-pub statement_calm : (k : Code) (labels : List Text) (e : Tree) (m : Place) (x : Tree) (d : Place) (s : Span) → Ends m d → x ≡ tree.expr_stmt s e → Calm k labels x d → Calm k labels e m
-statement_calm k labels e m x d s g j q = calm_before m d (walk (env_of k labels) e) g (calm_same d _ _ (ap (walk (env_of k labels)) j) q)
-
-pub expr_stmt_reads : (n : ℕ) (below : Below n) (e : Tree) (m : Place) (k : Code) (x : Tree) (c d : Place) → ReadsClass n expression (with_in k) e c m → is_ident e && sees kind.Colon m ≡ false
-    → k.flags.module && is_ident_named (codes "interface") e ≡ false → Ends m d → x ≡ tree.expr_stmt (spanned c d) e → ReadsCalm (expr_stmt (expr n expression) (operators n)) k x c d
-unfolding expr_stmt stmt_end no_label
-expr_stmt_reads n below e m k x c d r l i g j w f h q =
-    rw (
-      expr_reads n below expression (with_in k) e c m r w f h (statement_calm k w.labels e m x d (spanned c d) g j q),
-      l,
-      note_reads e m k w (f ++ walk (env_of k w.labels) e) (h ⊕ notes_of e) i,
-      no_lack m d g,
-      ends_read faults.ExpectedSemiForExprStmt m d k w (f ++ walk (env_of k w.labels) e) ((h ⊕ notes_of e) ⊕ held (statement_note e)) g,
-      j,
-      append_assoc,
-      or_assoc,
-      or_nil (has_meta e),
-    ) refl
-
--- one that begins with `import` is no bare name
-unnamed : (text : Text) (e : Tree) → is_ident e ≡ false → is_ident_named text e ≡ false
-unnamed text (tree.ident s i) a = cc
-unnamed text _ a = refl
-
-pub import_stmt_reads : (n : ℕ) (below : Below n) (e : Tree) (m : Place) (k : Code) (x : Tree) (c d : Place) → begins_import_expression c ≡ true → ReadsClass n expression (with_in k) e c m → Ends m d
-    → x ≡ tree.expr_stmt (spanned c d) e → ReadsCalm (expr_stmt (expr n expression) (operators n)) k x c d
-unfolding begins_import_expression
-import_stmt_reads n below e m k x c d b r g j =
-    let i = import_unnamed n (with_in k) e c m r (and_yes (sees kind.Import c) _ b).0 in
-    expr_stmt_reads n below e m k x c d r (ap (λ a. a && sees kind.Colon m) i) (and_no k.flags.module _ (unnamed (codes "interface") e i)) g j
-
--- ---- `throw`, `while` and `do`
+-- ---- a token that stands there
 
 -- a token that must stand here
 pub expect_reads : (j : TokenKind) (c : Place) (k : Code) (w : Scope) (f : List Fault) (h : Notes) → kind_at c ≡ j → expect j (st c k w f h) ≡ Ok (tt, st (after c) k w f h)
 unfolding expect
 expect_reads j c k w f h e = rw (seen c j e) refl
-
-pub throw_reads : (n : ℕ) (below : Below n) (y : Tree) (m : Place) (k : Code) (x : Tree) (c d : Place) → breaks_at (after c) ≡ false → ReadsClass n expression (with_in k) y (after c) m → Ends m d
-    → x ≡ tree.throw (spanned c d) y → ReadsCalm (throw (expr n expression)) k x c d
-unfolding throw thrown
-throw_reads n below y m k x c d b r g e w f h q =
-    rw (
-      b,
-      (goes_open (kind_at (after c)) (expr_opens n (with_in k) y (after c) m r)).1,
-      expr_reads n below expression (with_in k) y (after c) m r w f h (calm_before m d _ g (calm_same d _ (walk (env_of k w.labels) y) (ap (walk (env_of k w.labels)) e) q)),
-      ends_read faults.Expected m d k w (f ++ walk (env_of k w.labels) y) (h ⊕ notes_of y) g,
-      e,
-    ) refl
-
-pub head_reads : (n : ℕ) (below : Below n) (k : Code) (x : Tree) (c d : Place) → ReadsHead (ReadsClass n) k x c d → Reads (head (expr n expression)) k x c d
-unfolding head
-head_reads n below k x c d r w f h =
-    rw (
-      expect_reads kind.LParen c k w f h r.opens,
-      expr_reads n below expression (with_in k) x (after c) r.close r.reads w f h (inr (ap is_error r.closes)),
-      expect_reads kind.RParen r.close k w (f ++ walk (env_of k w.labels) x) (h ⊕ notes_of x) r.closes,
-      r.next,
-    ) refl
-
-pub condition_reads : (n : ℕ) (below : Below n) (k : Code) (x : Tree) (c d : Place) → ReadsHead (ReadsClass n) k x c d → Reads (condition (expr n expression)) k x c d
-unfolding condition labelled
-condition_reads n below k x c d r w f h =
-    rw (
-      expect_reads kind.LParen c k w f h r.opens,
-      expr_reads n below expression (with_in k) x (after c) r.close r.reads w f h (inr (ap is_error r.closes)),
-      expect_reads kind.RParen r.close k w (f ++ walk (env_of k w.labels) x) (h ⊕ notes_of x) r.closes,
-      r.next,
-    ) refl
 
 -- ---- a script
 

@@ -20,7 +20,9 @@ use Rattle.swc_ecma_parser_reader.specs.Reader.{ends_declarators, missing_at, no
 use Rattle.swc_ecma_parser_reader.specs.DecoratedStatements.{either_stmt}
 use Rattle.swc_ecma_parser_reader.proofs.Steps.{loop_more, loop_done, loop_err}
 use Rattle.swc_ecma_parser_reader.proofs.Takes.{moves}
-use Rattle.swc_ecma_parser_reader.proofs.Falls.{stmt_falls, whole_stmt_falls, declarator_falls, clause_falls, expr_falls, pattern_falls}
+use Rattle.swc_ecma_parser_reader.proofs.Falls.{stmt_falls, whole_stmt_falls, expr_falls, pattern_falls}
+use Rattle.swc_ecma_parser_reader.proofs.FallsDeclarations.{declarator_falls}
+use Rattle.swc_ecma_parser_reader.proofs.FallsSwitch.{clause_falls}
 use Rattle.swc_ecma_parser_reader.proofs.expressions.Loops.{shorter_by, deeper}
 
 -- ---- what takes a token leaves fewer

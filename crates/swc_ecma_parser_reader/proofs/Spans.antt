@@ -41,13 +41,16 @@ use Rattle.swc_ecma_parser_reader.specs.DecoratedStatements.{begins_declared, st
 use Rattle.swc_ecma_parser_reader.specs.Decorators.{Leading, leading}
 use Rattle.swc_ecma_parser_reader.specs.Entry.{last_span, are_errors, TakesSome, TakesErrors, Taken, is_stray, errors_behind, dropped_behind, StandsAt, IsBehind}
 use Rattle.swc_ecma_parser_reader.proofs.Takes.{Falls}
-use Rattle.swc_ecma_parser_reader.proofs.Falls.{stmt_falls, stmt_level_falls, expr_falls, pattern_falls, head_cover_falls, parameters_fall, member_falls, decorated_in_falls, declarators_fall}
+use Rattle.swc_ecma_parser_reader.proofs.Falls.{stmt_falls, stmt_level_falls, expr_falls, pattern_falls, head_cover_falls, parameters_fall, member_falls, decorated_in_falls}
+use Rattle.swc_ecma_parser_reader.proofs.FallsDeclarations.{declarators_fall}
 use Rattle.swc_ecma_parser_reader.proofs.Meets.{Answers, Meets, Refuses, answers_then, answers_if, always, meets_then, meets_if, wanted_meets, too_deep_meets, refuse_meets, meant, saw}
 use Rattle.swc_ecma_parser_reader.proofs.Errors.{is_error, fault_here}
 use Rattle.swc_ecma_parser_reader.proofs.Behind.{NothingLost, Kept, Lost, Passes, flagged_kept, behind_self, behind_after, end_keeps, expect_keeps, name_keeps, fault_keeps}
 use Rattle.swc_ecma_parser_reader.proofs.Words.{async_parts}
 use Rattle.swc_ecma_parser_reader.proofs.KeepsParts.{target_keeps}
-use Rattle.swc_ecma_parser_reader.proofs.Keeps.{loses_nothing, function_params_keep, function_body_keep, parameters_keep, stmt_keeps, level_keeps, head_cover_keeps, expr_keeps, member_keeps, operators_keep, pattern_keeps, decorated_in_keeps, declarators_keeps_all}
+use Rattle.swc_ecma_parser_reader.proofs.Keeps.{loses_nothing, parameters_keep, stmt_keeps, level_keeps, head_cover_keeps, expr_keeps, member_keeps, operators_keep, pattern_keeps, decorated_in_keeps}
+use Rattle.swc_ecma_parser_reader.proofs.KeepsFunctions.{function_params_keep, function_body_keep}
+use Rattle.swc_ecma_parser_reader.proofs.KeepsDeclarations.{declarators_keeps_all}
 use Rattle.swc_ecma_parser_reader.proofs.decorators.Declared.{declared_is_bare, first_declares}
 use Rattle.swc_ecma_parser_reader.proofs.decorators.Spans.{StandsPlainly, stmt_behind_stands, leading_takes, either_stands}
 use Rattle.swc_ecma_parser_reader.proofs.SoundParts.{after_return_meets}

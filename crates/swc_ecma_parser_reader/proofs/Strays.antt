@@ -13,7 +13,8 @@ use Rattle.swc_ecma_parser_reader.specs.State.{State, Reader, noted, fault, faul
 use Rattle.swc_ecma_parser_reader.specs.Reader.{braced, caught, handler, finalizer, stray}
 use Rattle.swc_ecma_parser_reader.proofs.Behind.{Passes, behind_self}
 use Rattle.swc_ecma_parser_reader.proofs.Errors.{is_error, fault_here}
-use Rattle.swc_ecma_parser_reader.proofs.Keeps.{braces_keep, caught_keeps, handler_keeps, finalizer_keeps}
+use Rattle.swc_ecma_parser_reader.proofs.KeepsBlocks.{braces_keep}
+use Rattle.swc_ecma_parser_reader.proofs.KeepsTry.{caught_keeps, handler_keeps, finalizer_keeps}
 use Rattle.swc_ecma_parser_reader.proofs.Recovered.{attempted_keeps, attempted_takes, kept_falls}
 use Rattle.swc_ecma_parser_reader.proofs.Between.{SoundTree, sound_as}
 use Rattle.swc_ecma_parser_reader.proofs.Meets.{Meets, meets_then}

@@ -24,7 +24,7 @@ use Rattle.swc_ecma_parser_span_order.specs.Forward.{forward}
 use Rattle.swc_ecma_parser_reader.specs.Reader.{target, unbroken, break_stmt, uncontinued, continue_stmt, may_return, misplaced, operand, returned, return_stmt, lacks_end, operators_on, stmt_end, empty, debugger, declarators, variables, note_with, note_statement, no_label, expr_stmt, expr_stmt_at, optional_end, import_stmt_at, thrown, throw, head, while_stmt, with_stmt, do_while, Link, goes_on, condition, alternative, link_from, link, links, if_stmt, begins_label, relabels, labelled_body, labeled_stmt, other_stmt, begins_clause, closes_clause, clause_from, default_clause, case_clause, clause, clauses_turn, clauses, switch_stmt, begins_at, is_handled, handled, bound, parameter, finalizer, caught, handler, try_stmt, stray, items, braced, function_decl, function_stmt, const_stmt, let_stmt, using_or_other, async_or_other, stmt_by, stmt_level}
 use Rattle.swc_ecma_parser_reader.specs.State.{State, Outcome, Reader, attempted, moved, coded, noted, holding_back, module_fault, below, below_label, within, fault, fault_at, wanted, labelled, labelled_as, reference, name, expect, end}
 use Rattle.swc_ecma_parser_reader.proofs.Behind.{Kept, Lost, behind_self}
-use Rattle.swc_ecma_parser_reader.proofs.Keeps.{stray_keeps}
+use Rattle.swc_ecma_parser_reader.proofs.KeepsTry.{stray_keeps}
 use Rattle.swc_ecma_parser_reader.proofs.Meets.{Answers, Meets, Refuses, meets_then, meets_if, wanted_meets, refuse_meets, loop_answers}
 use Rattle.swc_ecma_parser_reader.proofs.Recovered.{Lossless}
 use Rattle.swc_ecma_parser_reader.proofs.SoundParts.{after_return_meets, labelled_meets}
