@@ -2,11 +2,9 @@
 //! how a row is written.
 #![tactic(auto)]
 
-mod check;
-mod lexed;
-mod limits;
-
-use ecma_hostile::{broken, memory};
+use ecma_broken_lists::break_rows;
+use ecma_refused_memory::refuse_rows;
+use ecma_row_checks::compare;
 use ecma_row_format::tally::Tally;
 use std::process::ExitCode;
 use std::rt::{Env, Files};
@@ -61,10 +59,10 @@ fn work<R: Files + Print + AllocGlobal>(rt: &R, task: Task, name: &str) -> io::R
     let text = fs::read_to_string(rt, name)?;
     let mut out = String::new(rt.alloc());
     let tally = match task {
-        Task::Compare => check::compare(rt.alloc(), &mut out, text.as_str())?,
-        Task::Break(every) => broken::break_rows(rt.alloc(), &mut out, text.as_str(), every)?,
+        Task::Compare => compare(rt.alloc(), &mut out, text.as_str())?,
+        Task::Break(every) => break_rows(rt.alloc(), &mut out, text.as_str(), every)?,
         Task::Copy | Task::Refuse => {
-            memory::refuse_rows(rt.alloc(), library(rt, task), &mut out, text.as_str())?
+            refuse_rows(rt.alloc(), library(rt, task), &mut out, text.as_str())?
         }
     };
     print!(rt; "{out}")?;
