@@ -1,7 +1,5 @@
 //! The readers of what stands in so many levels, for a rule that is called from outside the parser.
 
-ghost use Rattle.std.specs.Prelude.{Unit};
-
 use swc_ecma_parser_cursor::Cursor;
 use swc_ecma_parser_error::PResult;
 use swc_ecma_parser_grammar::Position;
