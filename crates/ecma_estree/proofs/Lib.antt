@@ -1,0 +1,3 @@
+pub mod Directives
+pub mod Exported
+pub mod Listed

@@ -1,0 +1,15 @@
+-- What each step has written or has laid upon the stack, one behind another.
+use Rattle.std.proofs.Common.{append_assoc, ◌∙◌}
+use Rattle.ecma_estree_exprs.proofs.Steps.{where_ok}
+use Rattle.ecma_estree.proofs.exports.push_empty_list.Goals as goal
+
+pub returns : goal.returns
+returns c =
+    where_ok c.push-3.result c.push-3.ensures (λ h.
+    let e1 = c.in_ok-push.ensures in
+    let e2 = c.in_ok-push-2.ensures in
+    let s2 = e2.0 ∙ e1.0 in (
+      h.0 ∙ s2,
+      h.1 ∙ e2.1 ∙ e1.1,
+      simp (h.2, e2.2, e1.2, append_assoc),
+    ))

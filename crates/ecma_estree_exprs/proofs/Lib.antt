@@ -1,0 +1,4 @@
+mod Arguments
+pub mod AsExpr
+mod Decorators
+pub mod Steps

@@ -1,0 +1,53 @@
+-- What each step has written or has laid upon the stack, one behind another.
+use Rattle.std.proofs.Common.{codes, map, false, ◌++◌, ◌∙◌}
+use Rattle.ecma_estree_exprs.proofs.Steps.{after, from, ground, onto, onto_four, under, where_ok}
+use Rattle.ecma_estree_writer.specs.Parts.{key, word_field, end, open_list, end_list}
+use Rattle.ecma_estree_writer.specs.Estree.{json, plain, directives, member_head, accessor}
+use Rattle.swc_ecma_parser_ast.specs.Parts.{view_option}
+use Rattle.swc_ecma_parser_ast.specs.View.{view_prop_name, view_block_stmt, view_param_or_ts_param_prop}
+use Rattle.swc_ecma_parser_model.specs.Tree.{listed}
+use Rattle.swc_ecma_parser_model.specs.Kinds.{is_computed}
+use Rattle.ecma_estree_exprs.proofs.members.write_constructor.Goals as goal
+
+pub returns : goal.returns
+returns c =
+    let t = c.args.w.now.source in
+    let p = c.args.w.now.pending in
+    let x = c.args.x.now in
+    let e1 = c.in_ok-open_member.ensures in
+    let e2 = c.in_ok-push.ensures in
+    let e3 = c.in_ok-push_rest_of_function.ensures in
+    let e4 = c.in_ok-push-2.ensures in
+    let e5 = c.in_ok-push_accessor.ensures in
+    let e6 = c.in_ok-push-3.ensures in
+    let s2 = e2.0 ∙ e1.0 in
+    let s3 = e3.0 ∙ s2 in
+    let s4 = e4.0 ∙ s3 in
+    let s5 = e5.0 ∙ s4 in
+    let s6 = e6.0 ∙ s5 in
+    where_ok c.write_prop_name.result c.write_prop_name.ensures (λ h.
+    let x1 = member_head t (codes "MethodDefinition") x.span false (is_computed (view_prop_name x.key)) in
+    let x2 = end in
+    let x3a = end_list in
+    let x3b = key (codes "body") in
+    let x3c = json t directives (view_option view_block_stmt x.body) in
+    let x3d = end in
+    let x4 = json t plain (listed (map view_param_or_ts_param_prop x.params.items)) in
+    let x5a = key (codes "value") in
+    let x5b = accessor t (view_prop_name x.key) x.span in
+    let x5c = key (codes "params") in
+    let x5d = open_list in
+    let x6 = word_field (codes "kind") (codes "constructor") in
+    let x7 = json t plain (view_prop_name x.key) in
+    let q2 = ground x2 e2.2 (e1.2) in
+    let q3 = onto_four p x2 x3a x3b x3c x3d (simp s2 at e3.2) (q2) in
+    let r3 = x3a ++ (x3b ++ (x3c ++ (x3d ++ x2))) in
+    let q4 = onto p r3 x4 (simp (s3, c.as_slice.ensures.value) at e4.2) (q3) in
+    let r4 = x4 ++ r3 in
+    let q5 = onto_four p r4 x5a x5b x5c x5d (simp s4 at e5.2) (q4) in
+    let r5 = x5a ++ (x5b ++ (x5c ++ (x5d ++ r4))) in
+    let q6 = onto p r5 x6 e6.2 (q5) in
+    let r6 = x6 ++ r5 in
+    let z1 = from ((x7 ++ r6) ++ p) (under c.push-3.new.self.written x7 r6 p (simp s6 at h.1) q6) (e6.1 ∙ e5.1 ∙ e4.1 ∙ e3.1 ∙ e2.1) in
+    let y1 = x7 ++ r6 in
+    (h.0 ∙ s6, after y1 p c.args.w.now.written x1 z1 (simp c.is_computed.ensures at e1.1)))

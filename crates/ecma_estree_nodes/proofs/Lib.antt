@@ -1,0 +1,5 @@
+mod Numbers
+mod Pieces
+mod Scan
+mod Trees
+mod Words

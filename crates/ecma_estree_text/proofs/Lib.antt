@@ -1,0 +1,3 @@
+mod Counts
+mod Spots
+mod Value

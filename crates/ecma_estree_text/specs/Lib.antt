@@ -1,0 +1,5 @@
+pub mod Quoted
+pub mod Spots
+pub mod Places
+pub mod Bracket
+pub mod Number

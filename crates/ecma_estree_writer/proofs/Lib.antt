@@ -1,0 +1,2 @@
+mod Pending
+pub mod Written

@@ -1,0 +1,5 @@
+mod Back
+mod Chars
+pub mod Columns
+mod Safe
+mod Said
