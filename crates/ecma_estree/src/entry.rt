@@ -48,7 +48,8 @@ pub fn write_script(
     fields: &[u8],
     script: &Script,
 ) -> Result<Vec<u8>, AllocError>
-    ensures bytes { IfOk result (λ out. out.items ≡ json (source_of places.now fields.now) plain (view_script script.now)) }
+    ensures bytes { IfOk result
+        (λ out. out.items ≡ json (source_of places.now fields.now) plain (view_script script.now)) }
 {
     write_whole(
         alloc,
@@ -67,7 +68,9 @@ pub fn write_module(
     fields: &[u8],
     module: &Module,
 ) -> Result<Vec<u8>, AllocError>
-    ensures bytes { IfOk result (λ out. out.items ≡ json (source_of places.now fields.now) plain (view_module «module».now)) }
+    ensures bytes { IfOk result
+        (λ out. out.items
+        ≡ json (source_of places.now fields.now) plain (view_module «module».now)) }
 {
     write_whole(
         alloc,
@@ -86,7 +89,9 @@ pub fn write_program(
     fields: &[u8],
     program: &Program,
 ) -> Result<Vec<u8>, AllocError>
-    ensures bytes { IfOk result (λ out. out.items ≡ json (source_of places.now fields.now) plain (view_program program.now)) }
+    ensures bytes { IfOk result
+        (λ out. out.items
+        ≡ json (source_of places.now fields.now) plain (view_program program.now)) }
 {
     match program {
         Program::Module(x) => write_module(alloc, places, fields, x),

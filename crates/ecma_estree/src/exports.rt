@@ -22,7 +22,8 @@ use swc_ecma_parser_ast::{
 /// Writes an item.
 #[tactic(auto, using(ecma_estree_writer::proofs::Written::appended_on_ok, ecma_estree_writer::proofs::Written::pushed_on_ok))]
 pub(crate) fn write_item<'a>(w: &mut Writer<'a>, item: &'a ModuleItem) -> Result<(), AllocError>
-    ensures { OnOk result (Writes w.old w.new (json w.old.source plain (view_module_item item.now))) }
+    ensures { OnOk result
+        (Writes w.old w.new (json w.old.source plain (view_module_item item.now))) }
 {
     match item {
         ModuleItem::ModuleDecl(x) => write_module_decl(w, x),
@@ -36,7 +37,10 @@ pub(crate) fn write_directive_item<'a>(
     w: &mut Writer<'a>,
     item: &'a ModuleItem,
 ) -> Result<(), AllocError>
-    ensures { OnOk result (Writes w.old w.new (json w.old.source (next directives (view_module_item item.now)) (view_module_item item.now))) }
+    ensures { OnOk result
+        (Writes w.old w.new
+        (json w.old.source (next directives (view_module_item item.now))
+        (view_module_item item.now))) }
 {
     match item {
         ModuleItem::ModuleDecl(x) => write_module_decl(w, x),
@@ -47,7 +51,8 @@ pub(crate) fn write_directive_item<'a>(
 /// Writes an import or an export.
 #[tactic(auto, using(ecma_estree_writer::proofs::Written::appended_on_ok, ecma_estree_writer::proofs::Written::pushed_on_ok))]
 fn write_module_decl<'a>(w: &mut Writer<'a>, decl: &'a ModuleDecl) -> Result<(), AllocError>
-    ensures { OnOk result (Writes w.old w.new (json w.old.source plain (view_module_decl decl.now))) }
+    ensures { OnOk result
+        (Writes w.old w.new (json w.old.source plain (view_module_decl decl.now))) }
 {
     match decl {
         ModuleDecl::Import(x) => write_import(w, x),
@@ -84,7 +89,8 @@ fn write_export_decl<'a>(w: &mut Writer<'a>, x: &'a ExportDecl) -> Result<(), Al
 
 /// Has written what an export takes names from, or `null`.
 fn push_source<'a>(w: &mut Writer<'a>, src: &'a Option<Str>) -> Result<(), AllocError>
-    ensures { OnOk result (Pushes w.old w.new (json w.old.source plain (view_option view_str src.now))) }
+    ensures { OnOk result
+        (Pushes w.old w.new (json w.old.source plain (view_option view_str src.now))) }
 {
     match src {
         Some(x) => w.push(Work::Str(x)),
@@ -94,7 +100,14 @@ fn push_source<'a>(w: &mut Writer<'a>, src: &'a Option<Str>) -> Result<(), Alloc
 
 /// Has the rest of an export written: what it takes names from, and attributes.
 fn push_origin<'a>(w: &mut Writer<'a>, x: &'a NamedExport) -> Result<(), AllocError>
-    ensures { OnOk result (Pushes w.old w.new (key (codes "source") ++ (json w.old.source plain (view_option view_str x.now.src) ++ (key (codes "attributes") ++ (open_list ++ (json w.old.source attributes (view_option view_object_lit x.now.with) ++ (end_list ++ end))))))) }
+    ensures { OnOk result
+        (Pushes w.old w.new
+        (key (codes "source")
+        ++ (json w.old.source plain (view_option view_str x.now.src)
+        ++ (key (codes "attributes")
+        ++ (open_list
+        ++ (json w.old.source attributes (view_option view_object_lit x.now.with)
+        ++ (end_list ++ end))))))) }
 {
     w.push(Work::End)?;
     push_attributes(w, &x.with)?;
@@ -144,7 +157,17 @@ fn write_namespace_export<'a>(
     x: &'a NamedExport,
     name: &ModuleExportName,
 ) -> Result<(), AllocError>
-    ensures { OnOk result (Writes w.old w.new (node w.old.source (codes "ExportAllDeclaration") x.now.span ++ (key (codes "exported") ++ (json w.old.source plain (view_module_export_name name.now) ++ (key (codes "source") ++ (json w.old.source plain (view_option view_str x.now.src) ++ (key (codes "attributes") ++ (open_list ++ (json w.old.source attributes (view_option view_object_lit x.now.with) ++ (end_list ++ end)))))))))) }
+    ensures { OnOk result
+        (Writes w.old w.new
+        (node w.old.source (codes "ExportAllDeclaration") x.now.span
+        ++ (key (codes "exported")
+        ++ (json w.old.source plain (view_module_export_name name.now)
+        ++ (key (codes "source")
+        ++ (json w.old.source plain (view_option view_str x.now.src)
+        ++ (key (codes "attributes")
+        ++ (open_list
+        ++ (json w.old.source attributes (view_option view_object_lit x.now.with)
+        ++ (end_list ++ end)))))))))) }
 {
     w.open("ExportAllDeclaration", x.span)?;
     w.key("exported")?;
@@ -154,7 +177,8 @@ fn write_namespace_export<'a>(
 
 /// Writes a function or class as a declaration, which may have no name.
 fn write_default<'a>(w: &mut Writer<'a>, decl: &'a DefaultDecl) -> Result<(), AllocError>
-    ensures { OnOk result (Writes w.old w.new (json w.old.source declared (view_default_decl decl.now))) }
+    ensures { OnOk result
+        (Writes w.old w.new (json w.old.source declared (view_default_decl decl.now))) }
 {
     match decl {
         DefaultDecl::Class(class) => write_class(w, "ClassDeclaration", &class.ident, &class.class),
@@ -164,7 +188,8 @@ fn write_default<'a>(w: &mut Writer<'a>, decl: &'a DefaultDecl) -> Result<(), Al
 
 /// Writes a function or class that is exported by default.
 fn write_default_decl<'a>(w: &mut Writer<'a>, x: &'a ExportDefaultDecl) -> Result<(), AllocError>
-    ensures { OnOk result (Writes w.old w.new (json w.old.source plain (view_export_default_decl x.now))) }
+    ensures { OnOk result
+        (Writes w.old w.new (json w.old.source plain (view_export_default_decl x.now))) }
 {
     w.open("ExportDefaultDeclaration", x.span)?;
     w.key("declaration")?;
@@ -174,7 +199,8 @@ fn write_default_decl<'a>(w: &mut Writer<'a>, x: &'a ExportDefaultDecl) -> Resul
 
 /// Writes an expression that is exported by default.
 fn write_default_expr<'a>(w: &mut Writer<'a>, x: &'a ExportDefaultExpr) -> Result<(), AllocError>
-    ensures { OnOk result (Writes w.old w.new (json w.old.source plain (view_export_default_expr x.now))) }
+    ensures { OnOk result
+        (Writes w.old w.new (json w.old.source plain (view_export_default_expr x.now))) }
 {
     w.open("ExportDefaultDeclaration", x.span)?;
     w.key("declaration")?;
@@ -200,7 +226,8 @@ pub(crate) fn write_export_specifier(
     w: &mut Writer<'_>,
     specifier: &ExportSpecifier,
 ) -> Result<(), AllocError>
-    ensures { OnOk result (Appends w.old w.new (json w.old.source plain (view_export_specifier specifier.now))) }
+    ensures { OnOk result
+        (Appends w.old w.new (json w.old.source plain (view_export_specifier specifier.now))) }
 {
     match specifier {
         ExportSpecifier::Named(x) => write_named(w, x),
@@ -216,7 +243,8 @@ pub(crate) fn write_export_specifier(
 
 /// Writes a name that is exported as it stands before `from`.
 fn write_default_specifier(w: &mut Writer<'_>, x: &ExportDefaultSpecifier) -> Result<(), AllocError>
-    ensures { OnOk result (Appends w.old w.new (json w.old.source plain (view_export_default_specifier x.now))) }
+    ensures { OnOk result
+        (Appends w.old w.new (json w.old.source plain (view_export_default_specifier x.now))) }
 {
     w.open("ExportDefaultSpecifier", x.exported.span)?;
     w.key("exported")?;
@@ -231,7 +259,11 @@ fn write_exported(
     span: Span,
     name: &ModuleExportName,
 ) -> Result<(), AllocError>
-    ensures { OnOk result (Appends w.old w.new (node w.old.source kind.now span ++ (key (codes "exported") ++ (json w.old.source plain (view_module_export_name name.now) ++ end)))) }
+    ensures { OnOk result
+        (Appends w.old w.new
+        (node w.old.source kind.now span
+        ++ (key (codes "exported")
+        ++ (json w.old.source plain (view_module_export_name name.now) ++ end)))) }
 {
     w.open(kind, span)?;
     w.key("exported")?;
@@ -242,7 +274,10 @@ fn write_exported(
 /// Writes the name that something is exported by: its own, where there is no other.
 #[tactic(auto, using(crate::proofs::Exported::first_name))]
 fn write_exported_name(w: &mut Writer<'_>, x: &ExportNamedSpecifier) -> Result<(), AllocError>
-    ensures { OnOk result (Appends w.old w.new (first_or w.old.source (view_option view_module_export_name x.now.exported) (view_module_export_name x.now.orig))) }
+    ensures { OnOk result
+        (Appends w.old w.new
+        (first_or w.old.source (view_option view_module_export_name x.now.exported)
+        (view_module_export_name x.now.orig))) }
 {
     match &x.exported {
         Some(exported) => write_export_name(w, exported),
@@ -252,7 +287,8 @@ fn write_exported_name(w: &mut Writer<'_>, x: &ExportNamedSpecifier) -> Result<(
 
 /// Writes a name, with the one that it is exported by.
 fn write_named(w: &mut Writer<'_>, x: &ExportNamedSpecifier) -> Result<(), AllocError>
-    ensures { OnOk result (Appends w.old w.new (json w.old.source plain (view_export_named_specifier x.now))) }
+    ensures { OnOk result
+        (Appends w.old w.new (json w.old.source plain (view_export_named_specifier x.now))) }
 {
     w.open("ExportSpecifier", x.span)?;
     w.key("local")?;

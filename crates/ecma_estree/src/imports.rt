@@ -19,7 +19,8 @@ pub(crate) fn write_export_name(
     w: &mut Writer<'_>,
     name: &ModuleExportName,
 ) -> Result<(), AllocError>
-    ensures { OnOk result (Appends w.old w.new (json w.old.source plain (view_module_export_name name.now))) }
+    ensures { OnOk result
+        (Appends w.old w.new (json w.old.source plain (view_module_export_name name.now))) }
 {
     match name {
         ModuleExportName::Ident(x) => write_name(w, x),
@@ -29,7 +30,8 @@ pub(crate) fn write_export_name(
 
 /// Has attributes written, if there are any.
 fn push_parts<'a>(w: &mut Writer<'a>, with: &'a Option<ObjectLit>) -> Result<(), AllocError>
-    ensures { OnOk result (Pushes w.old w.new (json w.old.source attributes (view_option view_object_lit with.now))) }
+    ensures { OnOk result
+        (Pushes w.old w.new (json w.old.source attributes (view_option view_object_lit with.now))) }
 {
     match with {
         Some(x) => w.push(Work::Attributes(x.props.as_slice(), true)),
@@ -42,7 +44,11 @@ pub(crate) fn push_attributes<'a>(
     w: &mut Writer<'a>,
     with: &'a Option<ObjectLit>,
 ) -> Result<(), AllocError>
-    ensures { OnOk result (Pushes w.old w.new (key (codes "attributes") ++ (open_list ++ (json w.old.source attributes (view_option view_object_lit with.now) ++ end_list)))) }
+    ensures { OnOk result
+        (Pushes w.old w.new
+        (key (codes "attributes")
+        ++ (open_list
+        ++ (json w.old.source attributes (view_option view_object_lit with.now) ++ end_list)))) }
 {
     w.push(Work::EndList)?;
     push_parts(w, with)?;
@@ -82,7 +88,8 @@ pub(crate) fn write_import_specifier(
     w: &mut Writer<'_>,
     specifier: &ImportSpecifier,
 ) -> Result<(), AllocError>
-    ensures { OnOk result (Appends w.old w.new (json w.old.source plain (view_import_specifier specifier.now))) }
+    ensures { OnOk result
+        (Appends w.old w.new (json w.old.source plain (view_import_specifier specifier.now))) }
 {
     match specifier {
         ImportSpecifier::Named(x) => write_named(w, x),
@@ -95,7 +102,10 @@ pub(crate) fn write_import_specifier(
 
 /// Writes what has a name of its own alone, a node of the given kind.
 fn write_local(w: &mut Writer<'_>, kind: &str, span: Span, local: &Ident) -> Result<(), AllocError>
-    ensures { OnOk result (Appends w.old w.new (node w.old.source kind.now span ++ (key (codes "local") ++ (json w.old.source plain (view_ident local.now) ++ end)))) }
+    ensures { OnOk result
+        (Appends w.old w.new
+        (node w.old.source kind.now span
+        ++ (key (codes "local") ++ (json w.old.source plain (view_ident local.now) ++ end)))) }
 {
     w.open(kind, span)?;
     w.key("local")?;
@@ -106,7 +116,10 @@ fn write_local(w: &mut Writer<'_>, kind: &str, span: Span, local: &Ident) -> Res
 /// Writes the name that something is exported by: its own, where there is no other.
 #[tactic(auto, using(crate::proofs::Exported::first_name))]
 fn write_imported(w: &mut Writer<'_>, x: &ImportNamedSpecifier) -> Result<(), AllocError>
-    ensures { OnOk result (Appends w.old w.new (first_or w.old.source (view_option view_module_export_name x.now.imported) (view_ident x.now.local))) }
+    ensures { OnOk result
+        (Appends w.old w.new
+        (first_or w.old.source (view_option view_module_export_name x.now.imported)
+        (view_ident x.now.local))) }
 {
     match &x.imported {
         Some(imported) => write_export_name(w, imported),
@@ -116,7 +129,8 @@ fn write_imported(w: &mut Writer<'_>, x: &ImportNamedSpecifier) -> Result<(), Al
 
 /// Writes a name in braces.
 fn write_named(w: &mut Writer<'_>, x: &ImportNamedSpecifier) -> Result<(), AllocError>
-    ensures { OnOk result (Appends w.old w.new (json w.old.source plain (view_import_named_specifier x.now))) }
+    ensures { OnOk result
+        (Appends w.old w.new (json w.old.source plain (view_import_named_specifier x.now))) }
 {
     w.open("ImportSpecifier", x.span)?;
     w.key("imported")?;

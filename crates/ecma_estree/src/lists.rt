@@ -26,7 +26,9 @@ pub(crate) fn write_exprs<'a>(
     parts: &'a [ExprBox],
     is_first: bool,
 ) -> Result<(), AllocError>
-    ensures { OnOk result (Writes w.old w.new (jsons w.old.source plain is_first (trees (map (λ b. b.node.tree) parts.now)))) }
+    ensures { OnOk result
+        (Writes w.old w.new
+        (jsons w.old.source plain is_first (trees (map (λ b. b.node.tree) parts.now)))) }
 {
     let Some((x, rest)) = parts.split_first() else {
         return Ok(());
@@ -42,7 +44,9 @@ pub(crate) fn write_arguments<'a>(
     parts: &'a [ExprOrSpread],
     is_first: bool,
 ) -> Result<(), AllocError>
-    ensures { OnOk result (Writes w.old w.new (jsons w.old.source plain is_first (trees (map view_expr_or_spread parts.now)))) }
+    ensures { OnOk result
+        (Writes w.old w.new
+        (jsons w.old.source plain is_first (trees (map view_expr_or_spread parts.now)))) }
 {
     let Some((x, rest)) = parts.split_first() else {
         return Ok(());
@@ -58,7 +62,9 @@ pub(crate) fn write_properties<'a>(
     parts: &'a [PropOrSpread],
     is_first: bool,
 ) -> Result<(), AllocError>
-    ensures { OnOk result (Writes w.old w.new (jsons w.old.source plain is_first (trees (map view_prop_or_spread parts.now)))) }
+    ensures { OnOk result
+        (Writes w.old w.new
+        (jsons w.old.source plain is_first (trees (map view_prop_or_spread parts.now)))) }
 {
     let Some((x, rest)) = parts.split_first() else {
         return Ok(());
@@ -74,7 +80,9 @@ pub(crate) fn write_attributes<'a>(
     parts: &'a [PropOrSpread],
     is_first: bool,
 ) -> Result<(), AllocError>
-    ensures { OnOk result (Writes w.old w.new (jsons w.old.source attributes is_first (trees (map view_prop_or_spread parts.now)))) }
+    ensures { OnOk result
+        (Writes w.old w.new
+        (jsons w.old.source attributes is_first (trees (map view_prop_or_spread parts.now)))) }
 {
     let Some((x, rest)) = parts.split_first() else {
         return Ok(());
@@ -90,7 +98,8 @@ pub(crate) fn write_patterns<'a>(
     parts: &'a [Pat],
     is_first: bool,
 ) -> Result<(), AllocError>
-    ensures { OnOk result (Writes w.old w.new (jsons w.old.source plain is_first (trees (map view_pat parts.now)))) }
+    ensures { OnOk result
+        (Writes w.old w.new (jsons w.old.source plain is_first (trees (map view_pat parts.now)))) }
 {
     let Some((x, rest)) = parts.split_first() else {
         return Ok(());
@@ -106,7 +115,9 @@ pub(crate) fn write_pat_properties<'a>(
     parts: &'a [ObjectPatProp],
     is_first: bool,
 ) -> Result<(), AllocError>
-    ensures { OnOk result (Writes w.old w.new (jsons w.old.source plain is_first (trees (map view_object_pat_prop parts.now)))) }
+    ensures { OnOk result
+        (Writes w.old w.new
+        (jsons w.old.source plain is_first (trees (map view_object_pat_prop parts.now)))) }
 {
     let Some((x, rest)) = parts.split_first() else {
         return Ok(());
@@ -122,7 +133,9 @@ pub(crate) fn write_params<'a>(
     parts: &'a [Param],
     is_first: bool,
 ) -> Result<(), AllocError>
-    ensures { OnOk result (Writes w.old w.new (jsons w.old.source plain is_first (trees (map view_param parts.now)))) }
+    ensures { OnOk result
+        (Writes w.old w.new
+        (jsons w.old.source plain is_first (trees (map view_param parts.now)))) }
 {
     let Some((x, rest)) = parts.split_first() else {
         return Ok(());
@@ -138,7 +151,9 @@ pub(crate) fn write_decorators<'a>(
     parts: &'a [Decorator],
     is_first: bool,
 ) -> Result<(), AllocError>
-    ensures { OnOk result (Writes w.old w.new (jsons w.old.source plain is_first (trees (map view_decorator parts.now)))) }
+    ensures { OnOk result
+        (Writes w.old w.new
+        (jsons w.old.source plain is_first (trees (map view_decorator parts.now)))) }
 {
     let Some((x, rest)) = parts.split_first() else {
         return Ok(());
@@ -154,7 +169,8 @@ pub(crate) fn write_statements<'a>(
     parts: &'a [Stmt],
     is_first: bool,
 ) -> Result<(), AllocError>
-    ensures { OnOk result (Writes w.old w.new (jsons w.old.source plain is_first (trees (map view_stmt parts.now)))) }
+    ensures { OnOk result
+        (Writes w.old w.new (jsons w.old.source plain is_first (trees (map view_stmt parts.now)))) }
 {
     let Some((x, rest)) = parts.split_first() else {
         return Ok(());
@@ -170,7 +186,9 @@ pub(crate) fn write_cases<'a>(
     parts: &'a [SwitchCase],
     is_first: bool,
 ) -> Result<(), AllocError>
-    ensures { OnOk result (Writes w.old w.new (jsons w.old.source plain is_first (trees (map view_switch_case parts.now)))) }
+    ensures { OnOk result
+        (Writes w.old w.new
+        (jsons w.old.source plain is_first (trees (map view_switch_case parts.now)))) }
 {
     let Some((x, rest)) = parts.split_first() else {
         return Ok(());
@@ -186,7 +204,9 @@ pub(crate) fn write_declarators<'a>(
     parts: &'a [VarDeclarator],
     is_first: bool,
 ) -> Result<(), AllocError>
-    ensures { OnOk result (Writes w.old w.new (jsons w.old.source plain is_first (trees (map view_declarator parts.now)))) }
+    ensures { OnOk result
+        (Writes w.old w.new
+        (jsons w.old.source plain is_first (trees (map view_declarator parts.now)))) }
 {
     let Some((x, rest)) = parts.split_first() else {
         return Ok(());
@@ -202,7 +222,9 @@ pub(crate) fn write_items<'a>(
     parts: &'a [ModuleItem],
     is_first: bool,
 ) -> Result<(), AllocError>
-    ensures { OnOk result (Writes w.old w.new (jsons w.old.source plain is_first (trees (map view_module_item parts.now)))) }
+    ensures { OnOk result
+        (Writes w.old w.new
+        (jsons w.old.source plain is_first (trees (map view_module_item parts.now)))) }
 {
     let Some((x, rest)) = parts.split_first() else {
         return Ok(());
@@ -218,7 +240,10 @@ pub(crate) fn write_elements<'a>(
     parts: &'a [Option<ExprOrSpread>],
     is_first: bool,
 ) -> Result<(), AllocError>
-    ensures { OnOk result (Writes w.old w.new (jsons w.old.source plain is_first (trees (map (view_option view_expr_or_spread) parts.now)))) }
+    ensures { OnOk result
+        (Writes w.old w.new
+        (jsons w.old.source plain is_first
+        (trees (map (view_option view_expr_or_spread) parts.now)))) }
 {
     let Some((x, rest)) = parts.split_first() else {
         return Ok(());
@@ -237,7 +262,10 @@ pub(crate) fn write_pat_elements<'a>(
     parts: &'a [Option<PatBox>],
     is_first: bool,
 ) -> Result<(), AllocError>
-    ensures { OnOk result (Writes w.old w.new (jsons w.old.source plain is_first (trees (map (view_option (λ b. b.node.tree)) parts.now)))) }
+    ensures { OnOk result
+        (Writes w.old w.new
+        (jsons w.old.source plain is_first
+        (trees (map (view_option (λ b. b.node.tree)) parts.now)))) }
 {
     let Some((x, rest)) = parts.split_first() else {
         return Ok(());
@@ -256,7 +284,9 @@ pub(crate) fn write_constructor_params<'a>(
     parts: &'a [ParamOrTsParamProp],
     is_first: bool,
 ) -> Result<(), AllocError>
-    ensures { OnOk result (Writes w.old w.new (jsons w.old.source plain is_first (trees (map view_param_or_ts_param_prop parts.now)))) }
+    ensures { OnOk result
+        (Writes w.old w.new
+        (jsons w.old.source plain is_first (trees (map view_param_or_ts_param_prop parts.now)))) }
 {
     let Some((x, rest)) = parts.split_first() else {
         return Ok(());
@@ -285,7 +315,9 @@ pub(crate) fn write_members<'a>(
     parts: &'a [ClassMember],
     is_first: bool,
 ) -> Result<(), AllocError>
-    ensures { OnOk result (Writes w.old w.new (jsons w.old.source members is_first (trees (map view_class_member parts.now)))) }
+    ensures { OnOk result
+        (Writes w.old w.new
+        (jsons w.old.source members is_first (trees (map view_class_member parts.now)))) }
 {
     let Some((x, rest)) = parts.split_first() else {
         return Ok(());
@@ -305,7 +337,9 @@ pub(crate) fn write_directives<'a>(
     parts: &'a [Stmt],
     is_first: bool,
 ) -> Result<(), AllocError>
-    ensures { OnOk result (Writes w.old w.new (jsons w.old.source directives is_first (trees (map view_stmt parts.now)))) }
+    ensures { OnOk result
+        (Writes w.old w.new
+        (jsons w.old.source directives is_first (trees (map view_stmt parts.now)))) }
 {
     let Some((x, rest)) = parts.split_first() else {
         return Ok(());
@@ -327,7 +361,9 @@ pub(crate) fn write_directive_items<'a>(
     parts: &'a [ModuleItem],
     is_first: bool,
 ) -> Result<(), AllocError>
-    ensures { OnOk result (Writes w.old w.new (jsons w.old.source directives is_first (trees (map view_module_item parts.now)))) }
+    ensures { OnOk result
+        (Writes w.old w.new
+        (jsons w.old.source directives is_first (trees (map view_module_item parts.now)))) }
 {
     let Some((x, rest)) = parts.split_first() else {
         return Ok(());
@@ -359,7 +395,9 @@ pub(crate) fn write_imports<'a>(
     parts: &'a [ImportSpecifier],
     is_first: bool,
 ) -> Result<(), AllocError>
-    ensures { OnOk result (Writes w.old w.new (jsons w.old.source plain is_first (trees (map view_import_specifier parts.now)))) }
+    ensures { OnOk result
+        (Writes w.old w.new
+        (jsons w.old.source plain is_first (trees (map view_import_specifier parts.now)))) }
 {
     let Some((x, rest)) = parts.split_first() else {
         return Ok(());
@@ -375,7 +413,9 @@ pub(crate) fn write_exports<'a>(
     parts: &'a [ExportSpecifier],
     is_first: bool,
 ) -> Result<(), AllocError>
-    ensures { OnOk result (Writes w.old w.new (jsons w.old.source plain is_first (trees (map view_export_specifier parts.now)))) }
+    ensures { OnOk result
+        (Writes w.old w.new
+        (jsons w.old.source plain is_first (trees (map view_export_specifier parts.now)))) }
 {
     let Some((x, rest)) = parts.split_first() else {
         return Ok(());

@@ -28,7 +28,8 @@ pub(crate) fn write_while<'a>(w: &mut Writer<'a>, x: &'a WhileStmt) -> Result<()
 
 /// Writes `do`.
 pub(crate) fn write_do_while<'a>(w: &mut Writer<'a>, x: &'a DoWhileStmt) -> Result<(), AllocError>
-    ensures { OnOk result (Writes w.old w.new (json w.old.source plain (view_do_while_stmt x.now))) }
+    ensures { OnOk result
+        (Writes w.old w.new (json w.old.source plain (view_do_while_stmt x.now))) }
 {
     w.open("DoWhileStatement", x.span)?;
     w.key("body")?;
@@ -40,7 +41,8 @@ pub(crate) fn write_do_while<'a>(w: &mut Writer<'a>, x: &'a DoWhileStmt) -> Resu
 
 /// Writes the first part of a `for`.
 fn write_init<'a>(w: &mut Writer<'a>, init: &'a VarDeclOrExpr) -> Result<(), AllocError>
-    ensures { OnOk result (Writes w.old w.new (json w.old.source plain (view_var_decl_or_expr init.now))) }
+    ensures { OnOk result
+        (Writes w.old w.new (json w.old.source plain (view_var_decl_or_expr init.now))) }
 {
     match init {
         VarDeclOrExpr::VarDecl(x) => write_var(w, x),
@@ -54,7 +56,9 @@ fn write_optional_init<'a>(
     w: &mut Writer<'a>,
     init: &'a Option<VarDeclOrExpr>,
 ) -> Result<(), AllocError>
-    ensures { OnOk result (Writes w.old w.new (json w.old.source plain (view_option view_var_decl_or_expr init.now))) }
+    ensures { OnOk result
+        (Writes w.old w.new
+        (json w.old.source plain (view_option view_var_decl_or_expr init.now))) }
 {
     match init {
         Some(x) => write_init(w, x),

@@ -76,7 +76,8 @@ pub(crate) fn write_block<'a>(w: &mut Writer<'a>, x: &'a BlockStmt) -> Result<()
 
 /// Writes the body of a function.
 pub(crate) fn write_body<'a>(w: &mut Writer<'a>, x: &'a BlockStmt) -> Result<(), AllocError>
-    ensures { OnOk result (Writes w.old w.new (json w.old.source directives (view_block_stmt x.now))) }
+    ensures { OnOk result
+        (Writes w.old w.new (json w.old.source directives (view_block_stmt x.now))) }
 {
     w.open("BlockStatement", x.span)?;
     w.list_key("body")?;
@@ -116,7 +117,9 @@ fn string_statement(stmt: &Stmt) -> Option<(Span, &Str)>
 /// Writes a statement that is a directive where it is a string; else as it is.
 #[tactic(auto, using(crate::proofs::Directives::as_it_is))]
 pub(crate) fn write_directive<'a>(w: &mut Writer<'a>, stmt: &'a Stmt) -> Result<(), AllocError>
-    ensures { OnOk result (Writes w.old w.new (json w.old.source (next directives (view_stmt stmt.now)) (view_stmt stmt.now))) }
+    ensures { OnOk result
+        (Writes w.old w.new
+        (json w.old.source (next directives (view_stmt stmt.now)) (view_stmt stmt.now))) }
 {
     let Some((span, literal)) = string_statement(stmt) else {
         return write_stmt(w, stmt);
@@ -169,7 +172,11 @@ fn write_jump(
     span: Span,
     label: &Option<Ident>,
 ) -> Result<(), AllocError>
-    ensures { OnOk result (Appends w.old w.new (node w.old.source kind.now span ++ (key (codes "label") ++ (json w.old.source plain (view_option view_ident label.now) ++ end)))) }
+    ensures { OnOk result
+        (Appends w.old w.new
+        (node w.old.source kind.now span
+        ++ (key (codes "label")
+        ++ (json w.old.source plain (view_option view_ident label.now) ++ end)))) }
 {
     w.open(kind, span)?;
     w.key("label")?;
@@ -179,7 +186,8 @@ fn write_jump(
 
 /// Has a statement written, or `null`.
 fn push_optional_stmt<'a>(w: &mut Writer<'a>, stmt: &'a Option<StmtBox>) -> Result<(), AllocError>
-    ensures { OnOk result (Pushes w.old w.new (json w.old.source plain (view_option (λ b. b.node.tree) stmt.now))) }
+    ensures { OnOk result
+        (Pushes w.old w.new (json w.old.source plain (view_option (λ b. b.node.tree) stmt.now))) }
 {
     match stmt {
         Some(x) => w.push(Work::Stmt(x)),
@@ -192,7 +200,8 @@ fn push_optional_block<'a>(
     w: &mut Writer<'a>,
     block: &'a Option<BlockStmt>,
 ) -> Result<(), AllocError>
-    ensures { OnOk result (Pushes w.old w.new (json w.old.source plain (view_option view_block_stmt block.now))) }
+    ensures { OnOk result
+        (Pushes w.old w.new (json w.old.source plain (view_option view_block_stmt block.now))) }
 {
     match block {
         Some(x) => w.push(Work::Block(x)),
@@ -205,7 +214,8 @@ fn push_optional_catch<'a>(
     w: &mut Writer<'a>,
     handler: &'a Option<CatchClause>,
 ) -> Result<(), AllocError>
-    ensures { OnOk result (Pushes w.old w.new (json w.old.source plain (view_option view_catch_clause handler.now))) }
+    ensures { OnOk result
+        (Pushes w.old w.new (json w.old.source plain (view_option view_catch_clause handler.now))) }
 {
     match handler {
         Some(x) => w.push(Work::Catch(x)),
@@ -283,7 +293,8 @@ fn write_try<'a>(w: &mut Writer<'a>, x: &'a TryStmt) -> Result<(), AllocError>
 
 /// Has the pattern written that a `catch` binds, or `null`.
 fn push_optional_pattern<'a>(w: &mut Writer<'a>, pattern: &'a Option<Pat>) -> Result<(), AllocError>
-    ensures { OnOk result (Pushes w.old w.new (json w.old.source plain (view_option view_pat pattern.now))) }
+    ensures { OnOk result
+        (Pushes w.old w.new (json w.old.source plain (view_option view_pat pattern.now))) }
 {
     match pattern {
         Some(x) => w.push(Work::Pattern(x)),

@@ -18,7 +18,8 @@ use swc_ecma_parser_ast::{
 
 /// Has the name of a member written.
 fn push_member_prop<'a>(w: &mut Writer<'a>, prop: &'a MemberProp) -> Result<(), AllocError>
-    ensures { OnOk result (Pushes w.old w.new (json w.old.source plain (view_member_prop prop.now))) }
+    ensures { OnOk result
+        (Pushes w.old w.new (json w.old.source plain (view_member_prop prop.now))) }
 {
     match prop {
         MemberProp::Ident(x) => w.push(Work::Name(x)),
@@ -53,7 +54,8 @@ pub fn write_member<'a>(w: &mut Writer<'a>, x: &'a MemberExpr) -> Result<(), All
 
 /// Writes a member of `super`.
 pub fn write_super_member<'a>(w: &mut Writer<'a>, x: &'a SuperPropExpr) -> Result<(), AllocError>
-    ensures { OnOk result (Writes w.old w.new (json w.old.source plain (view_super_prop_expr x.now))) }
+    ensures { OnOk result
+        (Writes w.old w.new (json w.old.source plain (view_super_prop_expr x.now))) }
 {
     w.open("MemberExpression", x.span)?;
     w.key("object")?;
@@ -75,7 +77,12 @@ pub fn write_super_member<'a>(w: &mut Writer<'a>, x: &'a SuperPropExpr) -> Resul
 
 /// Has the arguments of a call written, with what stands around them behind what is called.
 fn push_arguments<'a>(w: &mut Writer<'a>, args: &'a [ExprOrSpread]) -> Result<(), AllocError>
-    ensures { OnOk result (Pushes w.old w.new (key (codes "arguments") ++ (open_list ++ (json w.old.source plain (listed (map view_expr_or_spread args.now)) ++ (end_list ++ (bool_field (codes "optional") false ++ end)))))) }
+    ensures { OnOk result
+        (Pushes w.old w.new
+        (key (codes "arguments")
+        ++ (open_list
+        ++ (json w.old.source plain (listed (map view_expr_or_spread args.now))
+        ++ (end_list ++ (bool_field (codes "optional") false ++ end)))))) }
 {
     w.push(Work::End)?;
     w.push(Work::Bool("optional", false))?;
@@ -105,7 +112,9 @@ pub fn write_call<'a>(w: &mut Writer<'a>, x: &'a CallExpr) -> Result<(), AllocEr
 
 /// Has the first argument of `import` written, or `null`.
 fn push_source<'a>(w: &mut Writer<'a>, args: &'a [ExprOrSpread]) -> Result<(), AllocError>
-    ensures { OnOk result (Pushes w.old w.new (json w.old.source (argument 0) (listed (map view_expr_or_spread args.now)))) }
+    ensures { OnOk result
+        (Pushes w.old w.new
+        (json w.old.source (argument 0) (listed (map view_expr_or_spread args.now)))) }
 {
     match args {
         [source, ..] => w.push(Work::Argument(source)),
@@ -115,7 +124,9 @@ fn push_source<'a>(w: &mut Writer<'a>, args: &'a [ExprOrSpread]) -> Result<(), A
 
 /// Has the second argument of `import` written, or `null`.
 fn push_options<'a>(w: &mut Writer<'a>, args: &'a [ExprOrSpread]) -> Result<(), AllocError>
-    ensures { OnOk result (Pushes w.old w.new (json w.old.source (argument 1) (listed (map view_expr_or_spread args.now)))) }
+    ensures { OnOk result
+        (Pushes w.old w.new
+        (json w.old.source (argument 1) (listed (map view_expr_or_spread args.now)))) }
 {
     match args {
         [_, options, ..] => w.push(Work::Argument(options)),
@@ -125,7 +136,11 @@ fn push_options<'a>(w: &mut Writer<'a>, args: &'a [ExprOrSpread]) -> Result<(), 
 
 /// Writes `import` that is called.
 fn write_import_call<'a>(w: &mut Writer<'a>, x: &'a CallExpr) -> Result<(), AllocError>
-    ensures { OnOk result (Writes w.old w.new (json w.old.source plain (call x.now.span (import_callee x.now.span) (listed (map view_expr_or_spread x.now.args.items))))) }
+    ensures { OnOk result
+        (Writes w.old w.new
+        (json w.old.source plain
+        (call x.now.span (import_callee x.now.span)
+        (listed (map view_expr_or_spread x.now.args.items))))) }
 {
     w.open("ImportExpression", x.span)?;
     w.key("source")?;
@@ -140,7 +155,10 @@ fn push_optional_arguments<'a>(
     w: &mut Writer<'a>,
     args: &'a Option<Vec<ExprOrSpread>>,
 ) -> Result<(), AllocError>
-    ensures { OnOk result (Pushes w.old w.new (arguments_text w.old.source (view_option (λ v. listed (map view_expr_or_spread v.items)) args.now))) }
+    ensures { OnOk result
+        (Pushes w.old w.new
+        (arguments_text w.old.source
+        (view_option (λ v. listed (map view_expr_or_spread v.items)) args.now))) }
 {
     match args {
         Some(args) => w.push(Work::Arguments(args.as_slice(), true)),
@@ -165,7 +183,8 @@ pub fn write_new<'a>(w: &mut Writer<'a>, x: &'a NewExpr) -> Result<(), AllocErro
 /// Writes an element or an argument.
 #[tactic(auto, using(ecma_estree_writer::proofs::Written::appended_on_ok, ecma_estree_writer::proofs::Written::pushed_on_ok))]
 pub fn write_argument<'a>(w: &mut Writer<'a>, x: &'a ExprOrSpread) -> Result<(), AllocError>
-    ensures { OnOk result (Writes w.old w.new (json w.old.source plain (view_expr_or_spread x.now))) }
+    ensures { OnOk result
+        (Writes w.old w.new (json w.old.source plain (view_expr_or_spread x.now))) }
 {
     let Some(dots) = x.spread else {
         return w.push(Work::Expr(&x.expr));

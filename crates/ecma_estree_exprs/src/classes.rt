@@ -50,7 +50,9 @@ fn expr_end(expr: &Option<ExprBox>) -> usize
 
 /// Where the braces of a class begin, in bytes: behind its decorators, its name and what it extends.
 fn brace(w: &Writer<'_>, x: &Class, name_end: usize) -> usize
-    ensures { result ≡ estree.brace w.now.source x.now.span (listed (map view_decorator x.now.decorators.items)) (view_option (λ b. b.node.tree) x.now.super_class) name_end }
+    ensures { result
+        ≡ estree.brace w.now.source x.now.span (listed (map view_decorator x.now.decorators.items))
+        (view_option (λ b. b.node.tree) x.now.super_class) name_end }
 {
     let start = end_of_last(x.decorators.as_slice(), x.span.lo.0 as usize);
     w.find(b'{', expr_end(&x.super_class).max(name_end.max(start)))
@@ -58,7 +60,14 @@ fn brace(w: &Writer<'_>, x: &Class, name_end: usize) -> usize
 
 /// Has the body of a class written, from its brace on.
 fn push_class_body<'a>(w: &mut Writer<'a>, x: &'a Class, start: usize) -> Result<(), AllocError>
-    ensures { OnOk result (Pushes w.old w.new (key (codes "body") ++ (node_at w.old.source (codes "ClassBody") start x.now.span.hi.0 ++ (key (codes "body") ++ (open_list ++ (json w.old.source members (listed (map view_class_member x.now.body.items)) ++ (end_list ++ end))))))) }
+    ensures { OnOk result
+        (Pushes w.old w.new
+        (key (codes "body")
+        ++ (node_at w.old.source (codes "ClassBody") start x.now.span.hi.0
+        ++ (key (codes "body")
+        ++ (open_list
+        ++ (json w.old.source members (listed (map view_class_member x.now.body.items))
+        ++ (end_list ++ end))))))) }
 {
     w.push(Work::End)?;
     w.push(Work::EndList)?;
@@ -69,7 +78,8 @@ fn push_class_body<'a>(w: &mut Writer<'a>, x: &'a Class, start: usize) -> Result
 
 /// Has what a class has behind its name written.
 fn write_rest<'a>(w: &mut Writer<'a>, x: &'a Class, name_end: usize) -> Result<(), AllocError>
-    ensures { OnOk result (Writes w.old w.new (class_rest w.old.source name_end (view_class x.now))) }
+    ensures { OnOk result
+        (Writes w.old w.new (class_rest w.old.source name_end (view_class x.now))) }
 {
     let start = brace(w, x, name_end);
     w.key("superClass")?;
@@ -81,7 +91,9 @@ fn write_rest<'a>(w: &mut Writer<'a>, x: &'a Class, name_end: usize) -> Result<(
 
 /// Writes how the body of a class begins.
 pub fn write_class_body(w: &mut Writer<'_>, start: usize, end: usize) -> Result<(), AllocError>
-    ensures { OnOk result (Appends w.old w.new (node_at w.old.source (codes "ClassBody") start end ++ (key (codes "body") ++ open_list))) }
+    ensures { OnOk result
+        (Appends w.old w.new
+        (node_at w.old.source (codes "ClassBody") start end ++ (key (codes "body") ++ open_list))) }
 {
     w.open_at("ClassBody", start, end)?;
     w.list_key("body")
@@ -94,7 +106,11 @@ pub fn write_class<'a>(
     name: &Option<Ident>,
     x: &'a Class,
 ) -> Result<(), AllocError>
-    ensures { OnOk result (Writes w.old w.new (json w.old.source (class kind.now (json w.old.source plain (view_option view_ident name.now)) (end_of (view_option view_ident name.now))) (view_class x.now))) }
+    ensures { OnOk result
+        (Writes w.old w.new
+        (json w.old.source
+        (class kind.now (json w.old.source plain (view_option view_ident name.now))
+        (end_of (view_option view_ident name.now))) (view_class x.now))) }
 {
     w.open(kind, x.span)?;
     w.key("id")?;
@@ -108,7 +124,11 @@ pub fn write_class_decl<'a>(
     name: &Ident,
     x: &'a Class,
 ) -> Result<(), AllocError>
-    ensures { OnOk result (Writes w.old w.new (json w.old.source (class (codes "ClassDeclaration") (json w.old.source plain (view_ident name.now)) name.now.span.hi.0) (view_class x.now))) }
+    ensures { OnOk result
+        (Writes w.old w.new
+        (json w.old.source
+        (class (codes "ClassDeclaration") (json w.old.source plain (view_ident name.now))
+        name.now.span.hi.0) (view_class x.now))) }
 {
     w.open("ClassDeclaration", x.span)?;
     w.key("id")?;

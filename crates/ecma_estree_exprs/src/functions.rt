@@ -28,7 +28,8 @@ pub fn method_start(w: &Writer<'_>, key: &PropName) -> usize
 
 /// Has the body of a function written, or `null`.
 pub fn push_body<'a>(w: &mut Writer<'a>, body: &'a Option<BlockStmt>) -> Result<(), AllocError>
-    ensures { OnOk result (Pushes w.old w.new (json w.old.source directives (view_option view_block_stmt body.now))) }
+    ensures { OnOk result
+        (Pushes w.old w.new (json w.old.source directives (view_option view_block_stmt body.now))) }
 {
     match body {
         Some(x) => w.push(Work::Body(x)),
@@ -42,7 +43,11 @@ pub fn push_accessor<'a>(
     key: &'a PropName,
     span: Span,
 ) -> Result<(), AllocError>
-    ensures { OnOk result (Pushes w.old w.new (parts.key (codes "value") ++ (accessor w.old.source (view_prop_name key.now) span ++ (parts.key (codes "params") ++ open_list)))) }
+    ensures { OnOk result
+        (Pushes w.old w.new
+        (parts.key (codes "value")
+        ++ (accessor w.old.source (view_prop_name key.now) span
+        ++ (parts.key (codes "params") ++ open_list)))) }
 {
     let start = method_start(w, key);
     w.push(Work::Accessor(start, span.hi.0 as usize))?;
@@ -51,7 +56,10 @@ pub fn push_accessor<'a>(
 
 /// Writes the start of a method's value that has no parameters of its own, up to those.
 pub fn write_accessor(w: &mut Writer<'_>, start: usize, end: usize) -> Result<(), AllocError>
-    ensures { OnOk result (Appends w.old w.new (node_at w.old.source (codes "FunctionExpression") start end ++ (function_fields nothing false false false ++ (key (codes "params") ++ open_list)))) }
+    ensures { OnOk result
+        (Appends w.old w.new
+        (node_at w.old.source (codes "FunctionExpression") start end
+        ++ (function_fields nothing false false false ++ (key (codes "params") ++ open_list)))) }
 {
     w.open_at("FunctionExpression", start, end)?;
     w.key("id")?;
@@ -67,7 +75,10 @@ pub fn push_rest_of_function<'a>(
     w: &mut Writer<'a>,
     body: &'a Option<BlockStmt>,
 ) -> Result<(), AllocError>
-    ensures { OnOk result (Pushes w.old w.new (end_list ++ (key (codes "body") ++ (json w.old.source directives (view_option view_block_stmt body.now) ++ end)))) }
+    ensures { OnOk result
+        (Pushes w.old w.new
+        (end_list ++ (key (codes "body")
+        ++ (json w.old.source directives (view_option view_block_stmt body.now) ++ end)))) }
 {
     w.push(Work::End)?;
     push_body(w, body)?;
@@ -93,7 +104,10 @@ pub fn write_method_value<'a>(
     x: &'a Function,
     start: usize,
 ) -> Result<(), AllocError>
-    ensures { OnOk result (Writes w.old w.new (json w.old.source (function (codes "FunctionExpression") nothing start) (view_function x.now))) }
+    ensures { OnOk result
+        (Writes w.old w.new
+        (json w.old.source (function (codes "FunctionExpression") nothing start)
+        (view_function x.now))) }
 {
     w.open_at("FunctionExpression", start, x.span.hi.0 as usize)?;
     w.key("id")?;
@@ -107,7 +121,11 @@ pub fn write_function_expr<'a>(
     kind: &str,
     x: &'a FnExpr,
 ) -> Result<(), AllocError>
-    ensures { OnOk result (Writes w.old w.new (json w.old.source (function kind.now (json w.old.source plain (view_option view_ident x.now.ident)) x.now.span.lo.0) (view_function x.now.function.value))) }
+    ensures { OnOk result
+        (Writes w.old w.new
+        (json w.old.source
+        (function kind.now (json w.old.source plain (view_option view_ident x.now.ident))
+        x.now.span.lo.0) (view_function x.now.function.value))) }
 {
     w.open_at(kind, x.span.lo.0 as usize, x.function.span.hi.0 as usize)?;
     w.key("id")?;
@@ -127,7 +145,11 @@ pub fn write_function_decl<'a>(w: &mut Writer<'a>, x: &'a FnDecl) -> Result<(), 
 
 /// Writes how an arrow function begins, up to its parameters.
 fn open_arrow(w: &mut Writer<'_>, x: &ArrowExpr, is_expression: bool) -> Result<(), AllocError>
-    ensures { OnOk result (Appends w.old w.new (node w.old.source (codes "ArrowFunctionExpression") x.now.span ++ (function_fields nothing is_expression false x.now.is_async ++ (key (codes "params") ++ open_list)))) }
+    ensures { OnOk result
+        (Appends w.old w.new
+        (node w.old.source (codes "ArrowFunctionExpression") x.now.span
+        ++ (function_fields nothing is_expression false x.now.is_async
+        ++ (key (codes "params") ++ open_list)))) }
 {
     w.open("ArrowFunctionExpression", x.span)?;
     w.key("id")?;
@@ -172,7 +194,9 @@ pub fn push_decorators<'a>(
     w: &mut Writer<'a>,
     decorators: &'a [Decorator],
 ) -> Result<(), AllocError>
-    ensures { OnOk result (Pushes w.old w.new (decorator_field w.old.source (listed (map view_decorator decorators.now)))) }
+    ensures { OnOk result
+        (Pushes w.old w.new
+        (decorator_field w.old.source (listed (map view_decorator decorators.now)))) }
 {
     if decorators.is_empty() {
         return Ok(());

@@ -21,7 +21,8 @@ use swc_ecma_parser_ast::{
 /// Writes a member.
 #[tactic(auto, using(ecma_estree_writer::proofs::Written::appended_on_ok, ecma_estree_writer::proofs::Written::pushed_on_ok))]
 pub fn write_class_member<'a>(w: &mut Writer<'a>, member: &'a ClassMember) -> Result<(), AllocError>
-    ensures { OnOk result (Writes w.old w.new (json w.old.source members (view_class_member member.now))) }
+    ensures { OnOk result
+        (Writes w.old w.new (json w.old.source members (view_class_member member.now))) }
 {
     match member {
         ClassMember::Constructor(x) => write_constructor(w, x),
@@ -43,7 +44,8 @@ fn open_member(
     is_static: bool,
     is_computed: bool,
 ) -> Result<(), AllocError>
-    ensures { OnOk result (Appends w.old w.new (member_head w.old.source kind.now span is_static is_computed)) }
+    ensures { OnOk result
+        (Appends w.old w.new (member_head w.old.source kind.now span is_static is_computed)) }
 {
     w.open(kind, span)?;
     w.flag("static", is_static)?;
@@ -86,7 +88,8 @@ fn write_method<'a>(w: &mut Writer<'a>, x: &'a ClassMethod) -> Result<(), AllocE
 
 /// Writes a method, getter or setter with a private name.
 fn write_private_method<'a>(w: &mut Writer<'a>, x: &'a PrivateMethod) -> Result<(), AllocError>
-    ensures { OnOk result (Writes w.old w.new (json w.old.source plain (view_private_method x.now))) }
+    ensures { OnOk result
+        (Writes w.old w.new (json w.old.source plain (view_private_method x.now))) }
 {
     open_member(w, "MethodDefinition", x.span, x.is_static, false)?;
     write_private_name(w, &x.key)?;
@@ -104,7 +107,11 @@ fn push_value<'a>(
     value: &'a Option<ExprBox>,
     decorators: &'a [Decorator],
 ) -> Result<(), AllocError>
-    ensures { OnOk result (Pushes w.old w.new (key (codes "value") ++ (json w.old.source plain (view_option (λ b. b.node.tree) value.now) ++ (decorator_field w.old.source (listed (map view_decorator decorators.now)) ++ end)))) }
+    ensures { OnOk result
+        (Pushes w.old w.new
+        (key (codes "value")
+        ++ (json w.old.source plain (view_option (λ b. b.node.tree) value.now)
+        ++ (decorator_field w.old.source (listed (map view_decorator decorators.now)) ++ end)))) }
 {
     w.push(Work::End)?;
     push_decorators(w, decorators)?;
@@ -138,7 +145,8 @@ fn write_private_field<'a>(w: &mut Writer<'a>, x: &'a PrivateProp) -> Result<(),
 
 /// Writes a field with a getter and a setter.
 fn write_auto_accessor<'a>(w: &mut Writer<'a>, x: &'a AutoAccessor) -> Result<(), AllocError>
-    ensures { OnOk result (Writes w.old w.new (json w.old.source plain (view_auto_accessor x.now))) }
+    ensures { OnOk result
+        (Writes w.old w.new (json w.old.source plain (view_auto_accessor x.now))) }
 {
     match &x.key {
         Key::Private(key) => {

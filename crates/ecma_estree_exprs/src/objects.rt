@@ -70,7 +70,9 @@ pub fn open_property(
     is_shorthand: bool,
     is_computed: bool,
 ) -> Result<(), AllocError>
-    ensures { OnOk result (Appends w.old w.new (property w.old.source span is_method is_shorthand is_computed ++ key (codes "key"))) }
+    ensures { OnOk result
+        (Appends w.old w.new
+        (property w.old.source span is_method is_shorthand is_computed ++ key (codes "key"))) }
 {
     w.open("Property", span)?;
     w.flag("method", is_method)?;
@@ -82,7 +84,8 @@ pub fn open_property(
 /// Writes a part of an object.
 #[tactic(auto, using(ecma_estree_writer::proofs::Written::appended_on_ok, ecma_estree_writer::proofs::Written::pushed_on_ok))]
 pub fn write_part<'a>(w: &mut Writer<'a>, part: &'a PropOrSpread) -> Result<(), AllocError>
-    ensures { OnOk result (Writes w.old w.new (json w.old.source plain (view_prop_or_spread part.now))) }
+    ensures { OnOk result
+        (Writes w.old w.new (json w.old.source plain (view_prop_or_spread part.now))) }
 {
     match part {
         PropOrSpread::Spread(x) => write_spread(w, x),
@@ -92,7 +95,8 @@ pub fn write_part<'a>(w: &mut Writer<'a>, part: &'a PropOrSpread) -> Result<(), 
 
 /// Writes what is spread in an object.
 fn write_spread<'a>(w: &mut Writer<'a>, x: &'a SpreadElement) -> Result<(), AllocError>
-    ensures { OnOk result (Writes w.old w.new (json w.old.source plain (view_spread_element x.now))) }
+    ensures { OnOk result
+        (Writes w.old w.new (json w.old.source plain (view_spread_element x.now))) }
 {
     w.open_at(
         "SpreadElement",
@@ -121,7 +125,9 @@ pub fn write_prop<'a>(w: &mut Writer<'a>, prop: &'a Prop) -> Result<(), AllocErr
 
 /// Writes a name that is its own value.
 fn write_shorthand(w: &mut Writer<'_>, name: &Ident) -> Result<(), AllocError>
-    ensures { OnOk result (Appends w.old w.new (json w.old.source plain (shorthand_prop name.now.span name.now.sym))) }
+    ensures { OnOk result
+        (Appends w.old w.new
+        (json w.old.source plain (shorthand_prop name.now.span name.now.sym))) }
 {
     open_property(w, name.span, false, true, false)?;
     write_name(w, name)?;
@@ -133,7 +139,8 @@ fn write_shorthand(w: &mut Writer<'_>, name: &Ident) -> Result<(), AllocError>
 
 /// Writes a key with its value.
 fn write_key_value<'a>(w: &mut Writer<'a>, x: &'a KeyValueProp) -> Result<(), AllocError>
-    ensures { OnOk result (Writes w.old w.new (json w.old.source plain (view_key_value_prop x.now))) }
+    ensures { OnOk result
+        (Writes w.old w.new (json w.old.source plain (view_key_value_prop x.now))) }
 {
     open_property(w, x.span, false, false, is_computed(&x.key))?;
     w.push(Work::End)?;
@@ -145,7 +152,8 @@ fn write_key_value<'a>(w: &mut Writer<'a>, x: &'a KeyValueProp) -> Result<(), Al
 
 /// Writes a property as an attribute of an import.
 pub fn write_attribute<'a>(w: &mut Writer<'a>, part: &'a PropOrSpread) -> Result<(), AllocError>
-    ensures { OnOk result (Writes w.old w.new (json w.old.source attributes (view_prop_or_spread part.now))) }
+    ensures { OnOk result
+        (Writes w.old w.new (json w.old.source attributes (view_prop_or_spread part.now))) }
 {
     let PropOrSpread::Prop(prop) = part else {
         return write_part(w, part);
@@ -163,7 +171,11 @@ pub fn write_attribute<'a>(w: &mut Writer<'a>, part: &'a PropOrSpread) -> Result
 
 /// Writes how a name with a default begins, up to the default.
 fn open_default(w: &mut Writer<'_>, x: &AssignProp) -> Result<(), AllocError>
-    ensures { OnOk result (Appends w.old w.new (node w.old.source (codes "AssignmentPattern") x.now.span ++ (key (codes "left") ++ (json w.old.source plain (view_ident x.now.key) ++ key (codes "right"))))) }
+    ensures { OnOk result
+        (Appends w.old w.new
+        (node w.old.source (codes "AssignmentPattern") x.now.span
+        ++ (key (codes "left")
+        ++ (json w.old.source plain (view_ident x.now.key) ++ key (codes "right"))))) }
 {
     w.open("AssignmentPattern", x.span)?;
     w.key("left")?;

@@ -19,7 +19,8 @@ use swc_ecma_parser_ast::{
 
 /// Has an expression written, or `null`.
 pub fn push_optional<'a>(w: &mut Writer<'a>, expr: &'a Option<ExprBox>) -> Result<(), AllocError>
-    ensures { OnOk result (Pushes w.old w.new (json w.old.source plain (view_option (λ b. b.node.tree) expr.now))) }
+    ensures { OnOk result
+        (Pushes w.old w.new (json w.old.source plain (view_option (λ b. b.node.tree) expr.now))) }
 {
     match expr {
         Some(x) => w.push(Work::Expr(x)),
@@ -80,7 +81,8 @@ pub fn write_assign<'a>(w: &mut Writer<'a>, x: &'a AssignExpr) -> Result<(), All
 /// Writes what is assigned to.
 #[tactic(auto, using(ecma_estree_writer::proofs::Written::appended_on_ok, ecma_estree_writer::proofs::Written::pushed_on_ok))]
 fn write_target<'a>(w: &mut Writer<'a>, target: &'a AssignTarget) -> Result<(), AllocError>
-    ensures { OnOk result (Writes w.old w.new (json w.old.source plain (view_assign_target target.now))) }
+    ensures { OnOk result
+        (Writes w.old w.new (json w.old.source plain (view_assign_target target.now))) }
 {
     match target {
         AssignTarget::Simple(SimpleAssignTarget::Ident(x)) => write_name(w, &x.id),

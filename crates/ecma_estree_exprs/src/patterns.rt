@@ -77,7 +77,8 @@ fn write_assign_pat<'a>(w: &mut Writer<'a>, x: &'a AssignPat) -> Result<(), Allo
 /// Writes a part of an object pattern.
 #[tactic(auto, using(ecma_estree_writer::proofs::Written::appended_on_ok, ecma_estree_writer::proofs::Written::pushed_on_ok))]
 pub fn write_pat_part<'a>(w: &mut Writer<'a>, part: &'a ObjectPatProp) -> Result<(), AllocError>
-    ensures { OnOk result (Writes w.old w.new (json w.old.source plain (view_object_pat_prop part.now))) }
+    ensures { OnOk result
+        (Writes w.old w.new (json w.old.source plain (view_object_pat_prop part.now))) }
 {
     match part {
         ObjectPatProp::KeyValue(x) => write_key_value_pat(w, x),
@@ -88,7 +89,8 @@ pub fn write_pat_part<'a>(w: &mut Writer<'a>, part: &'a ObjectPatProp) -> Result
 
 /// Writes a key with the pattern for its value.
 fn write_key_value_pat<'a>(w: &mut Writer<'a>, x: &'a KeyValuePatProp) -> Result<(), AllocError>
-    ensures { OnOk result (Writes w.old w.new (json w.old.source plain (view_key_value_pat_prop x.now))) }
+    ensures { OnOk result
+        (Writes w.old w.new (json w.old.source plain (view_key_value_pat_prop x.now))) }
 {
     open_property(w, x.span, false, false, is_computed(&x.key))?;
     w.push(Work::End)?;
@@ -100,7 +102,8 @@ fn write_key_value_pat<'a>(w: &mut Writer<'a>, x: &'a KeyValuePatProp) -> Result
 
 /// Writes a name that is its own key, with its default if it has one.
 fn write_assign_pat_prop<'a>(w: &mut Writer<'a>, x: &'a AssignPatProp) -> Result<(), AllocError>
-    ensures { OnOk result (Writes w.old w.new (json w.old.source plain (view_assign_pat_prop x.now))) }
+    ensures { OnOk result
+        (Writes w.old w.new (json w.old.source plain (view_assign_pat_prop x.now))) }
 {
     open_property(w, x.span, false, true, false)?;
     write_name(w, &x.key.id)?;
@@ -119,7 +122,12 @@ fn write_default<'a>(
     x: &'a AssignPatProp,
     value: &'a ExprBox,
 ) -> Result<(), AllocError>
-    ensures { OnOk result (Writes w.old w.new (node w.old.source (codes "AssignmentPattern") x.now.span ++ (key (codes "left") ++ (json w.old.source plain (view_binding_ident x.now.key) ++ (key (codes "right") ++ (json w.old.source plain value.now.node.tree ++ end)))))) }
+    ensures { OnOk result
+        (Writes w.old w.new
+        (node w.old.source (codes "AssignmentPattern") x.now.span
+        ++ (key (codes "left")
+        ++ (json w.old.source plain (view_binding_ident x.now.key)
+        ++ (key (codes "right") ++ (json w.old.source plain value.now.node.tree ++ end)))))) }
 {
     w.open("AssignmentPattern", x.span)?;
     w.key("left")?;

@@ -43,7 +43,8 @@ fn push_next(out: &mut Vec<u8>, places: &Places<'_>, comment: &Comment) -> Resul
 
 /// Writes comments that stand behind another.
 fn push_rest(out: &mut Vec<u8>, places: &Places<'_>, rest: &[Comment]) -> Result<(), AllocError>
-    ensures { OnOk result (out.new.items ≡ out.old.items ++ flat_map (next_comment places.now) rest.now) }
+    ensures { OnOk result
+        (out.new.items ≡ out.old.items ++ flat_map (next_comment places.now) rest.now) }
 {
     for comment in rest {
         push_next(out, places, comment)?;
@@ -71,7 +72,8 @@ pub fn push_comments(
     places: &Places<'_>,
     comments: &[Comment],
 ) -> Result<(), AllocError>
-    ensures { OnOk result (out.new.items ≡ out.old.items ++ comments_field places.now comments.now) }
+    ensures { OnOk result
+        (out.new.items ≡ out.old.items ++ comments_field places.now comments.now) }
 {
     out.extend_from_slice(b",\"comments\":[")?;
     push_list(out, places, comments)?;

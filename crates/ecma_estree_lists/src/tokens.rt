@@ -133,7 +133,8 @@ fn push_written(
     low: usize,
     high: usize,
 ) -> Result<(), AllocError>
-    ensures { OnOk result (out.new.items ≡ out.old.items ++ written places.now kind.now value.now low high) }
+    ensures { OnOk result
+        (out.new.items ≡ out.old.items ++ written places.now kind.now value.now low high) }
 {
     push_head(out, kind)?;
     push_quoted_bytes(out, value)?;
@@ -148,7 +149,10 @@ fn push_from(
     token: &TokenAndSpan,
     low: usize,
 ) -> Result<(), AllocError>
-    ensures { OnOk result (out.new.items ≡ out.old.items ++ written places.now kind.now (value_text places.now.text token.now.token token.now.span) low token.now.span.hi.0) }
+    ensures { OnOk result
+        (out.new.items ≡ out.old.items
+        ++ written places.now kind.now (value_text places.now.text token.now.token token.now.span)
+        low token.now.span.hi.0) }
 {
     let value = value_of(places.text(), &token.token, token.span);
     push_written(out, places, kind, value, low, token.span.hi.0 as usize)
@@ -183,7 +187,8 @@ fn push_step(
     hash: Option<Span>,
     token: &TokenAndSpan,
 ) -> Result<(), AllocError>
-    ensures { OnOk result (out.new.items ≡ out.old.items ++ step_text places.now is_first hash token.now) }
+    ensures { OnOk result
+        (out.new.items ≡ out.old.items ++ step_text places.now is_first hash token.now) }
 {
     if is_hash(&token.token) || is_shebang(&token.token) {
         return Ok(());
@@ -218,7 +223,8 @@ fn push_list(
     places: &Places<'_>,
     tokens: &[TokenAndSpan],
 ) -> Result<(), AllocError>
-    ensures { OnOk result (out.new.items ≡ out.old.items ++ token_list places.now true None tokens.now) }
+    ensures { OnOk result
+        (out.new.items ≡ out.old.items ++ token_list places.now true None tokens.now) }
 {
     let mut is_first = true;
     let mut hash = None;

@@ -53,7 +53,8 @@ fn digit(byte: u8) -> u64
 
 /// The value of digits and one more byte, which may be a mark; none where it is no number of 64 bits.
 fn next_value(sum: u64, radix: u64, byte: u8) -> Option<u64>
-    ensures { MatchOption result (2 ^ 64 ≤ number.next_value radix sum byte) (λ n. n ≡ number.next_value radix sum byte) }
+    ensures { MatchOption result (2 ^ 64 ≤ number.next_value radix sum byte)
+        (λ n. n ≡ number.next_value radix sum byte) }
 {
     if byte == b'_' || byte == b'n' {
         return Some(sum);
@@ -68,7 +69,8 @@ fn next_value(sum: u64, radix: u64, byte: u8) -> Option<u64>
 #[tactic(auto, using(crate::proofs::Value::value_more, crate::proofs::Value::value_past, crate::proofs::Value::value_all))]
 fn value(bytes: &[u8], radix: u64) -> Option<u64>
     requires { 1 ≤ radix }
-    ensures { MatchOption result (2 ^ 64 ≤ value_behind radix 0 bytes.now) (λ n. n ≡ value_behind radix 0 bytes.now) }
+    ensures { MatchOption result (2 ^ 64 ≤ value_behind radix 0 bytes.now)
+        (λ n. n ≡ value_behind radix 0 bytes.now) }
 {
     let mut sum: u64 = 0;
     for byte in bytes {
@@ -101,7 +103,8 @@ fn is_behind_point(was_behind: bool, byte: u8) -> bool
 
 /// Writes a byte of a decimal literal, and the point before it if it is one of a fraction.
 fn push_decimal_byte(out: &mut Vec<u8>, is_behind_point: bool, byte: u8) -> Result<(), AllocError>
-    ensures { OnOk result (out.new.items ≡ out.old.items ++ number.point_byte is_behind_point byte) }
+    ensures { OnOk result
+        (out.new.items ≡ out.old.items ++ number.point_byte is_behind_point byte) }
 {
     if byte == b'.' || byte == b'_' {
         return Ok(());

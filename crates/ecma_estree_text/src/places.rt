@@ -111,7 +111,13 @@ impl<'a> Places<'a> {
     /// Counts once over a text. It fails only where memory runs out.
     pub fn new(alloc: Global, text: &'a str, extras: Extras) -> Result<Places<'a>, AllocError>
         requires { length text.now < 2 ^ 32 }
-        ensures { IfOk result (λ places. places ≡ record { text = text.now; has_locations = extras.locations; has_ranges = extras.ranges }) }
+        ensures { IfOk result
+            (λ places. places
+            ≡ record {
+              text = text.now;
+              has_locations = extras.locations;
+              has_ranges = extras.ranges;
+            }) }
     {
         Ok(Places {
             text,
@@ -150,7 +156,9 @@ impl<'a> Places<'a> {
 
     /// Writes the lines of a place, if they are written.
     fn push_loc(&self, out: &mut Vec<u8>, start: usize, end: usize) -> Result<(), AllocError>
-        ensures { OnOk result (out.new.items ≡ out.old.items ++ cond self.now.has_locations (loc_text self.now start end) []) }
+        ensures { OnOk result
+            (out.new.items ≡ out.old.items
+            ++ cond self.now.has_locations (loc_text self.now start end) []) }
     {
         match &self.spots {
             Some(spots) => push_spots(
@@ -164,7 +172,9 @@ impl<'a> Places<'a> {
 
     /// Writes the offsets of a place as a range, if that is written.
     fn push_range(&self, out: &mut Vec<u8>, start: usize, end: usize) -> Result<(), AllocError>
-        ensures { OnOk result (out.new.items ≡ out.old.items ++ cond self.now.has_ranges (range_text self.now start end) []) }
+        ensures { OnOk result
+            (out.new.items ≡ out.old.items
+            ++ cond self.now.has_ranges (range_text self.now start end) []) }
     {
         if !self.ranges {
             return Ok(());

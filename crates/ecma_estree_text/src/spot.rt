@@ -57,7 +57,8 @@ fn next_line(spot: Spot, mark: Mark) -> Spot
 /// A place further on in its line.
 fn along(spot: Spot, byte: u8, mark: Mark) -> Spot
     requires { spot.column < 2 ^ 34 }
-    ensures { result ≡ record { line = spot.line; column = spot.column + unit_count byte; mark = mark } }
+    ensures { result
+        ≡ record { line = spot.line; column = spot.column + unit_count byte; mark = mark } }
 {
     Spot {
         line: spot.line,

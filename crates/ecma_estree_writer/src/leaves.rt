@@ -33,7 +33,9 @@ fn write_nothing(w: &mut Writer<'_>, key: &str) -> Result<(), AllocError>
 
 /// Writes a field that is the digits of a big integer literal.
 fn write_digits(w: &mut Writer<'_>, key: &str, raw: &str) -> Result<(), AllocError>
-    ensures { OnOk result (Appends w.old w.new (parts.key key.now ++ (codes "\"" ++ (digits_text raw.now ++ codes "\"")))) }
+    ensures { OnOk result
+        (Appends w.old w.new
+        (parts.key key.now ++ (codes "\"" ++ (digits_text raw.now ++ codes "\"")))) }
 {
     w.key(key)?;
     w.digits(raw)
@@ -47,7 +49,10 @@ fn write_text_node(
     key: &str,
     text: &str,
 ) -> Result<(), AllocError>
-    ensures { OnOk result (Appends w.old w.new (parts.node w.old.source kind.now span ++ (parts.key key.now ++ (quoted text.now ++ end)))) }
+    ensures { OnOk result
+        (Appends w.old w.new
+        (parts.node w.old.source kind.now span
+        ++ (parts.key key.now ++ (quoted text.now ++ end)))) }
 {
     w.open(kind, span)?;
     write_text(w, key, text)?;
@@ -67,7 +72,8 @@ pub fn write_name(w: &mut Writer<'_>, name: &Ident) -> Result<(), AllocError>
 
 /// Writes a name, or `null`.
 pub fn write_optional_name(w: &mut Writer<'_>, name: &Option<Ident>) -> Result<(), AllocError>
-    ensures { OnOk result (Appends w.old w.new (json w.old.source plain (view_option view_ident name.now))) }
+    ensures { OnOk result
+        (Appends w.old w.new (json w.old.source plain (view_option view_ident name.now))) }
 {
     match name {
         Some(name) => write_name(w, name),
@@ -77,7 +83,8 @@ pub fn write_optional_name(w: &mut Writer<'_>, name: &Option<Ident>) -> Result<(
 
 /// Writes `#` and a word.
 pub fn write_private_name(w: &mut Writer<'_>, name: &PrivateName) -> Result<(), AllocError>
-    ensures { OnOk result (Appends w.old w.new (json w.old.source plain (view_private_name name.now))) }
+    ensures { OnOk result
+        (Appends w.old w.new (json w.old.source plain (view_private_name name.now))) }
 {
     write_text_node(
         w,
@@ -104,7 +111,8 @@ pub fn write_str(w: &mut Writer<'_>, literal: &Str) -> Result<(), AllocError>
 /// Writes a literal that is a word.
 #[tactic(auto, unfolding(crate::specs::Parts::literal))]
 fn write_word(w: &mut Writer<'_>, word: &str, span: Span) -> Result<(), AllocError>
-    ensures { OnOk result (Appends w.old w.new (parts.literal w.old.source span word.now word.now)) }
+    ensures { OnOk result
+        (Appends w.old w.new (parts.literal w.old.source span word.now word.now)) }
 {
     w.open("Literal", span)?;
     w.key("value")?;
@@ -117,7 +125,8 @@ fn write_word(w: &mut Writer<'_>, word: &str, span: Span) -> Result<(), AllocErr
 /// Writes a number literal.
 #[tactic(auto, unfolding(crate::specs::Parts::literal))]
 pub fn write_number(w: &mut Writer<'_>, raw: &str, span: Span) -> Result<(), AllocError>
-    ensures { OnOk result (Appends w.old w.new (parts.literal w.old.source span (number_text raw.now) raw.now)) }
+    ensures { OnOk result
+        (Appends w.old w.new (parts.literal w.old.source span (number_text raw.now) raw.now)) }
 {
     w.open("Literal", span)?;
     w.key("value")?;
@@ -130,7 +139,8 @@ pub fn write_number(w: &mut Writer<'_>, raw: &str, span: Span) -> Result<(), All
 /// Writes a big integer literal. JSON has no such numbers, so its value is `null`.
 #[tactic(auto, unfolding(crate::specs::Parts::big_literal))]
 pub fn write_big_int(w: &mut Writer<'_>, literal: &BigInt) -> Result<(), AllocError>
-    ensures { OnOk result (Appends w.old w.new (json w.old.source plain (view_big_int literal.now))) }
+    ensures { OnOk result
+        (Appends w.old w.new (json w.old.source plain (view_big_int literal.now))) }
 {
     w.open("Literal", literal.span)?;
     write_nothing(w, "value")?;
@@ -193,7 +203,8 @@ fn write_words(
 
 /// Writes `import.meta` or `new.target`.
 pub fn write_meta(w: &mut Writer<'_>, meta: &MetaPropExpr) -> Result<(), AllocError>
-    ensures { OnOk result (Appends w.old w.new (json w.old.source plain (view_meta_prop_expr meta.now))) }
+    ensures { OnOk result
+        (Appends w.old w.new (json w.old.source plain (view_meta_prop_expr meta.now))) }
 {
     match meta.kind {
         MetaPropKind::ImportMeta => write_words(w, meta.span, "import", 6, "meta", 4),

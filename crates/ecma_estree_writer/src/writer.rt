@@ -87,7 +87,8 @@ impl<'a> Writer<'a> {
     /// Takes work from the stack.
     #[tactic(auto, using(crate::proofs::Pending::pending_push))]
     pub fn pop(&mut self) -> Option<Work<'a>>
-        ensures { MatchOption result ((self.old.pending ≡ []) × (self.new ≡ self.old)) (λ work. Pushes self.new self.old (work_text self.old.source work)) }
+        ensures { MatchOption result ((self.old.pending ≡ []) × (self.new ≡ self.old))
+            (λ work. Pushes self.new self.old (work_text self.old.source work)) }
     {
         self.work.pop()
     }
@@ -95,7 +96,8 @@ impl<'a> Writer<'a> {
     /// Writes how a node begins.
     #[tactic(auto, unfolding(crate::specs::Parts::node_at))]
     pub fn open_at(&mut self, kind: &str, start: usize, end: usize) -> Result<(), AllocError>
-        ensures { OnOk result (Appends self.old self.new (parts.node_at self.old.source kind.now start end)) }
+        ensures { OnOk result
+            (Appends self.old self.new (parts.node_at self.old.source kind.now start end)) }
     {
         self.out.extend_from_slice(b"{\"type\":\"")?;
         self.out.extend_from_slice(kind.as_bytes())?;
@@ -105,14 +107,16 @@ impl<'a> Writer<'a> {
 
     /// Writes how a node begins.
     pub fn open(&mut self, kind: &str, span: Span) -> Result<(), AllocError>
-        ensures { OnOk result (Appends self.old self.new (parts.node self.old.source kind.now span)) }
+        ensures { OnOk result
+            (Appends self.old self.new (parts.node self.old.source kind.now span)) }
     {
         self.open_at(kind, span.lo.0 as usize, span.hi.0 as usize)
     }
 
     /// Writes a node without fields.
     pub fn leaf(&mut self, kind: &str, span: Span) -> Result<(), AllocError>
-        ensures { OnOk result (Appends self.old self.new (parts.node self.old.source kind.now span ++ parts.end)) }
+        ensures { OnOk result
+            (Appends self.old self.new (parts.node self.old.source kind.now span ++ parts.end)) }
     {
         self.open(kind, span)?;
         self.end()
@@ -222,7 +226,8 @@ impl<'a> Writer<'a> {
 
     /// Writes the digits of a big integer literal, in quotes.
     pub fn digits(&mut self, raw: &str) -> Result<(), AllocError>
-        ensures { OnOk result (Appends self.old self.new (codes "\"" ++ (digits_text raw.now ++ codes "\""))) }
+        ensures { OnOk result
+            (Appends self.old self.new (codes "\"" ++ (digits_text raw.now ++ codes "\""))) }
     {
         self.out.extend_from_slice(b"\"")?;
         push_digits(&mut self.out, raw)?;

@@ -59,7 +59,8 @@ fn push_place(
     position: usize,
 ) -> Result<(), AllocError>
     requires { length places.now.text < 2 ^ 32 }
-    ensures { OnOk result (out.new.items ≡ out.old.items ++ place_json places.now line.now column.now position) }
+    ensures { OnOk result
+        (out.new.items ≡ out.old.items ++ place_json places.now line.now column.now position) }
 {
     match places.spot(position) {
         Some(spot) => push_spot(out, line, column, spot),
@@ -145,7 +146,9 @@ pub fn push_fault(
     note: Option<Note>,
 ) -> Result<(), AllocError>
     requires { length places.now.text < 2 ^ 32 }
-    ensures { OnOk result (out.new.items ≡ out.old.items ++ fault_json places.now file.now word.now error.now (noted note)) }
+    ensures { OnOk result
+        (out.new.items ≡ out.old.items
+        ++ fault_json places.now file.now word.now error.now (noted note)) }
 {
     push_head(out, file, word, error)?;
     push_span(out, places, error.span)?;

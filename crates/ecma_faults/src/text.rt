@@ -36,7 +36,8 @@ fn push_place(
     position: usize,
 ) -> Result<(), AllocError>
     requires { length places.now.text < 2 ^ 32 }
-    ensures { OnOk result (out.new.items ≡ out.old.items ++ place_text places.now file.now position) }
+    ensures { OnOk result
+        (out.new.items ≡ out.old.items ++ place_text places.now file.now position) }
 {
     match places.spot(position) {
         Some(spot) => push_spot(out, file, spot),
@@ -55,7 +56,9 @@ fn push_told(
     sentence: &str,
 ) -> Result<(), AllocError>
     requires { length places.now.text < 2 ^ 32 }
-    ensures { OnOk result (out.new.items ≡ out.old.items ++ told_text places.now file.now span word.now sentence.now) }
+    ensures { OnOk result
+        (out.new.items ≡ out.old.items
+        ++ told_text places.now file.now span word.now sentence.now) }
 {
     push_place(out, file, places, span.lo.0 as usize)?;
     out.extend_from_slice(word)?;
@@ -67,7 +70,9 @@ fn push_told(
 
 /// The word and the kind of a fault.
 fn head(out: &Vec<u8>, word: &str, kind: &SyntaxError) -> Result<Vec<u8>, AllocError>
-    ensures { IfOk result (λ head. head.items ≡ word.now ++ (codes " [" ++ (name_of (kind_of kind.now) ++ codes "]"))) }
+    ensures { IfOk result
+        (λ head. head.items ≡ word.now
+        ++ (codes " [" ++ (name_of (kind_of kind.now) ++ codes "]"))) }
 {
     let mut head = Vec::new(*out.allocator());
     head.extend_from_slice(word.as_bytes())?;
@@ -85,7 +90,8 @@ fn push_note(
     note: Option<Note>,
 ) -> Result<(), AllocError>
     requires { length places.now.text < 2 ^ 32 }
-    ensures { OnOk result (out.new.items ≡ out.old.items ++ note_text places.now file.now (noted note)) }
+    ensures { OnOk result
+        (out.new.items ≡ out.old.items ++ note_text places.now file.now (noted note)) }
 {
     match note {
         Some(note) => push_told(out, file, places, note.span, b"note", note.sentence),
@@ -105,7 +111,9 @@ pub fn push_fault(
     note: Option<Note>,
 ) -> Result<(), AllocError>
     requires { length places.now.text < 2 ^ 32 }
-    ensures { OnOk result (out.new.items ≡ out.old.items ++ fault_text places.now file.now word.now error.now (noted note)) }
+    ensures { OnOk result
+        (out.new.items ≡ out.old.items
+        ++ fault_text places.now file.now word.now error.now (noted note)) }
 {
     let head = head(out, word, &error.kind)?;
     let said = message(*out.allocator(), &error.kind)?;

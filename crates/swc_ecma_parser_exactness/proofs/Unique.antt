@@ -5,7 +5,7 @@ use Rattle.swc_ecma_parser_model.specs.Tree.{Tree}
 use Rattle.swc_ecma_parser_grammar.specs.Names.{Code}
 use Rattle.swc_ecma_parser_grammar.specs.language.Programs as programs
 use Rattle.swc_ecma_parser_grammar.specs.language.Programs.{ReadsEntry}
-use Rattle.swc_ecma_parser_reader.specs.Entry.{ReadsSupported}
+use Rattle.swc_ecma_parser_reader.specs.Entry.{ReadsSupportedScript}
 use Rattle.swc_ecma_parser_reader.proofs.Unique as scripts
 use Rattle.swc_ecma_parser_module_reader.specs.Entry.{ReadsSupportedModule}
 use Rattle.swc_ecma_parser_module_reader.specs.ProgramEntry.{ReadsProgram, ReadsSupportedProgram}
@@ -18,7 +18,7 @@ use Rattle.swc_ecma_parser_exactness.specs.Unique.{OneScript, OneModule, OneProg
 use Rattle.swc_ecma_parser_exactness.proofs.Completed.{never, led_in}
 use Rattle.swc_ecma_parser_exactness.proofs.Entries.{read_entry, read_program}
 
-script_of : (limit : ℕ) (k : Code) (x : Tree) (c d : Place) → ReadsEntry limit programs.script k x c d → ReadsSupported limit k x c d
+script_of : (limit : ℕ) (k : Code) (x : Tree) (c d : Place) → ReadsEntry limit programs.script k x c d → ReadsSupportedScript limit k x c d
 script_of limit k x c d r = (r, read_entry limit programs.script k x c d 0 never r.0)
 
 module_of : (limit : ℕ) (k : Code) (x : Tree) (c d : Place) → ReadsEntry limit programs.«module» k x c d → OrderedFor (needs_order_in x) c → ReadsSupportedModule limit k x c d

@@ -10,7 +10,7 @@ use Rattle.swc_ecma_parser_model.specs.Tree.{Tree}
 use Rattle.swc_ecma_parser_reader.specs.State.{State}
 use Rattle.swc_ecma_parser_reader.specs.Entry.{Stays, unmarked}
 use Rattle.swc_ecma_parser_reader.specs.Limits.{IsToldBy, has_out_of_memory_token}
-use Rattle.swc_ecma_parser_module_reader.specs.Entry.{IsEntered, SoundModule, CompleteModule, AnswersModule}
+use Rattle.swc_ecma_parser_module_reader.specs.Entry.{IsEntered, SoundModule, GivesSupportedModule, AnswersModule}
 use Rattle.swc_ecma_parser_module_reader.proofs.Sound.{module_is_sound, module_lacks_out_of_memory}
 use Rattle.swc_ecma_parser_module_reader.proofs.CompleteDecorated.{export_reads}
 use Rattle.swc_ecma_parser_module_reader.proofs.CompleteModules.{module_reads}
@@ -21,7 +21,7 @@ module _ (X : Type 0) (view : X → Tree) (limit : ℕ) (s u : State) (i : IsEnt
   pub sound : IfOk r (λ x. SoundModule limit u (view x) t)
   sound = entries.module_sound module_is_sound module_lacks_out_of_memory (module_reads export_reads) X view limit u r t h
 
-  pub complete : CompleteModule view limit u r t
+  pub complete : GivesSupportedModule view limit u r t
   complete = entries.module_complete module_is_sound module_lacks_out_of_memory (module_reads export_reads) X view limit u r t h
 
   pub memory : IfOk r (λ x. has_out_of_memory_token s.at.left ≡ false)

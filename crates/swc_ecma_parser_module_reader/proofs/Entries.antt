@@ -13,7 +13,7 @@ use Rattle.swc_ecma_parser_reader.specs.Entry.{unmarked, Stays}
 use Rattle.swc_ecma_parser_reader.specs.Limits.{IsToldBy, has_out_of_memory_token}
 use Rattle.swc_ecma_parser_reader.proofs.Told.{told_by_list}
 use Rattle.swc_ecma_parser_module_reader.specs.Modules.{module_code, module_body, module_whole}
-use Rattle.swc_ecma_parser_module_reader.specs.Entry.{module_left, SoundModule, ReadsSupportedModule, CompleteModule, AnswersModule}
+use Rattle.swc_ecma_parser_module_reader.specs.Entry.{module_left, SoundModule, ReadsSupportedModule, GivesSupportedModule, AnswersModule}
 use Rattle.swc_ecma_parser_module_reader.proofs.Keeps as keeps
 use Rattle.swc_ecma_parser_module_reader.proofs.Limits as limits
 use Rattle.swc_ecma_parser_module_reader.proofs.Refusals as refusals
@@ -41,7 +41,7 @@ module _ (is_sound : (n : ℕ) (s : State) (x : Tree) (t : State) → module_who
   module_sound (Ok x) t h = is_sound limit s (view x) t h
   module_sound (Err e) t h = tt
 
-  pub module_complete : (r : Result X Error) (t : State) → AnswersModule view limit s r t → CompleteModule view limit s r t
+  pub module_complete : (r : Result X Error) (t : State) → AnswersModule view limit s r t → GivesSupportedModule view limit s r t
   module_complete (Ok y) t h = λ x d k g. sym (reads limit s x d k) ∙ h
   module_complete (Err e) t h = λ x d k g n. never_both limit s (fault_of e) _ x _ (h n).1 (reads limit s x d k)
 

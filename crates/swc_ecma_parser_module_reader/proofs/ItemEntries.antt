@@ -18,7 +18,7 @@ use Rattle.swc_ecma_parser_reader.proofs.Statements as statements
 use Rattle.swc_ecma_parser_reader.proofs.expressions.Covers.{same_answer}
 use Rattle.swc_ecma_parser_module_reader.specs.Programs.{begins_module}
 use Rattle.swc_ecma_parser_module_reader.specs.Items.{item_whole}
-use Rattle.swc_ecma_parser_module_reader.specs.ItemEntry.{SoundItemAlone, GivesItem, CompleteItem, AnswersItem}
+use Rattle.swc_ecma_parser_module_reader.specs.ItemEntry.{SoundItemAlone, GivesItem, GivesSupportedItem, AnswersItem}
 use Rattle.swc_ecma_parser_module_reader.proofs.CompleteItems.{Answer, item_alone_reads}
 use Rattle.swc_ecma_parser_module_reader.proofs.Entries.{no_memory}
 use Rattle.swc_ecma_parser_module_reader.proofs.ItemCases.{whole_stated, none_at_end, none_at_error, item_fits, item_stays, with_held}
@@ -71,7 +71,7 @@ module _ (X : Type 0) (view : X → Tree) (limit : ℕ) (s : State) where
         c,
       )
 
-  item_complete : (r : Result X Error) (t : State) → AnswersItem view limit s r t → CompleteItem view limit s r t
+  item_complete : (r : Result X Error) (t : State) → AnswersItem view limit s r t → GivesSupportedItem view limit s r t
   item_complete (Ok y) t h = λ x d k g. given y t h.0 h.1 x d (item_alone_reads limit h.0 s x d k g)
   item_complete (Err e) t h = λ x d k g. known (kind_of e.kind) (λ n. let p = h n in never_both limit p.0 s (fault_of e) p.1 _ p.2 (item_alone_reads limit p.0 s x d k g).reads)
 
@@ -104,7 +104,7 @@ module _ (X : Type 0) (view : X → Tree) (limit : ℕ) (s : State) (r : Result 
   pub sound : AnswersItem view limit s r t → IfOk r (λ x. SoundItemAlone limit s (view x) t)
   sound h = item_sound X view limit s r t h
 
-  pub complete : AnswersItem view limit s r t → CompleteItem view limit s r t
+  pub complete : AnswersItem view limit s r t → GivesSupportedItem view limit s r t
   complete h = item_complete X view limit s r t h
 
   -- an answer has read no token for which there was no memory

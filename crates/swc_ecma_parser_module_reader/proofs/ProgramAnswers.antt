@@ -16,7 +16,7 @@ use Rattle.swc_ecma_parser_reader.specs.Limits.{IsToldBy, has_out_of_memory_toke
 use Rattle.swc_ecma_parser_reader.proofs.Told.{told_by_list}
 use Rattle.swc_ecma_parser_reader.proofs.expressions.Covers.{same_answer}
 use Rattle.swc_ecma_parser_module_reader.specs.Programs.{program_whole}
-use Rattle.swc_ecma_parser_module_reader.specs.ProgramEntry.{program_walk, program_left, SoundProgram, ReadsSupportedProgram, CompleteProgram, GivesProgram, AnswersProgram}
+use Rattle.swc_ecma_parser_module_reader.specs.ProgramEntry.{program_walk, program_left, SoundProgram, ReadsSupportedProgram, GivesSupportedProgram, GivesProgram, AnswersProgram}
 use Rattle.swc_ecma_parser_module_reader.proofs.ProgramKeeps as keeps
 use Rattle.swc_ecma_parser_module_reader.proofs.ProgramLimits as limits
 use Rattle.swc_ecma_parser_module_reader.proofs.ProgramRefusals as refusals
@@ -71,7 +71,7 @@ module _ (is_sound : (n : ℕ) (recorded : List Fault) (s : State) (x : Tree) (t
         c,
       )
 
-  program_complete : (r : Result X Error) (t : State) → AnswersProgram view limit s r t → CompleteProgram view limit s r t
+  program_complete : (r : Result X Error) (t : State) → AnswersProgram view limit s r t → GivesSupportedProgram view limit s r t
   program_complete (Ok y) t h = λ x d k g. given y t h.0 h.1 x d k
   program_complete (Err e) t h = λ x d k g. known (kind_of e.kind) (λ n. let p = h n in never_both limit p.0 s (fault_of e) p.1 _ p.2 (reads limit s x d k p.0).3)
 
@@ -83,7 +83,7 @@ module _ (is_sound : (n : ℕ) (recorded : List Fault) (s : State) (x : Tree) (t
     pub sound : IfOk r (λ x. SoundProgram limit s (view x) t)
     sound = program_sound r t h
 
-    pub complete : CompleteProgram view limit s r t
+    pub complete : GivesSupportedProgram view limit s r t
     complete = program_complete r t h
 
     -- an answer has read no token for which there was no memory

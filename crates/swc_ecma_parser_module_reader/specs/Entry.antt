@@ -63,8 +63,8 @@ IsOneModule = (limit : ℕ) (k : Code) (x y : Tree) (c d e : Place) → ReadsSup
 
 -- A supported module within the limit that spells the list is the answer, with the faults of the walk and no others, unless memory
 -- ran out; where the walk finds some, no error token may stand in the list.
-abbrev pub CompleteModule : {X : Type 0} → (X → Tree) → ℕ → State → Result X Error → State → Type 0
-CompleteModule view limit s result t =
+abbrev pub GivesSupportedModule : {X : Type 0} → (X → Tree) → ℕ → State → Result X Error → State → Type 0
+GivesSupportedModule view limit s result t =
     (x : Tree) (d : Place) (r : ReadsSupportedModule limit s.code x s.at d) → (module_walk s x ≡ []) ⊎ (has_error_token s.at.left ≡ false)
     → GivesAs view (Ok (x, module_left s x d r.0.0.awaits)) result t
 

@@ -75,8 +75,8 @@ GivesItem view s x d (Err e) t = kind_of e.kind ≡ OutOfMemory
 
 -- A supported item within the limit that tokens from here on spell is the answer, and they are what is read, unless memory ran out;
 -- where the walk finds faults, no error token may stand right behind them.
-abbrev pub CompleteItem : {X : Type 0} → (X → Tree) → ℕ → State → Result X Error → State → Type 0
-CompleteItem view limit s result t =
+abbrev pub GivesSupportedItem : {X : Type 0} → (X → Tree) → ℕ → State → Result X Error → State → Type 0
+GivesSupportedItem view limit s result t =
     (x : Tree) (d : Place) → ReadsSupportedItem limit s.code x s.at d → (item_walk s x ≡ []) ⊎ (sees kind.Error d ≡ false) → GivesItem view s x d result t
 
 -- What the reader answers, with what was held back recorded where module code begins, or refuses, with the state set back.

@@ -92,8 +92,8 @@ GivesProgram view s x d awaits (Err e) t = kind_of e.kind ≡ OutOfMemory
 
 -- A supported program within the limit that spells the list is the answer, with the faults of the walk, with what had been held back
 -- if it is a module, and with no others, unless memory ran out; where the walk finds some, no error token may stand in the list.
-abbrev pub CompleteProgram : {X : Type 0} → (X → Tree) → ℕ → State → Result X Error → State → Type 0
-CompleteProgram view limit s result t =
+abbrev pub GivesSupportedProgram : {X : Type 0} → (X → Tree) → ℕ → State → Result X Error → State → Type 0
+GivesSupportedProgram view limit s result t =
     (x : Tree) (d : Place) (r : ReadsSupportedProgram limit s.notes.found_module_item s.code x s.at d) → (program_walk s x ≡ []) ⊎ (has_error_token s.at.left ≡ false)
     → GivesProgram view s x d r.0.0.awaits result t
 

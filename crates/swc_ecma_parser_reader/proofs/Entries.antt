@@ -13,7 +13,7 @@ use Rattle.swc_ecma_parser_grammar.specs.language.Programs.{script_awaits}
 use Rattle.swc_ecma_parser_grammar.proofs.Narrows.{script_narrows, script_awaits_as}
 use Rattle.swc_ecma_parser_reader.specs.State.{State, Outcome, coded}
 use Rattle.swc_ecma_parser_reader.specs.Reader.{script_body, script}
-use Rattle.swc_ecma_parser_reader.specs.Entry.{script_left, SoundScript, ReadsSupported, CompleteScript, AnswersScript}
+use Rattle.swc_ecma_parser_reader.specs.Entry.{script_left, SoundScript, ReadsSupportedScript, GivesSupportedScript, AnswersScript}
 use Rattle.swc_ecma_parser_reader.specs.Limits.{IsToldBy, has_out_of_memory_token}
 use Rattle.swc_ecma_parser_reader.proofs.Told.{told_by_list}
 use Rattle.swc_ecma_parser_reader.proofs.SoundScripts.{script_is_sound, script_lacks_out_of_memory}
@@ -39,10 +39,10 @@ module _ (X : Type 0) (view : X → Tree) (limit : ℕ) (s : State) where
   never_both : {A : Type 0} (f : Fault) (u : State) (x : Tree) (v : State) → script limit s ≡ Err (f, u) → script limit s ≡ Ok (x, v) → A
   never_both f u x v h g = cc
 
-  reads : (x : Tree) (d : Place) (k : ReadsSupported limit s.code x s.at d) → script limit s ≡ Ok (x, script_left s x d (script_awaits limit s.code x s.at d k.0))
+  reads : (x : Tree) (d : Place) (k : ReadsSupportedScript limit s.code x s.at d) → script limit s ≡ Ok (x, script_left s x d (script_awaits limit s.code x s.at d k.0))
   reads x d k = script_reads limit s x d (script_narrows limit s.code x s.at d k.0 k.1) ∙ ap (λ b. Ok (x, script_left s x d b)) (script_awaits_as limit s.code x s.at d k.0 k.1)
 
-  pub entry_complete : (r : Result X Error) (t : State) → AnswersScript view limit s r t → CompleteScript view limit s r t
+  pub entry_complete : (r : Result X Error) (t : State) → AnswersScript view limit s r t → GivesSupportedScript view limit s r t
   entry_complete (Ok y) t h = λ x d k g. sym (reads x d k) ∙ h
   entry_complete (Err e) t h = λ x d k g n. never_both (fault_of e) _ x _ (h n).1 (reads x d k)
 

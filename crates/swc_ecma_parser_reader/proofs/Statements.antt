@@ -27,7 +27,7 @@ use Rattle.swc_ecma_parser_reader.specs.AsyncArrows.{begins_async_arrow}
 use Rattle.swc_ecma_parser_reader.specs.Words.{begins_async_call}
 use Rattle.swc_ecma_parser_reader.specs.DecoratedStatements.{either_stmt}
 use Rattle.swc_ecma_parser_reader.specs.Reader.{expr_stmt, expr_stmt_at, begins_label, other_stmt, stmt_level, stmt, top_await, whole_stmt, expr, await_using_or}
-use Rattle.swc_ecma_parser_reader.specs.Entry.{StandsAt, statement_entry, statement_walk, statement_left, SoundStatement, ReadsSupportedStatement, CompleteStatement, AnswersStatement}
+use Rattle.swc_ecma_parser_reader.specs.Entry.{StandsAt, statement_entry, statement_walk, statement_left, SoundStatement, ReadsSupportedStatement, GivesSupportedStatement, AnswersStatement}
 use Rattle.swc_ecma_parser_reader.specs.Limits.{IsToldBy, has_out_of_memory_token}
 use Rattle.swc_ecma_parser_reader.proofs.Told.{told_by_list}
 use Rattle.swc_ecma_parser_reader.proofs.Errors.{is_error, kind_here}
@@ -172,7 +172,7 @@ module _ (X : Type 0) (view : X → Tree) (limit : ℕ) (include_decl top_level 
       statement_reads limit include_decl top_level s x d
       (statement_narrows limit s.code (at_top include_decl top_level) x s.at d (as_statement limit include_decl top_level s.code x s.at d k.0) k.1) g
 
-  pub statement_complete : (r : Result X Error) (t : State) → AnswersStatement view limit include_decl top_level s r t → CompleteStatement view limit include_decl top_level s r t
+  pub statement_complete : (r : Result X Error) (t : State) → AnswersStatement view limit include_decl top_level s r t → GivesSupportedStatement view limit include_decl top_level s r t
   statement_complete (Ok y) t h = λ x d k g. sym (reads x d k g) ∙ h
   statement_complete (Err e) t h = λ x d k g n. never_both (fault_of e) _ x _ (h n).1 (reads x d k g)
 

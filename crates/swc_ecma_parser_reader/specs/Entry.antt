@@ -135,12 +135,12 @@ pub record SoundScript (limit : ℕ) (s : State) (x : Tree) (t : State) : Type 0
   pub found : t.notes.found_module_item ≡ (s.notes.found_module_item || (has_meta x || awaits))
 
 -- a script of the language within a limit, of supported forms alone
-abbrev pub ReadsSupported : ℕ → Code → Tree → Place → Place → Type 0
-ReadsSupported limit k x c d = ReadsEntry limit programs.script k x c d × (supported x ≡ true)
+abbrev pub ReadsSupportedScript : ℕ → Code → Tree → Place → Place → Type 0
+ReadsSupportedScript limit k x c d = ReadsEntry limit programs.script k x c d × (supported x ≡ true)
 
 -- at most one supported tree within a limit spells a list, and it ends in one place
 abbrev pub IsOneScript : Type 0
-IsOneScript = (limit : ℕ) (k : Code) (x y : Tree) (c d e : Place) → ReadsSupported limit k x c d → ReadsSupported limit k y c e → (x ≡ y) × (d ≡ e)
+IsOneScript = (limit : ℕ) (k : Code) (x y : Tree) (c d e : Place) → ReadsSupportedScript limit k x c d → ReadsSupportedScript limit k y c e → (x ≡ y) × (d ≡ e)
 
 -- a state as a call begins: nothing is marked
 abbrev pub unmarked : State → State
@@ -148,9 +148,9 @@ unmarked s = record s { scope = record s.scope { mark = None } }
 
 -- A supported tree within the limit that spells the list is the answer, with the faults of the walk and no others, unless memory ran
 -- out; where the walk finds some, no error token may stand in the list.
-abbrev pub CompleteScript : {X : Type 0} → (X → Tree) → ℕ → State → Result X Error → State → Type 0
-CompleteScript view limit s result t =
-    (x : Tree) (d : Place) (r : ReadsSupported limit s.code x s.at d) → (script_walk s x ≡ []) ⊎ (has_error_token s.at.left ≡ false)
+abbrev pub GivesSupportedScript : {X : Type 0} → (X → Tree) → ℕ → State → Result X Error → State → Type 0
+GivesSupportedScript view limit s result t =
+    (x : Tree) (d : Place) (r : ReadsSupportedScript limit s.code x s.at d) → (script_walk s x ≡ []) ⊎ (has_error_token s.at.left ≡ false)
     → GivesAs view (Ok (x, script_left s x d (script_awaits limit s.code x s.at d r.0))) result t
 
 -- after a refusal: the context is as before the call, no label is left, and the note is as before
@@ -238,8 +238,8 @@ ReadsSupportedStatement limit include_decl top_level k x c d = ReadsEntry limit 
 
 -- A supported tree within the limit that tokens from here on spell is the answer, and they are what is read, with the faults of the
 -- walk and no others, unless memory ran out; where the walk finds some, no error token may stand right behind them.
-abbrev pub CompleteStatement : {X : Type 0} → (X → Tree) → ℕ → (include_decl top_level : Bool) → State → Result X Error → State → Type 0
-CompleteStatement view limit include_decl top_level s result t =
+abbrev pub GivesSupportedStatement : {X : Type 0} → (X → Tree) → ℕ → (include_decl top_level : Bool) → State → Result X Error → State → Type 0
+GivesSupportedStatement view limit include_decl top_level s result t =
     (x : Tree) (d : Place) → ReadsSupportedStatement limit include_decl top_level s.code x s.at d → (statement_walk s x ≡ []) ⊎ (sees kind.Error d ≡ false)
     → GivesAs view (Ok (x, statement_left top_level s x d)) result t
 
