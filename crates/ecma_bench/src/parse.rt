@@ -94,7 +94,8 @@ fn read<I: Tokens>(parser: &mut Parser<I>, goal: Goal) -> PResult<Program>
     ensures script { goal ≡ Goal.Script
         → DecidesScript view_program parser.old.limit (unmarked parser.old.state) result
         parser.new.state }
-    ensures module { goal ≡ Goal.Module → (from : ℕ) → Ordered from parser.old.state.at → (u : State) × IsEntered (unmarked parser.old.state) u
+    ensures module { goal ≡ Goal.Module → (from : ℕ) → Ordered from parser.old.state.at
+        → (u : State) × IsEntered (unmarked parser.old.state) u
         × DecidesModule view_program parser.old.limit u result parser.new.state }
 {
     match goal {

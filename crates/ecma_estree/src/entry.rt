@@ -24,7 +24,10 @@ fn write_whole<'a>(
     kind: &'static str,
     body: Work<'a>,
 ) -> Result<Vec<u8>, AllocError>
-    ensures { IfOk result (λ out. out.items ≡ node_at (source_of places.now fields.now) (codes "Program") 0 (length places.now.text) ++ (key (codes "body") ++ (open_list
+    ensures { IfOk result
+        (λ out. out.items
+        ≡ node_at (source_of places.now fields.now) (codes "Program") 0 (length places.now.text)
+        ++ (key (codes "body") ++ (open_list
         ++ (work_text (source_of places.now fields.now) body.entry ++ (end_list ++ (word_field (codes "sourceType") kind.now ++ (fields.now ++ end))))))) }
 {
     let mut w = Writer::new(alloc, Vec::new(alloc), places, fields);

@@ -118,7 +118,8 @@ fn push_origin<'a>(w: &mut Writer<'a>, x: &'a NamedExport) -> Result<(), AllocEr
 /// The name for all that a module exports, where it stands alone.
 #[tactic(auto, using(crate::proofs::Exported::not_one))]
 fn namespace_alone(specifiers: &[ExportSpecifier]) -> Option<&ExportNamespaceSpecifier>
-    ensures { MatchOption result (is_namespace_alone (listed (map view_export_specifier specifiers.now)) ≡ false)
+    ensures { MatchOption result
+        (is_namespace_alone (listed (map view_export_specifier specifiers.now)) ≡ false)
         (λ x. listed (map view_export_specifier specifiers.now) ≡ list (also (view_export_namespace_specifier x.now) none)) }
 {
     let Some((first, rest)) = specifiers.split_first() else {

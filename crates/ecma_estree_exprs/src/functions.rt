@@ -167,7 +167,10 @@ fn write_arrow_with<'a>(
     is_expression: bool,
     body: Work<'a>,
 ) -> Result<(), AllocError>
-    ensures { OnOk result (Writes w.old w.new (node w.old.source (codes "ArrowFunctionExpression") x.now.span ++ (function_fields nothing is_expression false x.now.is_async
+    ensures { OnOk result
+        (Writes w.old w.new
+        (node w.old.source (codes "ArrowFunctionExpression") x.now.span
+        ++ (function_fields nothing is_expression false x.now.is_async
         ++ (key (codes "params") ++ (open_list ++ (json w.old.source plain (listed (map view_pat x.now.params.items)) ++ (end_list ++ (key (codes "body") ++ (work_text w.old.source body.entry ++ end))))))))) }
 {
     open_arrow(w, x, is_expression)?;

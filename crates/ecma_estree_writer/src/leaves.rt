@@ -187,7 +187,9 @@ fn write_words(
     second_len: usize,
 ) -> Result<(), AllocError>
     requires { first_len < 100 }
-    ensures { OnOk result (Appends w.old w.new (parts.node w.old.source (codes "MetaProperty") span ++ (parts.key (codes "meta")
+    ensures { OnOk result
+        (Appends w.old w.new
+        (parts.node w.old.source (codes "MetaProperty") span ++ (parts.key (codes "meta")
         ++ (parts.word_name w.old.source first.now span.lo.0 (span.lo.0 + first_len) ++ (parts.key (codes "property")
         ++ (parts.word_name w.old.source second.now (span.hi.0 - second_len) span.hi.0 ++ parts.end)))))) }
 {

@@ -43,10 +43,14 @@ fn answer<R: Read, W: Write>(
     ensures fits { OnOk result (IfSome (R.remaining input.old) (λ xs. length xs ≤ greatest)) }
     ensures utf8 { OnOk result (IfSome (R.remaining input.old) IsUtf8) }
     ensures end { OnOk result (IsAtEnd (R.remaining input.new)) }
-    ensures clean { IfOk result (λ verdict. verdict ≡ Verdict.Clean → IsOkAnd words.now (λ words. (goal : Goal) × (asked words.items ≡ Some goal)
+    ensures clean { IfOk result
+        (λ verdict. verdict ≡ Verdict.Clean
+        → IsOkAnd words.now (λ words. (goal : Goal) × (asked words.items ≡ Some goal)
         × IfSome (R.remaining input.old) (λ xs. (x : Tree) × SpellsAs goal xs x
         × Appends (W.contents output.old) (W.contents output.new) (answer_lines (Ok x) [])))) }
-    ensures spelled { IfOk words.now (λ words. (goal : Goal) → asked words.items ≡ Some goal → IfSome (R.remaining input.old) (λ xs. (x : Tree) → SpellsAs goal xs x
+    ensures spelled { IfOk words.now
+        (λ words. (goal : Goal) → asked words.items ≡ Some goal
+        → IfSome (R.remaining input.old) (λ xs. (x : Tree) → SpellsAs goal xs x
         → IfOk result (λ verdict. verdict ≡ Verdict.Clean))) }
     ensures wordless { IfErr words.now (λ _. IsErr result) }
 {
@@ -102,10 +106,13 @@ pub fn run<R: Read, W: Write, E: Write>(
 
     // Status 0 says that the text spells a tree of what the words ask for, and that its lines were written; a text that does ends
     // with no other status, but that of a fault.
-    ensures clean { result ≡ 0 → IsOkAnd words (λ words. (goal : Goal) × (asked words.items ≡ Some goal)
+    ensures clean { result ≡ 0
+        → IsOkAnd words (λ words. (goal : Goal) × (asked words.items ≡ Some goal)
         × IfSome (R.remaining input.old) (λ xs. (x : Tree) × SpellsAs goal xs x
         × Appends (W.contents output.old) (W.contents output.new) (answer_lines (Ok x) []))) }
-    ensures spelled { IfOk words (λ words. (goal : Goal) → asked words.items ≡ Some goal → IfSome (R.remaining input.old) (λ xs. (x : Tree) → SpellsAs goal xs x
+    ensures spelled { IfOk words
+        (λ words. (goal : Goal) → asked words.items ≡ Some goal
+        → IfSome (R.remaining input.old) (λ xs. (x : Tree) → SpellsAs goal xs x
         → (result ≡ 0) ⊎ (result ≡ 3))) }
 {
     let outcome = answer(alloc, &words, greatest, input, output);

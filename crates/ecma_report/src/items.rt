@@ -36,7 +36,9 @@ impl Whole for ModuleItem {
 /// faults of the state `t` behind it, in which the parser is left but for them. A tree among them is sound, and each item
 /// within the limit that the language has for tokens from there on is that answer.
 pub fn show_item<I: Tokens>(alloc: Global, parser: &mut Parser<I>) -> Result<Shown, AllocError>
-    ensures { IfOk result (λ shown. (answer : Result (ModuleItem Held) Error) × (t : State) × (parser.new.state ≡ record t { faults = [] })
+    ensures { IfOk result
+        (λ shown. (answer : Result (ModuleItem Held) Error) × (t : State)
+        × (parser.new.state ≡ record t { faults = [] })
         × (string_bytes shown.lines ≡ answer_lines (seen view_module_item answer) t.faults)
         × IfOk answer (λ x. SoundItemAlone parser.old.limit (unmarked parser.old.state) (view_module_item x) t)
         × CompletesItem view_module_item parser.old.limit (unmarked parser.old.state) answer t) }

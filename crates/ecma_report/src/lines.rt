@@ -110,7 +110,8 @@ pub trait Whole {
 
     /// Writes the lines of the tree: its own, and those of its items if it has any.
     fn write(&self, out: &mut String) -> Result<(), AllocError>
-        ensures { OnOk result (string_bytes out.new ≡ string_bytes out.old ++ whole_lines (view_of self.now)) };
+        ensures { OnOk result
+            (string_bytes out.new ≡ string_bytes out.old ++ whole_lines (view_of self.now)) };
 
     /// Drops it. How its type is dropped is proved where it stands, so this crate needs no proof of that.
     fn let_go(self);

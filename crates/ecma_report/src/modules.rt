@@ -83,7 +83,9 @@ impl Whole for Module {
 /// state `t` behind it, in which the parser is left but for them. From a state on in which module code begins, a tree among them
 /// is sound, and each module within the limit that the language has for the parser's list is that answer.
 pub fn show_module<I: Tokens>(alloc: Global, parser: &mut Parser<I>) -> Result<Shown, AllocError>
-    ensures { IfOk result (λ shown. (answer : Result (Module Held) Error) × (t : State) × (parser.new.state ≡ record t { faults = [] })
+    ensures { IfOk result
+        (λ shown. (answer : Result (Module Held) Error) × (t : State)
+        × (parser.new.state ≡ record t { faults = [] })
         × (string_bytes shown.lines ≡ answer_lines (seen view_module answer) t.faults)
         × ((u : State) × IsEntered (unmarked parser.old.state) u × IfOk answer (λ x. SoundModule parser.old.limit u (view_module x) t))
         × ((u : State) × IsEntered (unmarked parser.old.state) u × CompletesModule view_module parser.old.limit u answer t)) }

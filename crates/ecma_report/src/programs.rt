@@ -38,7 +38,9 @@ impl Whole for Program {
 /// state `t` behind it, in which the parser is left but for them: a script's or a module's, whichever it turned out to be. A tree
 /// among them is sound, and each program within the limit that the language has for the parser's list is that answer.
 pub fn show_program<I: Tokens>(alloc: Global, parser: &mut Parser<I>) -> Result<Shown, AllocError>
-    ensures { IfOk result (λ shown. (answer : Result (Program Held) Error) × (t : State) × (parser.new.state ≡ record t { faults = [] })
+    ensures { IfOk result
+        (λ shown. (answer : Result (Program Held) Error) × (t : State)
+        × (parser.new.state ≡ record t { faults = [] })
         × (string_bytes shown.lines ≡ answer_lines (seen view_program answer) t.faults)
         × IfOk answer (λ x. SoundProgram parser.old.limit (unmarked parser.old.state) (view_program x) t)
         × CompletesProgram view_program parser.old.limit (unmarked parser.old.state) answer t) }

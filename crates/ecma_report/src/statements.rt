@@ -47,7 +47,9 @@ pub fn show_statement<I: Tokens>(
     may_declare: bool,
     top_level: bool,
 ) -> Result<String, AllocError>
-    ensures { IfOk result (λ shown. (answer : Result (Stmt Held) Error) × (t : State) × (parser.new.state ≡ record t { faults = [] })
+    ensures { IfOk result
+        (λ shown. (answer : Result (Stmt Held) Error) × (t : State)
+        × (parser.new.state ≡ record t { faults = [] })
         × (string_bytes shown ≡ statement_lines (seen view_stmt answer) t.faults)
         × IfOk answer (λ x. SoundStatement parser.old.limit may_declare top_level (unmarked parser.old.state) (view_stmt x) t)
         × CompletesStatement view_stmt parser.old.limit may_declare top_level (unmarked parser.old.state) answer t) }

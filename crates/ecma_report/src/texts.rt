@@ -57,7 +57,9 @@ pub(crate) fn texts<T: Whole + Debug>(
 /// state `t` behind it, in which the parser is left but for them. A tree among them is sound, and each tree within the
 /// limit that the language has for the parser's list is that answer.
 pub fn show<I: Tokens>(alloc: Global, parser: &mut Parser<I>) -> Result<Shown, AllocError>
-    ensures { IfOk result (λ shown. (answer : Result (Script Held) Error) × (t : State) × (parser.new.state ≡ record t { faults = [] })
+    ensures { IfOk result
+        (λ shown. (answer : Result (Script Held) Error) × (t : State)
+        × (parser.new.state ≡ record t { faults = [] })
         × (string_bytes shown.lines ≡ answer_lines (seen view_script answer) t.faults)
         × IfOk answer (λ x. SoundScript parser.old.limit (unmarked parser.old.state) (view_script x) t)
         × CompletesScript view_script parser.old.limit (unmarked parser.old.state) answer t) }

@@ -22,9 +22,11 @@ impl<'a> Parser<Lexer<'a>> {
         comments: bool,
     ) -> Parser<Lexer<'a>>
         ensures limit { result.limit ≡ 1000 }
-        ensures source { result.source ≡ record (source_of (fresh (source.outset syntax input.entry.start (chars input.entry.src.now)))) {
-          left = drop 2 result.state.at.left;
-        } }
+        ensures source { result.source
+            ≡ record (source_of
+            (fresh (source.outset syntax input.entry.start (chars input.entry.src.now)))) {
+              left = drop 2 result.state.at.left;
+            } }
         ensures left { place.lacks_memory (place.first result.state.at.left) ≡ false
             → place.lacks_memory (place.second result.state.at.left) ≡ false
             → result.state ≡ opened (source.outset syntax input.entry.start (chars input.entry.src.now)) }

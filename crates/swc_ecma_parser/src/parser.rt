@@ -156,7 +156,8 @@ impl<I: Tokens> Parser<I> {
             → IfErr result (λ e. kind_of e.kind ≡ kinds.TooDeep → IsToldBy self.old.state.at.left (fault_of e)) }
 
         // An error token in first place is answered, unless memory ran out.
-        ensures error_token { (t : TokenAndSpan) (ts : _) (d : Error) → self.old.state.at.left ≡ t ∷ ts → t.token ≡ token.Error d
+        ensures error_token { (t : TokenAndSpan) (ts : _) (d : Error)
+            → self.old.state.at.left ≡ t ∷ ts → t.token ≡ token.Error d
             → IsErrAnd result (λ e. kind_of e.kind ≢ kinds.OutOfMemory → fault_of e ≡ fault_of d) }
         // An empty list is read, whatever memory is left.
         ensures outright { self.old.state.at.left ≡ [] → IsOk result }
@@ -205,7 +206,8 @@ impl<I: Tokens> Parser<I> {
 
         // On tokens in order, from `u` on and unless memory ran out: a tree is the answer with nothing recorded, exactly where the
         // whole list spells it within the limit.
-        ensures decides { (from : ℕ) → Ordered from self.old.state.at → (u : reader.State) × IsEntered (unmarked self.old.state) u
+        ensures decides { (from : ℕ) → Ordered from self.old.state.at
+            → (u : reader.State) × IsEntered (unmarked self.old.state) u
             × DecidesModule view_module self.old.limit u result self.new.state }
 
         // Where nothing had been held back, no error token was read and nothing was dropped: the faults of the walk's kinds among
@@ -234,7 +236,8 @@ impl<I: Tokens> Parser<I> {
             → IfErr result (λ e. kind_of e.kind ≡ kinds.TooDeep → IsToldBy self.old.state.at.left (fault_of e)) }
 
         // An error token in first place is answered, unless memory ran out.
-        ensures error_token { (t : TokenAndSpan) (ts : _) (d : Error) → self.old.state.at.left ≡ t ∷ ts → t.token ≡ token.Error d
+        ensures error_token { (t : TokenAndSpan) (ts : _) (d : Error)
+            → self.old.state.at.left ≡ t ∷ ts → t.token ≡ token.Error d
             → IsErrAnd result (λ e. kind_of e.kind ≢ kinds.OutOfMemory → fault_of e ≡ fault_of d) }
 
         // An empty list is read, whatever memory is left.
@@ -318,7 +321,8 @@ impl<I: Tokens> Parser<I> {
             → IfErr result (λ e. kind_of e.kind ≡ kinds.TooDeep → IsToldBy self.old.state.at.left (fault_of e)) }
 
         // An error token in first place is answered, unless memory ran out.
-        ensures error_token { (t : TokenAndSpan) (ts : _) (d : Error) → self.old.state.at.left ≡ t ∷ ts → t.token ≡ token.Error d
+        ensures error_token { (t : TokenAndSpan) (ts : _) (d : Error)
+            → self.old.state.at.left ≡ t ∷ ts → t.token ≡ token.Error d
             → IsErrAnd result (λ e. kind_of e.kind ≢ kinds.OutOfMemory → fault_of e ≡ fault_of d) }
 
         // An empty list is read, whatever memory is left.
@@ -402,7 +406,8 @@ impl<I: Tokens> Parser<I> {
             → IfErr result (λ e. kind_of e.kind ≡ kinds.TooDeep → IsToldBy self.old.state.at.left (fault_of e)) }
 
         // An error token in first place is answered, unless memory ran out.
-        ensures error_token { (t : TokenAndSpan) (ts : _) (d : Error) → self.old.state.at.left ≡ t ∷ ts → t.token ≡ token.Error d
+        ensures error_token { (t : TokenAndSpan) (ts : _) (d : Error)
+            → self.old.state.at.left ≡ t ∷ ts → t.token ≡ token.Error d
             → IsErrAnd result (λ e. kind_of e.kind ≢ kinds.OutOfMemory → fault_of e ≡ fault_of d) }
 
         // At the end of the list the answer is `Eof`, at the end of what was read last, whatever memory is left.
@@ -483,7 +488,8 @@ impl<I: Tokens> Parser<I> {
             → IfErr result (λ e. kind_of e.kind ≡ kinds.TooDeep → IsToldBy self.old.state.at.left (fault_of e)) }
 
         // An error token in first place is answered, unless memory ran out.
-        ensures error_token { (t : TokenAndSpan) (ts : _) (d : Error) → self.old.state.at.left ≡ t ∷ ts → t.token ≡ token.Error d
+        ensures error_token { (t : TokenAndSpan) (ts : _) (d : Error)
+            → self.old.state.at.left ≡ t ∷ ts → t.token ≡ token.Error d
             → IsErrAnd result (λ e. kind_of e.kind ≢ kinds.OutOfMemory → fault_of e ≡ fault_of d) }
 
         // At the end of the list the answer is `Eof`, at the end of what was read last, whatever memory is left.
@@ -567,7 +573,8 @@ impl<I: Tokens> Parser<I> {
             → IfErr result (λ e. kind_of e.kind ≡ kinds.TooDeep → IsToldBy self.old.state.at.left (fault_of e)) }
 
         // An error token in first place is answered, unless memory ran out.
-        ensures error_token { (t : TokenAndSpan) (ts : _) (d : Error) → self.old.state.at.left ≡ t ∷ ts → t.token ≡ token.Error d
+        ensures error_token { (t : TokenAndSpan) (ts : _) (d : Error)
+            → self.old.state.at.left ≡ t ∷ ts → t.token ≡ token.Error d
             → IsErrAnd result (λ e. kind_of e.kind ≢ kinds.OutOfMemory → fault_of e ≡ fault_of d) }
 
         // At the end of the list the answer is `Eof`, at the end of what was read last, whatever memory is left.

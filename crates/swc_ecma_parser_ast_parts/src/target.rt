@@ -50,7 +50,8 @@ fn elements(
     alloc: Global,
     elems: Vec<Option<ExprOrSpread>>,
 ) -> Result<Option<Vec<Option<PatBox>>>, AllocError>
-    ensures { IfOk result (λ x. targets.as_elements (trees (map (view_option view_expr_or_spread) elems.items))
+    ensures { IfOk result
+        (λ x. targets.as_elements (trees (map (view_option view_expr_or_spread) elems.items))
         ≡ option_map (λ ps. trees (map (view_option (λ b. b.node.tree)) ps.items)) x) }
 {
     let mut found = Vec::new(alloc);
@@ -107,7 +108,8 @@ fn part(alloc: Global, expr: ExprBox, defaults: bool) -> Result<Option<PatBox>, 
 /// What takes the rest of an array; the span goes from the dots on.
 #[cycle(patterns)]
 fn rest(alloc: Global, dots: Span, expr: ExprBox) -> Result<Option<PatBox>, AllocError>
-    ensures { IfOk result (λ x. targets.rest_of dots expr.node.tree (targets.as_pattern false expr.node.tree)
+    ensures { IfOk result
+        (λ x. targets.rest_of dots expr.node.tree (targets.as_pattern false expr.node.tree)
         ≡ option_map (λ b. b.node.tree) x) }
 {
     match expr.into_inner() {
@@ -305,7 +307,9 @@ fn assignment(alloc: Global, assign: AssignExpr, defaults: bool) -> Result<Optio
 
 /// An assignment with `=` as a pattern with its default.
 fn with_default(alloc: Global, assign: AssignExpr) -> Result<Pat, AllocError>
-    ensures { IfOk result (λ x. tree.assign_pat assign.span (targets.left_pattern (view_assign_target assign.left.value)) assign.right.node.tree
+    ensures { IfOk result
+        (λ x. tree.assign_pat assign.span
+        (targets.left_pattern (view_assign_target assign.left.value)) assign.right.node.tree
         ≡ view_pat x) }
 {
     let (left, right) = beside(

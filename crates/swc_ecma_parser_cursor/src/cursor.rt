@@ -102,7 +102,8 @@ pub trait Cursor {
 
     /// How many labels of this text stand around.
     fn count_labels(&self, text: &str) -> usize
-        ensures { result ≡ count_by (λ label. bytes_eq text.now label) (seen self.now).scope.labels };
+        ensures { result
+            ≡ count_by (λ label. bytes_eq text.now label) (seen self.now).scope.labels };
 
     /// Goes below one more label.
     fn push_label(&mut self, label: Atom) -> PResult<()>
@@ -186,7 +187,8 @@ pub trait Cursor {
 
     /// Whether `async` and a name stand here on one line.
     fn begins_async_arrow(&self) -> bool
-        ensures { result ≡ async_arrows.begins_async_arrow (seen self.now).code.flags (seen self.now).at };
+        ensures { result
+            ≡ async_arrows.begins_async_arrow (seen self.now).code.flags (seen self.now).at };
 
     /// The look-ahead of an expression statement.
     fn may_begin_expression_statement(&self, at: Position) -> bool
@@ -198,7 +200,8 @@ pub trait Cursor {
 
     /// Whether `using` stands here and begins a declaration.
     fn is_using_declaration(&self) -> bool
-        ensures { result ≡ declarations.is_using_declaration (seen self.now).code (seen self.now).at };
+        ensures { result
+            ≡ declarations.is_using_declaration (seen self.now).code (seen self.now).at };
 
     /// Whether `using` stands here and may begin a declaration in the head of a loop.
     fn may_declare_using(&self) -> bool
@@ -214,11 +217,14 @@ pub trait Cursor {
 
     /// Records a fault; an error token that stands here is read and recorded first.
     fn fault(&mut self, kind: SyntaxError, span: Span) -> PResult<()>
-        ensures { Gives (reader.fault (reader.fault_at span (kind_of kind)) (seen self.old)) result (seen self.new) };
+        ensures { Gives (reader.fault (reader.fault_at span (kind_of kind)) (seen self.old))
+            result (seen self.new) };
 
     /// Adds a fault that counts in module code alone.
     fn module_fault(&mut self, kind: SyntaxError, span: Span) -> PResult<()>
-        ensures { Gives (Ok (tt, reader.module_fault (reader.fault_at span (kind_of kind)) (seen self.old))) result (seen self.new) };
+        ensures { Gives
+            (Ok (tt, reader.module_fault (reader.fault_at span (kind_of kind)) (seen self.old)))
+            result (seen self.new) };
 
     /// Notes that what was read makes a program a module.
     fn note_module_item(&mut self)
@@ -279,7 +285,8 @@ pub trait Cursor {
 
     /// A name that refers to something: `await` is none in async code either.
     fn reference(&mut self, wanted: Wanted) -> PResult<Ident>
-        ensures { Gives (reader.reference (wanted_kind wanted) (seen self.old)) result (seen self.new) };
+        ensures { Gives (reader.reference (wanted_kind wanted) (seen self.old))
+            result (seen self.new) };
 
     /// A word, reserved or not.
     fn any_word(&mut self) -> PResult<Ident>
@@ -287,7 +294,8 @@ pub trait Cursor {
 
     /// A literal, if one stands here.
     fn literal(&mut self) -> PResult<Option<Literal>>
-        ensures { GivesAs (option_map literal_tree) (exprs.literal (seen self.old)) result (seen self.new) };
+        ensures { GivesAs (option_map literal_tree) (exprs.literal (seen self.old))
+            result (seen self.new) };
 
     /// The text of a shebang, if one stands here.
     fn shebang(&mut self) -> PResult<Option<Atom>>
@@ -297,5 +305,6 @@ pub trait Cursor {
     /// Sets the context to one of the same goal, script or module.
     fn set_flags(&mut self, flags: Context)
         requires { flags.module ≡ (seen self.old).code.flags.module }
-        ensures { seen self.new ≡ reader.coded (record (seen self.old).code { flags = flags }) (seen self.old) };
+        ensures { seen self.new
+            ≡ reader.coded (record (seen self.old).code { flags = flags }) (seen self.old) };
 }

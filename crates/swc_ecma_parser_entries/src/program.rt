@@ -30,7 +30,8 @@ pub(crate) fn program_body<
     I: Tokens,
     T: BuildsStatements + BuildsExport + BuildsVarDecl,
 >(t: &MakerOf<T>, state: &mut Call<O, I>, limit: usize, outer: Context) -> PResult<T::Program>
-    ensures answers { (s : reader.State) → outer ≡ s.code.flags → state.old ≡ reader.coded (program_code s.code) s
+    ensures answers { (s : reader.State) → outer ≡ s.code.flags
+        → state.old ≡ reader.coded (program_code s.code) s
         → AnswersProgram T.program_of limit s result state.new }
     ensures outright { state.old.at.left ≡ [] → IsOk result }
 {

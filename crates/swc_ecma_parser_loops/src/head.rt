@@ -413,7 +413,9 @@ fn initialized<P: Cursor, T: BuildsVariables>(
     refused: bool,
     only: &T::Declarator,
 ) -> PResult<()>
-    ensures { Gives (rules.told (own.only (refused && within.is_initialized (T.declarator_of only.now)) kinds.VarInitializerInForInHead
+    ensures { Gives
+        (rules.told (own.only (refused && within.is_initialized (T.declarator_of only.now))
+        kinds.VarInitializerInForInHead
         (forms.span_of (within.declared_name (T.declarator_of only.now)))) (P.seen p.old)) result (P.seen p.new) }
 {
     if refused && T::is_initialized(only) {

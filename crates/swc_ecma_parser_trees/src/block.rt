@@ -20,7 +20,8 @@ pub trait BuildsBlock: Trees {
 
     /// Statements in braces; the span covers them.
     fn body(alloc: Global, span: Span, stmts: Vec<Self::Stmt>) -> Result<Self::Block, AllocError>
-        ensures { IfOk result (λ x. block_of x ≡ tree.block span (tree.listed (map Self.stmt_of stmts.items))) };
+        ensures { IfOk result
+            (λ x. block_of x ≡ tree.block span (tree.listed (map Self.stmt_of stmts.items))) };
 
     /// Where a statement stands.
     fn stmt_span(stmt: &Self::Stmt) -> Span

@@ -31,7 +31,8 @@ pub trait BuildsControl: Trees {
         span: Span,
         arg: Option<Self::Expr>,
     ) -> Result<Self::Stmt, AllocError>
-        ensures { IfOk result (λ x. Self.stmt_of x ≡ tree.return span (parts.part_of Self.expr_of arg)) };
+        ensures { IfOk result
+            (λ x. Self.stmt_of x ≡ tree.return span (parts.part_of Self.expr_of arg)) };
 
     /// A statement with a label: section 14.13.
     fn labeled(

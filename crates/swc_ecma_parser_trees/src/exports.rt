@@ -105,7 +105,8 @@ pub trait BuildsExport: BuildsImport + BuildsDecl + BuildsClass {
         span: Span,
         decl: Self::DefaultDecl,
     ) -> Result<Self::Item, AllocError>
-        ensures { IfOk result (λ x. Self.item_of x ≡ tree.export_default_decl span (default_decl_of decl)) };
+        ensures { IfOk result
+            (λ x. Self.item_of x ≡ tree.export_default_decl span (default_decl_of decl)) };
 
     /// An expression that is exported by default.
     fn export_default_expr(
@@ -113,7 +114,8 @@ pub trait BuildsExport: BuildsImport + BuildsDecl + BuildsClass {
         span: Span,
         expr: Self::Expr,
     ) -> Result<Self::Item, AllocError>
-        ensures { IfOk result (λ x. Self.item_of x ≡ tree.export_default_expr span (Self.expr_of expr)) };
+        ensures { IfOk result
+            (λ x. Self.item_of x ≡ tree.export_default_expr span (Self.expr_of expr)) };
 
     /// Whether it names all that another module exports.
     fn is_export_namespace(specifier: &Self::ExportSpecifier) -> bool

@@ -45,11 +45,13 @@ pub trait BuildsPattern: Trees {
 
     /// An expression as what `=` assigns to; an array or an object becomes a pattern. None where it is no target.
     fn target(alloc: Global, expr: Self::Expr) -> Result<Option<Self::Pat>, AllocError>
-        ensures { IfOk result (λ x. targets.as_target (Self.expr_of expr) ≡ option_map Self.pat_of x) };
+        ensures { IfOk result
+            (λ x. targets.as_target (Self.expr_of expr) ≡ option_map Self.pat_of x) };
 
     /// An expression as an element of such a pattern, with its default if it has one. None where it is no target.
     fn element(alloc: Global, expr: Self::Expr) -> Result<Option<Self::Pat>, AllocError>
-        ensures { IfOk result (λ x. targets.as_element (Self.expr_of expr) ≡ option_map Self.pat_of x) };
+        ensures { IfOk result
+            (λ x. targets.as_element (Self.expr_of expr) ≡ option_map Self.pat_of x) };
 
     /// Whether names alone stand in a pattern where targets could, so that it binds what it would assign to.
     fn binds(pat: &Self::Pat) -> bool

@@ -51,7 +51,8 @@ pub trait BuildsVariables: Trees {
 
     /// Whether a declarator declares a plain name, and no pattern.
     fn declares_name(declarator: &Self::Declarator) -> bool
-        ensures { result ≡ forms.is_binding_name (within.declared_name (declarator_of declarator.now)) };
+        ensures { result
+            ≡ forms.is_binding_name (within.declared_name (declarator_of declarator.now)) };
 
     /// Whether a declarator has an initializer.
     fn is_initialized(declarator: &Self::Declarator) -> bool
