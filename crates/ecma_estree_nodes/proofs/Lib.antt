@@ -1,3 +1,4 @@
+mod Lists
 mod Numbers
 mod Pieces
 mod Scan

@@ -127,7 +127,7 @@ unfolding inner_quoted
 inner_read s = record { reads = λ rest. wrapped_read (take (length s - 2) (drop 1 s)) rest }
 
 -- a text that is written out
-fixed : (xs : List ℕ) → ((rest : List ℕ) → read (xs ++ rest) ≡ read rest) → Reads xs []
+pub fixed : (xs : List ℕ) → ((rest : List ℕ) → read (xs ++ rest) ≡ read rest) → Reads xs []
 fixed xs f = record { reads = f }
 
 -- ---- how a node begins
@@ -149,10 +149,10 @@ range_read x a b =
     (skip (fixed (codes ",") (λ rest. refl)) (skip (calm_read (decimal (offset x.text b)) (decimal_calm (offset x.text b))) (fixed (codes "]") (λ rest. refl)))))
 
 -- what stands behind the two offsets
-abbrev further : Placed → (a b : ℕ) → List ℕ
+abbrev pub further : Placed → (a b : ℕ) → List ℕ
 further x a b = cond x.has_locations (loc_text x a b) [] ++ cond x.has_ranges (range_text x a b) []
 
-further_read : (x : Placed) (a b : ℕ) → Reads (further x a b) []
+pub further_read : (x : Placed) (a b : ℕ) → Reads (further x a b) []
 further_read x a b =
     skip (neither x.has_locations (spots_read (spot_at x.text a) (spot_at x.text b)) none_read) (neither x.has_ranges (range_read x a b) none_read)
 
@@ -168,14 +168,14 @@ further_stops x a b rest h =
 
 -- ---- a word up to its quote
 
-to_quote_word : (word rest : List ℕ) → all_calm word ≡ true → to_quote (word ++ 34 ∷ rest) ≡ word
+pub to_quote_word : (word rest : List ℕ) → all_calm word ≡ true → to_quote (word ++ 34 ∷ rest) ≡ word
 to_quote_word [] rest h = refl
 to_quote_word (b ∷ bs) rest h =
     let p = and_yes (calm b) (all_calm bs) h in
     let c = calm_tests b p.0 in
     rw (c.quote) (ap (λ w. b ∷ w) (to_quote_word bs rest p.1))
 
-from_quote_word : (word rest : List ℕ) → all_calm word ≡ true → from_quote (word ++ 34 ∷ rest) ≡ 34 ∷ rest
+pub from_quote_word : (word rest : List ℕ) → all_calm word ≡ true → from_quote (word ++ 34 ∷ rest) ≡ 34 ∷ rest
 from_quote_word [] rest h = refl
 from_quote_word (b ∷ bs) rest h =
     let p = and_yes (calm b) (all_calm bs) h in

@@ -78,3 +78,8 @@ read bs = read_from outside bs
 -- What stands behind a text is read as it is by itself: no string is open at its end.
 pub record IsClosed (xs : List ℕ) : Type 0 where
   pub closes : (rest : List ℕ) → read (xs ++ rest) ≡ read xs ++ read rest
+
+-- no node is read there either
+pub record IsQuiet (xs : List ℕ) : Type 0 where
+  pub closed : IsClosed xs
+  pub no_nodes : read xs ≡ []
