@@ -1,12 +1,12 @@
 -- Comments and tokens are no nodes.
-use Rattle.std.proofs.Common.{◌≡◌, ℕ, List, [], ◌∷◌, ◌++◌, Bool, true, false, cond, Option, Some, None, refl, ap, ap₂, sym, ◌∙◌, append_assoc, append-nil, codes, decimal}
+use Rattle.std.proofs.Common.{◌≡◌, ℕ, List, [], ◌∷◌, ◌++◌, Bool, true, false, cond, Option, Some, None, refl, ap, ap₂, sym, ◌∙◌, append_assoc, codes, decimal}
 use Rattle.std.specs.List.{flat_map}
 use Rattle.std.specs.Str.{bytes_eq}
 use Rattle.ecma_estree_lists.specs.Comments.{kind_word, comment_text, next_comment, comment_list, comments_field}
 use Rattle.ecma_estree_lists.specs.Tokens.{keyword_type, name_type, word_type, token_type, is_passed, value_text, token_head, token_tail, written, token_text, comma, step_text, is_first_behind, hash_behind, token_list, tokens_field}
 use Rattle.ecma_estree_nodes.specs.Law.{ListsAreQuiet}
-use Rattle.ecma_estree_nodes.specs.Reading.{IsClosed, IsQuiet, behind, named, started, inside, read_from, read}
-use Rattle.ecma_estree_nodes.proofs.Pieces.{Reads, skip, last, neither, none_read, fixed, further_read, to_quote_word, from_quote_word, calm_read, quoted_mark, as_read}
+use Rattle.ecma_estree_nodes.specs.Reading.{IsQuiet, behind, named, started, inside, read_from, read}
+use Rattle.ecma_estree_nodes.proofs.Pieces.{Reads, skip, neither, none_read, fixed, further_read, to_quote_word, from_quote_word, calm_read, quoted_mark, as_read}
 use Rattle.ecma_estree_nodes.proofs.Scan.{all_calm, calm_inside, decimal_calm, wrapped_read}
 use Rattle.ecma_estree_text.specs.Places.{Placed, offset, place_fields}
 use Rattle.ecma_estree_text.specs.Quoted.{wrapped}
