@@ -7,7 +7,8 @@ use ecma_estree_text::{Extras, Places};
 use ecma_faults::{note_of, push_json, push_text};
 use std::alloc::{AllocError, Global};
 use std::test::Fail;
-use swc_ecma_parser::error::Error;
+use swc_ecma_parser::ast::Script;
+use swc_ecma_parser::error::{Error, PResult};
 
 /// Writes faults as text, and then as JSON.
 fn push_faults(out: &mut Vec<u8>, places: &Places<'_>, faults: &[Error]) -> Result<(), AllocError>
@@ -20,6 +21,14 @@ fn push_faults(out: &mut Vec<u8>, places: &Places<'_>, faults: &[Error]) -> Resu
     Ok(())
 }
 
+/// Lets a script go, or why there is none.
+fn discard(script: PResult<Script>) {
+    match script {
+        Ok(script) => script.discard(),
+        Err(error) => let_go(error),
+    }
+}
+
 /// The faults of a text that is read as a script.
 fn faults(alloc: Global, text: &str) -> Result<Vec<u8>, Fail> {
     let extras = Extras {
@@ -28,7 +37,7 @@ fn faults(alloc: Global, text: &str) -> Result<Vec<u8>, Fail> {
     };
     let places = places(alloc, text, extras)?;
     let mut parser = parser(alloc, places.text());
-    let_go(parser.parse_script());
+    discard(parser.parse_script());
     let faults = parser.take_errors();
     let_go(parser);
     let mut out = Vec::new(alloc);

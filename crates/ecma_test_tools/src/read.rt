@@ -3,7 +3,7 @@
 ghost use Rattle.std.specs.Prelude.{◌<◌, ◌^◌, IfOk, length};
 
 use ecma_estree_text::{Extras, Places};
-use std::alloc::{AllocError, Global};
+use std::alloc::Global;
 use std::test::Fail;
 use swc_ecma_parser::Parser;
 use swc_ecma_parser::common::BytePos;
