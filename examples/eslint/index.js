@@ -1,0 +1,9 @@
+// A parser and a plugin for ESLint.
+'use strict';
+const { parseForESLint } = require('./parser');
+
+module.exports = {
+    meta: { name: 'eslint-plugin-ecma-check', version: '0.1.0' },
+    parseForESLint,
+    rules: { fault: require('./rules/fault') },
+};

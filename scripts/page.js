@@ -1,0 +1,216 @@
+'use strict';
+// Drives the page in web/ in a headless Chromium, by its pipe for debugging: keys, clicks, answers, a picture.
+//
+// usage: node scripts/page.js [--picture FILE] [--requests FILE]
+//
+// It types, opens the tree, clicks a fault, loads the page anew, has memory run out, and measures a text of 100 KB. With FILE it answers the requests there
+// (texts with the numbers of their options) as the page's worker does, and writes the answers to standard output.
+
+const { spawn } = require('node:child_process');
+const assert = require('node:assert');
+const fs = require('node:fs');
+const os = require('node:os');
+const path = require('node:path');
+const { pathToFileURL } = require('node:url');
+
+const PAGE = pathToFileURL(path.join(__dirname, '../web/index.html')).href;
+const CHUNK = 200;
+const ROUNDS = 21;
+const word = name => (process.argv.includes(name) ? process.argv[process.argv.indexOf(name) + 1] : undefined);
+
+/** Calls to Chromium over two pipes, each a line of JSON that ends with a zero byte. */
+class Browser {
+  constructor(program) {
+    this.folder = fs.mkdtempSync(path.join(os.tmpdir(), 'ecma-page-'));
+    const words = ['--headless=new', '--no-sandbox', '--disable-gpu', '--remote-debugging-pipe', `--user-data-dir=${this.folder}`, '--window-size=1200,800'];
+    this.child = spawn(program, words, { stdio: ['ignore', 'ignore', 'ignore', 'pipe', 'pipe'] });
+    this.waiting = new Map();
+    this.count = 0;
+    let rest = '';
+    this.child.stdio[4].setEncoding('utf8').on('data', data => {
+      const lines = (rest + data).split('\0');
+      rest = lines.pop();
+      for (const line of lines) this.take(JSON.parse(line));
+    });
+  }
+
+  take({ id, result, error }) {
+    const it = this.waiting.get(id);
+    this.waiting.delete(id);
+    if (error) it?.reject(new Error(error.message));
+    else it?.resolve(result);
+  }
+
+  call(method, params = {}) {
+    const id = ++this.count;
+    this.child.stdio[3].write(`${JSON.stringify({ id, method, params, sessionId: this.session })}\0`);
+    return new Promise((resolve, reject) => this.waiting.set(id, { resolve, reject }));
+  }
+
+  async open(url) {
+    const { targetId } = await this.call('Target.createTarget', { url: 'about:blank' });
+    ({ sessionId: this.session } = await this.call('Target.attachToTarget', { targetId, flatten: true }));
+    await this.go(url);
+  }
+
+  async go(url) {
+    await this.call('Page.navigate', { url });
+    await this.until(`document.documentElement?.dataset.shown !== undefined`);
+  }
+
+  async value(expression) {
+    const { result, exceptionDetails } = await this.call('Runtime.evaluate', { expression, awaitPromise: true, returnByValue: true });
+    if (exceptionDetails) throw new Error(exceptionDetails.exception?.description ?? exceptionDetails.text);
+    return result.value;
+  }
+
+  async until(expression) {
+    for (let times = 0; times < 1000; times++) {
+      if (await this.value(expression)) return;
+      await new Promise(done => setTimeout(done, 10));
+    }
+    throw new Error(`it does not come to: ${expression}`);
+  }
+
+  /** Waits until what was asked last is shown. */
+  settled() {
+    return this.until('document.documentElement?.dataset.shown === document.documentElement?.dataset.asked');
+  }
+
+  async click(selector) {
+    const { x, y } = await this.value(`(() => { const it = document.querySelector(${JSON.stringify(selector)}); it.scrollIntoView();
+      const { x, y, height } = it.getBoundingClientRect(); return { x: x + 5, y: y + height / 2 }; })()`);
+    for (const type of ['mousePressed', 'mouseReleased']) await this.call('Input.dispatchMouseEvent', { type, x, y, button: 'left', clickCount: 1 });
+  }
+
+  async type(text) {
+    for (const key of text) await this.call('Input.dispatchKeyEvent', { type: 'char', text: key });
+  }
+
+  async close() {
+    const ended = new Promise(done => this.child.once('exit', done));
+    this.call('Browser.close').catch(() => {});
+    await ended;
+    fs.rmSync(this.folder, { recursive: true, force: true, maxRetries: 10 });
+  }
+}
+
+/** Typing, clicks, the address. */
+async function used(page) {
+  assert.strictEqual(await page.value(`$('faults').childElementCount`), 1);
+  await page.click('#text');
+  await page.value(`text.value = ''; changed()`);
+  await page.type('a;\r b c');
+  await page.settled();
+  assert.ok((await page.value(`$('faults').textContent`)).startsWith('2:4 refused'));
+  await page.click('#faults li');
+  assert.deepStrictEqual(await page.value('[text.selectionStart, text.selectionEnd]'), [6, 7]);
+  await page.value(`text.value = 'f(\u00e9, 1n)'; changed()`);
+  await page.settled();
+  assert.strictEqual(await page.value(`$('faults').childElementCount`), 0);
+  await page.click('#tree > details > details:nth-of-type(1) > summary');
+  await page.until(`$('tree').textContent.includes('ExpressionStatement')`);
+  await page.until(`unpacked(location.hash.slice(1)).then(it => it === text.value, () => false)`);
+  await page.value('self.isOld = true; location.reload()');
+  await page.until('self.isOld === undefined && document.documentElement?.dataset.shown !== undefined');
+  assert.strictEqual(await page.value('text.value'), 'f(\u00e9, 1n)');
+  console.error('typing, clicks, tree, address: as they should be');
+}
+
+/** From a key to what is shown, in a text of 100 KB. */
+async function measured(page) {
+  await page.value(`text.value = 'function f(a, b) {\\n  return a.b(c, 1) + d[e] * 2;\\n}\\n'.repeat(1925); changed(); 0`);
+  await page.settled();
+  const size = await page.value('text.value.length');
+  await page.value(`self.times = [];
+    text.addEventListener('keypress', ({ timeStamp }) => { self.from = timeStamp; });
+    new MutationObserver(() => { if (document.documentElement.dataset.shown === document.documentElement.dataset.asked) times.push(performance.now() - from); })
+      .observe(document.documentElement, { attributes: true, attributeFilter: ['data-shown'] }); text.focus(); 0`);
+  for (let round = 0; round < ROUNDS; round++) {
+    await page.type(';');
+    await page.until(`times.length > ${round}`);
+  }
+  const times = await page.value('times');
+  console.error(`${size} bytes: ${times.sort((a, b) => a - b)[ROUNDS >> 1].toFixed(0)} ms from a key to what is shown (median of ${times.length})`);
+}
+
+/** Makes the page's own host and module known to what is evaluated in the page. */
+function prepared(page) {
+  return page.value(`(async () => {
+    const kept = self.onmessage;
+    const { host, answers } = new Function($('worker').textContent + '; return { host, answers }')();
+    self.onmessage = kept;
+    const letters = Uint8Array.from(atob($('module').textContent), it => it.charCodeAt(0));
+    self.own = { host, answers, module: await WebAssembly.compile(await piped(letters, new DecompressionStream('gzip'))) }; })()`);
+}
+
+/** Want of memory and depth, as the page's own code answers them. */
+async function starved(page) {
+  await prepared(page);
+  const found = await page.value(`(() => {
+    const { host, answers, module } = own;
+    const least = new WebAssembly.Instance(module, {}).exports.memory.buffer.byteLength;
+    const found = [];
+    for (let more = 0; found.at(-1) !== 0; more += 65536) found.push(host(module, answers.guessOf, least + more)('f(a, b);\\n'.repeat(100), answers.numbersOf({ tokens: true })).status);
+    return found; })()`);
+  assert.ok(found.length > 10 && found.slice(0, -1).every(it => it === -2), JSON.stringify(found));
+  await page.value(`text.value = '{'.repeat(100000); changed()`);
+  await page.settled();
+  assert.ok((await page.value(`$('faults').textContent`)).includes('[TooDeep]'));
+  console.error('want of memory and depth: told');
+}
+
+/** The answers of the page's own code to requests, as examples/node/answers.js tells them. */
+async function answered(page, requests) {
+  await prepared(page);
+  await page.value(`(() => {
+    const answer = own.host(own.module, own.answers.guessOf);
+    self.digestsOf = async requests => {
+      const found = [];
+      for (const { text, ...numbers } of requests) {
+        const { status, json } = answer(text, numbers);
+        const bytes = new TextEncoder().encode(json);
+        const hash = new Uint8Array(await crypto.subtle.digest('SHA-256', bytes));
+        found.push([status, bytes.length, Array.from(hash, it => it.toString(16).padStart(2, '0')).join('')]);
+      }
+      return found;
+    }; })()`);
+  const answers = [];
+  for (let at = 0; at < requests.length; at += CHUNK) {
+    answers.push(...await page.value(`digestsOf(${JSON.stringify(requests.slice(at, at + CHUNK))})`));
+  }
+  return answers;
+}
+
+async function main() {
+  const page = new Browser(process.env.CHROMIUM ?? 'chromium');
+  try {
+    await page.open(PAGE);
+    const requests = word('--requests');
+    if (requests) {
+      console.log(JSON.stringify(await answered(page, JSON.parse(fs.readFileSync(requests, 'utf8')))));
+      return;
+    }
+    await used(page);
+    const picture = word('--picture');
+    if (picture) {
+      await page.value(`text.value = "'use strict';\\nfunction add(a, b) {\\n  with (a) return b;\\n}\\nwhile (add(1, 2)) {\\n  let x = x + 1;\\n}\\nbreak;\\n"; changed()`);
+      await page.settled();
+      for (const at of ['', ' > details:nth-of-type(2)', ' > details:nth-of-type(2) > details:nth-last-of-type(1)']) {
+        await page.click(`#tree > details > details:nth-of-type(1)${at} > summary`);
+        await page.until(`document.querySelector('#tree > details > details:nth-of-type(1)${at}').childElementCount > 1`);
+      }
+      await page.click('#faults li');
+      fs.writeFileSync(picture, Buffer.from((await page.call('Page.captureScreenshot', { format: 'png' })).data, 'base64'));
+    }
+    await starved(page);
+    await measured(page);
+  } finally {
+    await page.close();
+  }
+}
+
+main().catch(error => {
+  console.error(error);
+  process.exitCode = 1;
+});
