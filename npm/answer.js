@@ -75,9 +75,16 @@ function restore(node) {
   }
 }
 
+/** Why there is no answer, where that is so. */
+function failureOf(status) {
+  if (status >= 0) return null;
+  return status in FAILURES ? new RangeError(FAILURES[status]) : new Error(`status ${status}`);
+}
+
 /** The tree and the faults of an answer. Throws where there is no tree, or no answer. */
 function resultOf(status, json) {
-  if (status < 0) throw status === -2 || status === -4 ? new RangeError(FAILURES[status]) : new Error(`status ${status}`);
+  const failure = failureOf(status);
+  if (failure) throw failure;
   const { tree, faults: told } = JSON.parse(json);
   const faults = told.map(faultOf);
   if (tree === null) throw errorOf(faults.pop(), faults);
@@ -85,6 +92,6 @@ function resultOf(status, json) {
   return { tree, faults };
 }
 
-const answers = { numbersOf, guessOf, resultOf, MAX_LIMIT };
+const answers = { numbersOf, guessOf, faultOf, failureOf, restore, resultOf };
 
 if (typeof module !== 'undefined') module.exports = answers;

@@ -3,8 +3,9 @@
 //
 // usage: node scripts/page.js [--picture FILE] [--requests FILE]
 //
-// It types, opens the tree, clicks a fault, loads the page anew, has memory run out, and measures a text of 100 KB. With FILE it answers the requests there
-// (texts with the numbers of their options) as the page's worker does, and writes the answers to standard output.
+// It types, opens the tree, clicks a fault, loads the page anew, has memory run out, and measures how long texts of 100 KB take from a key to
+// their answer: less than 100 ms. With --requests it answers those in FILE (texts with the numbers of their options) as the page's worker does,
+// and writes the answers to standard output.
 
 const { spawn } = require('node:child_process');
 const assert = require('node:assert');
@@ -16,6 +17,8 @@ const { pathToFileURL } = require('node:url');
 const PAGE = pathToFileURL(path.join(__dirname, '../web/index.html')).href;
 const CHUNK = 200;
 const ROUNDS = 21;
+const SIZE = 100_000;
+const MOST_MS = 100;
 const word = name => (process.argv.includes(name) ? process.argv[process.argv.indexOf(name) + 1] : undefined);
 
 /** Calls to Chromium over two pipes, each a line of JSON that ends with a zero byte. */
@@ -41,9 +44,9 @@ class Browser {
     else it?.resolve(result);
   }
 
-  call(method, params = {}) {
+  call(method, params = {}, sessionId = this.session) {
     const id = ++this.count;
-    this.child.stdio[3].write(`${JSON.stringify({ id, method, params, sessionId: this.session })}\0`);
+    this.child.stdio[3].write(`${JSON.stringify({ id, method, params, sessionId: sessionId ?? undefined })}\0`);
     return new Promise((resolve, reject) => this.waiting.set(id, { resolve, reject }));
   }
 
@@ -87,6 +90,12 @@ class Browser {
     for (const key of text) await this.call('Input.dispatchKeyEvent', { type: 'char', text: key });
   }
 
+  /** The processor time of all its processes, in milliseconds. */
+  async spent() {
+    const { processInfo } = await this.call('SystemInfo.getProcessInfo', {}, null);
+    return 1000 * processInfo.reduce((sum, { cpuTime }) => sum + cpuTime, 0);
+  }
+
   async close() {
     const ended = new Promise(done => this.child.once('exit', done));
     this.call('Browser.close').catch(() => {});
@@ -117,21 +126,55 @@ async function used(page) {
   console.error('typing, clicks, tree, address: as they should be');
 }
 
-/** From a key to what is shown, in a text of 100 KB. */
-async function measured(page) {
-  await page.value(`text.value = 'function f(a, b) {\\n  return a.b(c, 1) + d[e] * 2;\\n}\\n'.repeat(1925); changed(); 0`);
+/** The texts of about 100 KB that are measured. */
+function measuredTexts() {
+  const unit = 'function total(items, kind) {\n  let sum = 0;\n  for (const item of items) {\n    sum = sum + item.price * item.count;\n  }\n  return sum * rates[kind];\n}\n\n';
+  return {
+    'functions': unit.repeat(SIZE / unit.length),
+    'one line of calls': `[${'f(x + 1), '.repeat(SIZE / 10)}1]`,
+    'short lines': 'a;\n'.repeat(SIZE / 3),
+    'a fault a line': 'break;\n'.repeat(SIZE / 7),
+  };
+}
+
+/** Notes how long it is from each key to the answer in the page, and to the next frame, which shows it. */
+const WATCH = `self.times = [];
+  text.addEventListener('keypress', ({ timeStamp }) => { self.from = timeStamp; });
+  new MutationObserver(() => {
+    const { shown, asked } = document.documentElement.dataset;
+    if (shown !== asked) return;
+    const answered = performance.now() - from;
+    requestAnimationFrame(() => setTimeout(() => times.push([answered, performance.now() - from])));
+  }).observe(document.documentElement, { attributes: true, attributeFilter: ['data-shown'] });
+  0`;
+
+/** Types into the middle of a text, and prints the middle of how long it takes until that is answered, and until it is seen. */
+async function measuredIn(page, name, source) {
+  const middle = source.length >> 1;
+  const at = 1 + Math.max(source.lastIndexOf('\n', middle), source.lastIndexOf(' ', middle));
+  await page.value(`text.value = ${JSON.stringify(source)}; text.focus(); text.setSelectionRange(${at}, ${at}); changed(); 0`);
   await page.settled();
-  const size = await page.value('text.value.length');
-  await page.value(`self.times = [];
-    text.addEventListener('keypress', ({ timeStamp }) => { self.from = timeStamp; });
-    new MutationObserver(() => { if (document.documentElement.dataset.shown === document.documentElement.dataset.asked) times.push(performance.now() - from); })
-      .observe(document.documentElement, { attributes: true, attributeFilter: ['data-shown'] }); text.focus(); 0`);
+  await page.value('new Promise(done => setTimeout(done, 500)).then(() => { times.length = 0; })');
+  const spent = await page.spent();
   for (let round = 0; round < ROUNDS; round++) {
-    await page.type(';');
+    await page.type(' ');
     await page.until(`times.length > ${round}`);
   }
+  const each = (await page.spent() - spent) / ROUNDS;
   const times = await page.value('times');
-  console.error(`${size} bytes: ${times.sort((a, b) => a - b)[ROUNDS >> 1].toFixed(0)} ms from a key to what is shown (median of ${times.length})`);
+  const [answered, seen] = [0, 1].map(part => times.map(it => it[part]).sort((a, b) => a - b)[ROUNDS >> 1]);
+  console.error(`${name}, ${source.length} bytes: answered after ${answered.toFixed(0)} ms, seen after ${seen.toFixed(0)} ms (${each.toFixed(0)} ms of processors)`);
+  return answered;
+}
+
+/** From a key to its answer in texts of 100 KB. */
+async function measured(page) {
+  await page.value(WATCH);
+  const slow = [];
+  for (const [name, source] of Object.entries(measuredTexts())) {
+    if (await measuredIn(page, name, source) > MOST_MS) slow.push(name);
+  }
+  assert.deepStrictEqual(slow, [], `more than ${MOST_MS} ms from a key to its answer`);
 }
 
 /** Makes the page's own host and module known to what is evaluated in the page. */

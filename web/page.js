@@ -110,8 +110,8 @@ function entryShown(entry, generation) {
   return details;
 }
 
-function show({ ms, faults, tree, entries, failure, generation, number }) {
-  $('faults').replaceChildren(...faults.slice(0, 100).map(faultShown));
+function show({ ms, count, faults, tree, entries, failure, generation, number }) {
+  $('faults').replaceChildren(...faults.map(faultShown));
   waiting.clear();
   if (tree) {
     const root = entryShown(tree, generation);
@@ -121,7 +121,7 @@ function show({ ms, faults, tree, entries, failure, generation, number }) {
   } else {
     $('tree').replaceChildren(made('p', '', failure ?? 'no tree'));
   }
-  $('state').textContent = failure ?? `${faults.length} ${faults.length === 1 ? 'fault' : 'faults'}, ${ms.toFixed(1)} ms`;
+  $('state').textContent = failure ?? `${count} ${count === 1 ? 'fault' : 'faults'}, ${ms.toFixed(1)} ms`;
   document.documentElement.dataset.shown = number;
 }
 

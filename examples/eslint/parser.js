@@ -1,9 +1,6 @@
-// A parser for ESLint over `ecma-check`. ECMA_CHECK says where the program is, or else it is looked for as a command.
+// Parsers for ESLint over anything that reads a text as a tree and its faults.
 'use strict';
-const { spawnSync } = require('child_process');
 const { unionWith } = require('eslint-visitor-keys');
-
-const FIELDS = ['--locations', '--ranges', '--comments', '--tokens'];
 
 // The parts of nodes that ESLint has no keys for.
 const VISITOR_KEYS = unionWith({
@@ -19,29 +16,10 @@ const VISITOR_KEYS = unionWith({
     PropertyDefinition: ['decorators'],
 });
 
-function run(words, text) {
-    const program = process.env.ECMA_CHECK || 'ecma-check';
-    const done = spawnSync(program, words, { input: text, maxBuffer: 1 << 30 });
-    if (done.error) throw done.error;
-    if (done.status > 2) throw new Error(String(done.stderr));
-    return { status: done.status, out: String(done.stdout) };
-}
-
-// What the settings of ESLint come to in words of the program. `enable` names proposals.
-function wordsOf({ sourceType, ecmaFeatures = {}, enable = [] }) {
-    const allowed = [...enable];
-    if (ecmaFeatures.globalReturn || sourceType === 'commonjs') allowed.push('return-outside-function');
-    const goal = sourceType === 'module' ? '--module' : '--script';
-    return [goal, ...allowed.flatMap((name) => ['--enable', name])];
-}
-
-// The faults of a text, the last of which ended its reading where it has no tree.
-function faultsOf(words, text) {
-    return run([...words, '--format', 'json'], text).out.split('\n').filter(Boolean).map((line) => JSON.parse(line));
-}
-
-function refused({ message, kind, start, line, column }) {
-    return Object.assign(new SyntaxError(`${message} [${kind}]`), { kind, index: start, lineNumber: line, column });
+// What is asked for by the settings of ESLint: a goal, and proposals by the names that `ecma-check --enable` has for them.
+function askedBy({ sourceType, ecmaFeatures = {}, enable = [] }) {
+    const returns = ecmaFeatures.globalReturn || sourceType === 'commonjs';
+    return { goal: sourceType === 'module' ? 'module' : 'script', enable: returns ? [...enable, 'return-outside-function'] : enable };
 }
 
 // ESLint has a program from its first statement to its last token.
@@ -57,20 +35,20 @@ function trim(program) {
     }
 }
 
-// JSON has no big integers.
-function withBigInts(key, value) {
-    if (value && value.type === 'Literal' && value.bigint !== undefined) value.value = BigInt(value.bigint);
-    return value;
+// A refusal as ESLint takes it: a line from 1, a column from 1.
+function refused({ message, kind, start, loc }) {
+    return Object.assign(new SyntaxError(`${message} [${kind}]`), { kind, index: start, lineNumber: loc.start.line, column: loc.start.column + 1 });
 }
 
-function parseForESLint(text, options = {}) {
-    const words = wordsOf(options);
-    const { status, out } = run([...words, ...FIELDS, '--format', 'estree'], text);
-    const faults = status === 0 ? [] : faultsOf(words, text);
-    if (status === 2) throw refused(faults[faults.length - 1]);
-    const ast = out.includes('"bigint":') ? JSON.parse(out, withBigInts) : JSON.parse(out);
-    trim(ast);
-    return { ast, services: { faults }, visitorKeys: VISITOR_KEYS };
+// `read` answers `{ tree, faults }` of a text, with the fields that ESLint needs, or `{ refusal }`. A fault has `kind`, `message`, `start`, and
+// `loc` with lines from 1 and columns from 0.
+function parserOver(read) {
+    return function parseForESLint(text, options = {}) {
+        const { tree, faults, refusal } = read(text, askedBy(options));
+        if (refusal) throw refused(refusal);
+        trim(tree);
+        return { ast: tree, services: { faults }, visitorKeys: VISITOR_KEYS };
+    };
 }
 
-module.exports = { parseForESLint };
+module.exports = { parserOver };
