@@ -43,7 +43,7 @@ function numbersOf({ sourceType = 'program', limit = DEFAULT_LIMIT, flags = [], 
 
 /** How many bytes of answer are guessed, so that one call mostly does. */
 function guessOf(length, bits) {
-  return 4096 + length * (bits & 0xf00 ? 128 : 48);
+  return 4096 + length * (bits & 0xf00 ? 128 : 64);
 }
 
 /** A place as acorn tells it: a line from 1, a column from 0. */

@@ -5,13 +5,18 @@ const assert = require('node:assert');
 const fs = require('node:fs');
 const path = require('node:path');
 const vm = require('node:vm');
-const partsOf = require('./parts.js');
+const { partsOf, valueEnd } = require('./parts.js');
 
 const SOURCES = ['../npm/answer.js', 'parts.js', 'worker.js'];
 
+/** An answer as the parser writes it: each fault in a line. */
+function written({ tree, faults }) {
+  return `{"tree":${JSON.stringify(tree)},"faults":[${faults.map(it => `${JSON.stringify(it)}\n`).join()}]}`;
+}
+
 /** A worker whose parser answers what is given, and what it tells of that. */
 function told(status, answer) {
-  const context = vm.createContext({ self: {}, performance, given: { status, json: JSON.stringify(answer) } });
+  const context = vm.createContext({ self: {}, performance, given: { status, json: written(answer) } });
   vm.runInContext(SOURCES.map(it => fs.readFileSync(path.join(__dirname, it), 'utf8')).join('\n'), context);
   const run = code => JSON.parse(vm.runInContext(`JSON.stringify(${code})`, context) ?? 'null');
   vm.runInContext('answer = () => given', context);
@@ -24,18 +29,17 @@ const fault = at => ({ kind: `K${at}`, message: 'm', byteStart: at, byteEnd: at,
 
 test('the parts of a value are those that JSON.parse finds', () => {
   for (const value of [[], {}, [1, -2.5e9, null, true], { 'a"\\': '},]"\\', b: [[], {}, ['"']], '\u2028': { c: {} } }, [[[[]]], '', { '': 0 }]]) {
-    const text = JSON.stringify(value);
-    const { count, parts } = partsOf(`x${text}`, 1);
-    assert.strictEqual(count, Object.keys(value).length);
-    assert.deepStrictEqual(parts.map(({ name, from, end }) => [name, JSON.parse(`x${text}`.slice(from, end))]), Object.entries(value));
-    assert.deepStrictEqual(partsOf(text, 0, 1), { count, parts: partsOf(text, 0).parts.slice(0, 1) });
+    const text = `x${JSON.stringify(value)}`;
+    const found = [...partsOf(text, 1)].map(({ name, from }) => [name, JSON.parse(text.slice(from, valueEnd(text, from)))]);
+    assert.deepStrictEqual(found, Object.entries(value));
+    assert.strictEqual(valueEnd(text, 1), text.length);
   }
 });
 
 test('a tree is handed out level by level', () => {
   const found = told(1, { tree: program([node('EmptyStatement', 3, 4)]), faults: [fault(5)] });
   assert.deepStrictEqual(found.tree, { name: '', id: 0, label: 'Program', start: 0, end: 9 });
-  assert.deepStrictEqual(found.entries, [{ name: 'body', id: 1, label: '[1]' }, { name: 'sourceType', label: '"script"' }]);
+  assert.deepStrictEqual(found.entries, [{ name: 'body', id: 1, label: '[..]' }, { name: 'sourceType', label: '"script"' }]);
   assert.deepStrictEqual(found.opened(1), [{ name: '0', id: 2, label: 'EmptyStatement', start: 3, end: 4 }]);
   assert.deepStrictEqual(found.faults.map(it => [it.kind, it.loc.start, it.isRefusal]), [['K5', { line: 1, column: 5 }, undefined]]);
 });
@@ -46,10 +50,17 @@ test('a big integer is shown', () => {
   assert.deepStrictEqual(opened(2), [{ name: 'value', label: '1n' }, { name: 'raw', label: '"1n"' }, { name: 'bigint', label: '"1"' }]);
 });
 
+test('what stands behind the body of a program is shown', () => {
+  const tree = { ...program([node('ExpressionStatement', 0, 1, { expression: node('Identifier', 0, 1, { name: ',"sourceType":"' }) })]), comments: [], tokens: [{}] };
+  const found = told(0, { tree, faults: [] });
+  assert.deepStrictEqual(found.entries.map(it => [it.name, it.label]), [['body', '[..]'], ['sourceType', '"script"'], ['comments', '[]'], ['tokens', '[..]']]);
+  assert.deepStrictEqual([found.count, found.faults], [0, []]);
+});
+
 test('of many parts and faults the first are shown', () => {
   const found = told(1, { tree: program(Array.from({ length: 500 }, (_, at) => node('EmptyStatement', at, at))), faults: Array.from({ length: 500 }, (_, at) => fault(at)) });
-  assert.strictEqual(found.entries[0].label, '[500]');
-  assert.deepStrictEqual(found.opened(1).slice(-1), [{ name: '..', label: '300 more' }]);
+  assert.strictEqual(found.entries[0].label, '[..]');
+  assert.deepStrictEqual(found.opened(1).slice(-1), [{ name: '..', label: 'more' }]);
   assert.deepStrictEqual([found.count, found.faults.length], [500, 100]);
 });
 
@@ -61,5 +72,5 @@ test('why there is no tree comes last, however many faults there are', () => {
 });
 
 test('want of memory is told', () => {
-  assert.strictEqual(told(-2, null).failure, 'memory ran out');
+  assert.strictEqual(told(-2, { tree: null, faults: [] }).failure, 'memory ran out');
 });
