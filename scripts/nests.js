@@ -82,15 +82,24 @@ function greatest(nest) {
   return low;
 }
 
-const all = nests();
-if (asked('check')) {
+/** Says which nests overflow at the limit. */
+function check(all) {
   const limit = asked('addon') ? MOST : numbersOf().limit;
   const over = all.filter(nest => !fitsBoth(nest, limit));
   for (const nest of over.slice(0, 20)) console.log(`overflows at ${limit} levels: ${opened(nest, 1)}`);
   console.log(`${all.length - over.length} passed, ${over.length} failed`);
   process.exitCode = over.length > 0 ? 1 : 0;
-} else {
+}
+
+/** Says which nests fit the fewest levels. */
+function measure(all) {
   const found = all.map(nest => [greatest(nest), opened(nest, 1)]).sort((a, b) => a[0] - b[0]);
   for (const [limit, text] of found.slice(0, 10)) console.log(`${String(limit).padStart(5)} levels  ${text}`);
   console.log(`${found.length} nests; each fits ${found[0][0]} levels`);
 }
+
+/** The texts that each nest is tried with: more levels than any limit lets through, and as many as a limit lets. */
+const textsWithin = limit => nests().flatMap(nest => [opened(nest, MOST + 100), deepest(nest, limit)]);
+
+if (require.main === module) (asked('check') ? check : measure)(nests());
+module.exports = { textsWithin };

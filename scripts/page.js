@@ -3,8 +3,8 @@
 //
 // usage: node scripts/page.js [--picture FILE] [--requests FILE]
 //
-// It types, opens the tree, clicks a fault, loads the page anew, has memory run out, and measures how long texts of 100 KB take from a key to
-// their answer: less than 100 ms. With --requests it answers those in FILE (texts with the numbers of their options) as the page's worker does,
+// It types, opens the tree, clicks a fault, loads the page anew, has memory run out, tries what nests, and measures how long texts of 100 KB take
+// from a key to their answer: less than 100 ms. With --requests it answers those in FILE (texts with the numbers of their options) as the page's worker does,
 // and writes the answers to standard output.
 
 const { spawn } = require('node:child_process');
@@ -13,6 +13,7 @@ const fs = require('node:fs');
 const os = require('node:os');
 const path = require('node:path');
 const { pathToFileURL } = require('node:url');
+const { textsWithin } = require('./nests.js');
 
 const PAGE = pathToFileURL(path.join(__dirname, '../web/index.html')).href;
 const CHUNK = 200;
@@ -205,6 +206,19 @@ async function starved(page) {
   console.error('want of memory and depth: told');
 }
 
+/** What nests as deep as the page's limit lets it, and deeper: each is answered or refused by its worker, and none overflows the stack. */
+async function nested(page) {
+  const texts = textsWithin(await page.value(`Number($('limit').value)`));
+  await page.value(`$('goal').value = 'script'; 0`);
+  for (const text of texts) {
+    await page.value(`text.value = ${JSON.stringify(text)}; changed(); 0`);
+    await page.settled();
+    const state = await page.value(`$('state').textContent`);
+    assert.match(state, /^\d+ faults?, /, `${text.slice(0, 40)}: ${state}`);
+  }
+  console.error(`${texts.length} texts that nest: none overflows`);
+}
+
 /** The answers of the page's own code to requests, as examples/node/answers.js tells them. */
 async function answered(page, requests) {
   await prepared(page);
@@ -249,6 +263,7 @@ async function main() {
       fs.writeFileSync(picture, Buffer.from((await page.call('Page.captureScreenshot', { format: 'png' })).data, 'base64'));
     }
     await starved(page);
+    await nested(page);
     await measured(page);
   } finally {
     await page.close();
