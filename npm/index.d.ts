@@ -11,7 +11,7 @@ export type Flag =
 export interface Options {
   /** What the text is read as; `program`, the default, is a module where an import or an export stands in it. */
   sourceType?: 'script' | 'module' | 'program';
-  /** How many levels deep the text may nest: 300 by default, 1,000 at most. */
+  /** How many levels deep the text may nest: 300 by default, which fit Node's stack; 200 fit a worker's in a browser; 1,000 at most. */
   limit?: number;
   flags?: Flag[];
   /** Whether nodes have `loc`: lines from 1, columns from 0. */

@@ -1,11 +1,12 @@
 'use strict';
 // Drives the page in web/ in a headless Chromium, by its pipe for debugging: keys, clicks, answers, a picture.
 //
-// usage: node scripts/page.js [--picture FILE] [--requests FILE]
+// usage: node [--experimental-wasm-memory64] scripts/page.js [--picture FILE] [--most MS] [--requests FILE]
 //
 // It types, opens the tree, clicks a fault, loads the page anew, has memory run out, tries what nests, and measures how long texts of 100 KB take
-// from a key to their answer: less than 100 ms. With --requests it answers those in FILE (texts with the numbers of their options) as the page's worker does,
-// and writes the answers to standard output.
+// from a key to their answer; with --most it fails where a usual one takes longer, which says something on a quiet machine. With --picture it
+// keeps a picture of the page. With --requests it answers those in FILE (texts with the numbers of their options) as the page's worker does, and
+// writes the answers to standard output.
 
 const { spawn } = require('node:child_process');
 const assert = require('node:assert');
@@ -19,7 +20,6 @@ const PAGE = pathToFileURL(path.join(__dirname, '../web/index.html')).href;
 const CHUNK = 200;
 const ROUNDS = 21;
 const SIZE = 100_000;
-const MOST_MS = 100;
 const word = name => (process.argv.includes(name) ? process.argv[process.argv.indexOf(name) + 1] : undefined);
 
 /** Calls to Chromium over two pipes, each a line of JSON that ends with a zero byte. */
@@ -105,6 +105,16 @@ class Browser {
   }
 }
 
+const PICTURED = `const limit = 100;
+function total(items) {
+  let sum = 0;
+  for (const item of items) sum = sum + item.price;
+  if (sum > limit) continue;
+  return sum;
+}
+again: again: while (total([])) break;
+`;
+
 /** Typing, clicks, the address. */
 async function used(page) {
   assert.strictEqual(await page.value(`$('faults').childElementCount`), 1, await page.value(`$('state').textContent`));
@@ -150,8 +160,8 @@ const WATCH = `self.times = [];
   0`;
 
 /**
- * Types into the middle of a text, prints how long it takes until that is answered and until it is seen, in the middle of some keys, and answers
- * the least that an answer took.
+ * Types into the middle of a text, and prints how long it takes until that is answered and until it is seen: the middle of some keys, which is what
+ * it answers, and the least.
  */
 async function measuredIn(page, name, source) {
   const middle = source.length >> 1;
@@ -169,15 +179,15 @@ async function measuredIn(page, name, source) {
   const [answered, seen] = [0, 1].map(part => times.map(it => Math.round(it[part])).sort((a, b) => a - b));
   const middleOf = sorted => sorted[ROUNDS >> 1];
   console.error(`${name}, ${source.length} bytes: answered after ${middleOf(answered)} ms (${answered[0]} at least), seen after ${middleOf(seen)} ms; ${Math.round(each)} ms of processors`);
-  return answered[0];
+  return middleOf(answered);
 }
 
-/** From a key to its answer in texts of 100 KB. What else runs on the machine makes it longer, so the least is asked for, of a usual text. */
+/** From a key to its answer in texts of 100 KB. */
 async function measured(page) {
   await page.value(WATCH);
-  const least = [];
-  for (const [name, source] of Object.entries(measuredTexts())) least.push(await measuredIn(page, name, source));
-  assert.ok(least[0] <= MOST_MS, `${least[0]} ms from a key to its answer`);
+  const took = [];
+  for (const [name, source] of Object.entries(measuredTexts())) took.push(await measuredIn(page, name, source));
+  assert.ok(took[0] <= Number(word('--most') ?? Infinity), `${took[0]} ms from a key to its answer`);
 }
 
 /** Makes the page's own host and module known to what is evaluated in the page. */
@@ -241,6 +251,19 @@ async function answered(page, requests) {
   return answers;
 }
 
+/** Keeps a picture of the page, with a part of the tree opened and a fault clicked. */
+async function pictured(page, file) {
+  await page.value(`text.value = ${JSON.stringify(PICTURED)}; changed()`);
+  await page.settled();
+  const body = '#tree > details > details:nth-of-type(1)', second = `${body} > details:nth-of-type(2)`;
+  for (const opened of [body, second, `${second} > details:nth-last-of-type(1)`]) {
+    await page.click(`${opened} > summary`);
+    await page.until(`document.querySelector('${opened}').childElementCount > 1`);
+  }
+  await page.click('#faults li');
+  fs.writeFileSync(file, Buffer.from((await page.call('Page.captureScreenshot', { format: 'png' })).data, 'base64'));
+}
+
 async function main() {
   const page = new Browser(process.env.CHROMIUM ?? 'chromium');
   try {
@@ -252,16 +275,7 @@ async function main() {
     }
     await used(page);
     const picture = word('--picture');
-    if (picture) {
-      await page.value(`text.value = "'use strict';\\nfunction add(a, b) {\\n  with (a) return b;\\n}\\nwhile (add(1, 2)) {\\n  let x = x + 1;\\n}\\nbreak;\\n"; changed()`);
-      await page.settled();
-      for (const at of ['', ' > details:nth-of-type(2)', ' > details:nth-of-type(2) > details:nth-last-of-type(1)']) {
-        await page.click(`#tree > details > details:nth-of-type(1)${at} > summary`);
-        await page.until(`document.querySelector('#tree > details > details:nth-of-type(1)${at}').childElementCount > 1`);
-      }
-      await page.click('#faults li');
-      fs.writeFileSync(picture, Buffer.from((await page.call('Page.captureScreenshot', { format: 'png' })).data, 'base64'));
-    }
+    if (picture) await pictured(page, picture);
     await starved(page);
     await nested(page);
     await measured(page);
