@@ -8,12 +8,11 @@
 // keeps a picture of the page. With --requests it answers those in FILE (texts with the numbers of their options) as the page's worker does, and
 // writes the answers to standard output.
 
-const { spawn } = require('node:child_process');
 const assert = require('node:assert');
 const fs = require('node:fs');
-const os = require('node:os');
 const path = require('node:path');
 const { pathToFileURL } = require('node:url');
+const { Browser, Tab } = require('./browser.js');
 const { textsWithin } = require('./nests.js');
 
 const PAGE = pathToFileURL(path.join(__dirname, '../web/index.html')).href;
@@ -22,58 +21,12 @@ const ROUNDS = 21;
 const SIZE = 100_000;
 const word = name => (process.argv.includes(name) ? process.argv[process.argv.indexOf(name) + 1] : undefined);
 
-/** Calls to Chromium over two pipes, each a line of JSON that ends with a zero byte. */
-class Browser {
-  constructor(program) {
-    this.folder = fs.mkdtempSync(path.join(os.tmpdir(), 'ecma-page-'));
-    const words = ['--headless=new', '--no-sandbox', '--disable-gpu', '--remote-debugging-pipe', `--user-data-dir=${this.folder}`, '--window-size=1200,800'];
-    this.child = spawn(program, words, { stdio: ['ignore', 'ignore', 'ignore', 'pipe', 'pipe'] });
-    this.waiting = new Map();
-    this.count = 0;
-    let rest = '';
-    this.child.stdio[4].setEncoding('utf8').on('data', data => {
-      const lines = (rest + data).split('\0');
-      rest = lines.pop();
-      for (const line of lines) this.take(JSON.parse(line));
-    });
-  }
-
-  take({ id, result, error }) {
-    const it = this.waiting.get(id);
-    this.waiting.delete(id);
-    if (error) it?.reject(new Error(error.message));
-    else it?.resolve(result);
-  }
-
-  call(method, params = {}, sessionId = this.session) {
-    const id = ++this.count;
-    this.child.stdio[3].write(`${JSON.stringify({ id, method, params, sessionId: sessionId ?? undefined })}\0`);
-    return new Promise((resolve, reject) => this.waiting.set(id, { resolve, reject }));
-  }
-
-  async open(url) {
-    const { targetId } = await this.call('Target.createTarget', { url: 'about:blank' });
-    ({ sessionId: this.session } = await this.call('Target.attachToTarget', { targetId, flatten: true }));
-    await this.go(url);
-  }
-
-  async go(url) {
-    await this.call('Page.navigate', { url });
-    await this.until(`document.documentElement?.dataset.shown !== undefined`);
-  }
-
-  async value(expression) {
-    const { result, exceptionDetails } = await this.call('Runtime.evaluate', { expression, awaitPromise: true, returnByValue: true });
-    if (exceptionDetails) throw new Error(exceptionDetails.exception?.description ?? exceptionDetails.text);
-    return result.value;
-  }
-
-  async until(expression) {
-    for (let times = 0; times < 1000; times++) {
-      if (await this.value(expression)) return;
-      await new Promise(done => setTimeout(done, 10));
-    }
-    throw new Error(`it does not come to: ${expression}`);
+class Playground extends Tab {
+  static async open(browser) {
+    const page = await browser.open(Playground);
+    await page.send('Page.navigate', { url: PAGE });
+    await page.until('document.documentElement?.dataset.shown !== undefined');
+    return page;
   }
 
   /** Waits until what was asked last is shown. */
@@ -81,27 +34,20 @@ class Browser {
     return this.until('document.documentElement?.dataset.shown === document.documentElement?.dataset.asked');
   }
 
-  async click(selector) {
+  /** Puts a text into the page, and waits until it is answered. */
+  async given(source) {
+    await this.value(`text.value = ${JSON.stringify(source)}; changed(); 0`);
+    await this.settled();
+  }
+
+  async clickOn(selector) {
     const { x, y } = await this.value(`(() => { const it = document.querySelector(${JSON.stringify(selector)}); it.scrollIntoView();
       const { x, y, height } = it.getBoundingClientRect(); return { x: x + 5, y: y + height / 2 }; })()`);
-    for (const type of ['mousePressed', 'mouseReleased']) await this.call('Input.dispatchMouseEvent', { type, x, y, button: 'left', clickCount: 1 });
+    await this.click(x, y);
   }
 
   async type(text) {
-    for (const key of text) await this.call('Input.dispatchKeyEvent', { type: 'char', text: key });
-  }
-
-  /** The processor time of all its processes, in milliseconds. */
-  async spent() {
-    const { processInfo } = await this.call('SystemInfo.getProcessInfo', {}, null);
-    return 1000 * processInfo.reduce((sum, { cpuTime }) => sum + cpuTime, 0);
-  }
-
-  async close() {
-    const ended = new Promise(done => this.child.once('exit', done));
-    this.call('Browser.close').catch(() => {});
-    await ended;
-    fs.rmSync(this.folder, { recursive: true, force: true, maxRetries: 10 });
+    for (const key of text) await this.send('Input.dispatchKeyEvent', { type: 'char', text: key });
   }
 }
 
@@ -118,17 +64,16 @@ again: again: while (total([])) break;
 /** Typing, clicks, the address. */
 async function used(page) {
   assert.strictEqual(await page.value(`$('faults').childElementCount`), 1, await page.value(`$('state').textContent`));
-  await page.click('#text');
-  await page.value(`text.value = ''; changed()`);
+  await page.clickOn('#text');
+  await page.given('');
   await page.type('a;\r b c');
   await page.settled();
   assert.ok((await page.value(`$('faults').textContent`)).startsWith('2:4 refused'));
-  await page.click('#faults li');
+  await page.clickOn('#faults li');
   assert.deepStrictEqual(await page.value('[text.selectionStart, text.selectionEnd]'), [6, 7]);
-  await page.value(`text.value = 'f(\u00e9, 1n)'; changed()`);
-  await page.settled();
+  await page.given('f(\u00e9, 1n)');
   assert.strictEqual(await page.value(`$('faults').childElementCount`), 0);
-  await page.click('#tree > details > details:nth-of-type(1) > summary');
+  await page.clickOn('#tree > details > details:nth-of-type(1) > summary');
   await page.until(`$('tree').textContent.includes('ExpressionStatement')`);
   await page.until(`unpacked(location.hash.slice(1)).then(it => it === text.value, () => false)`);
   await page.value('self.isOld = true; location.reload()');
@@ -169,12 +114,12 @@ async function measuredIn(page, name, source) {
   await page.value(`text.value = ${JSON.stringify(source)}; text.focus(); text.setSelectionRange(${at}, ${at}); changed(); 0`);
   await page.settled();
   await page.value('new Promise(done => setTimeout(done, 500)).then(() => { times.length = 0; })');
-  const spent = await page.spent();
+  const spent = await page.browser.spent();
   for (let round = 0; round < ROUNDS; round++) {
     await page.type(' ');
     await page.until(`times.length > ${round}`);
   }
-  const each = (await page.spent() - spent) / ROUNDS;
+  const each = (await page.browser.spent() - spent) / ROUNDS;
   const times = await page.value('times');
   const [answered, seen] = [0, 1].map(part => times.map(it => Math.round(it[part])).sort((a, b) => a - b));
   const middleOf = sorted => sorted[ROUNDS >> 1];
@@ -210,8 +155,7 @@ async function starved(page) {
     for (let more = 0; found.at(-1) !== 0; more += 65536) found.push(host(module, answers.guessOf, least + more)('f(a, b);\\n'.repeat(100), answers.numbersOf({ tokens: true })).status);
     return found; })()`);
   assert.ok(found.length > 10 && found.slice(0, -1).every(it => it === -2), JSON.stringify(found));
-  await page.value(`text.value = '{'.repeat(100000); changed()`);
-  await page.settled();
+  await page.given('{'.repeat(100000));
   assert.ok((await page.value(`$('faults').textContent`)).includes('[TooDeep]'));
   console.error('want of memory and depth: told');
 }
@@ -221,8 +165,7 @@ async function nested(page) {
   const texts = textsWithin(await page.value(`Number($('limit').value)`));
   await page.value(`$('goal').value = 'script'; 0`);
   for (const text of texts) {
-    await page.value(`text.value = ${JSON.stringify(text)}; changed(); 0`);
-    await page.settled();
+    await page.given(text);
     const state = await page.value(`$('state').textContent`);
     assert.match(state, /^\d+ faults?, /, `${text.slice(0, 40)}: ${state}`);
   }
@@ -253,21 +196,20 @@ async function answered(page, requests) {
 
 /** Keeps a picture of the page, with a part of the tree opened and a fault clicked. */
 async function pictured(page, file) {
-  await page.value(`text.value = ${JSON.stringify(PICTURED)}; changed()`);
-  await page.settled();
+  await page.given(PICTURED);
   const body = '#tree > details > details:nth-of-type(1)', second = `${body} > details:nth-of-type(2)`;
   for (const opened of [body, second, `${second} > details:nth-last-of-type(1)`]) {
-    await page.click(`${opened} > summary`);
+    await page.clickOn(`${opened} > summary`);
     await page.until(`document.querySelector('${opened}').childElementCount > 1`);
   }
-  await page.click('#faults li');
-  fs.writeFileSync(file, Buffer.from((await page.call('Page.captureScreenshot', { format: 'png' })).data, 'base64'));
+  await page.clickOn('#faults li');
+  await page.picture(file);
 }
 
 async function main() {
-  const page = new Browser(process.env.CHROMIUM ?? 'chromium');
+  const browser = new Browser();
   try {
-    await page.open(PAGE);
+    const page = await Playground.open(browser);
     const requests = word('--requests');
     if (requests) {
       console.log(JSON.stringify(await answered(page, JSON.parse(fs.readFileSync(requests, 'utf8')))));
@@ -280,7 +222,7 @@ async function main() {
     await nested(page);
     await measured(page);
   } finally {
-    await page.close();
+    await browser.close();
   }
 }
 
