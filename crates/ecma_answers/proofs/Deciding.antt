@@ -1,0 +1,28 @@
+-- What was read, from what the parser decides.
+use Rattle.std.proofs.Common.{◌≡◌, ◌≢◌, ◌∙◌, ℕ, List, Result, ap, false, refl, sym, true≢false}
+use Rattle.std.specs.Prelude.{◌↔◌}
+use Rattle.std.specs.Str.{chars}
+use Rattle.swc_ecma_parser_error.specs.declared.error.Error.{Error}
+use Rattle.swc_ecma_parser_error.specs.Kind.{Fault, Kind, OutOfMemory}
+use Rattle.swc_ecma_parser_exactness.specs.Decides.{Lasts}
+use Rattle.swc_ecma_parser_grammar.specs.language.Programs.{Entry}
+use Rattle.swc_ecma_parser_model.specs.Tree as model
+use Rattle.swc_ecma_parser.specs.Headline.{Headline, IsClean, IsNew}
+use Rattle.ecma_answers.specs.declared.options.Options.{Options}
+use Rattle.ecma_answers.specs.declared.parsing.Reading.{Reading}
+use Rattle.ecma_answers.specs.Outcomes.{is_out_of_memory}
+use Rattle.ecma_answers.specs.Spelled.{Decides, IsRead, entry_of, source_of}
+
+pub other_kind : (k : Kind) → is_out_of_memory k ≡ false → k ≢ OutOfMemory
+other_kind k h e = true≢false (sym (ap is_out_of_memory e) ∙ h)
+
+is_new : (o : Options) (text : List ℕ) → IsNew (source_of o.syntax text)
+is_new o text = record { recorded = refl; held_back = refl }
+
+pub decided : {X : Type 0} (view : X → model.Tree) (o : Options) (text : List ℕ) (r : Reading) (answer : Result X Error) (fs : List Fault)
+    → Headline view (entry_of o.goal) o.limit (source_of o.syntax text) answer fs
+    → ((x : model.Tree) → IsRead r x ↔ IsClean view answer fs x) → (Lasts r.tree → Lasts answer) → Lasts r.tree → Decides o text r
+decided view o text r answer fs h same lasts l = λ x.
+    let read = same x in
+    let spelled = h (is_new o text) (lasts l) x in
+    (λ is_read. spelled.0 (read.0 is_read), λ spells. read.1 (spelled.1 spells))

@@ -1,0 +1,13 @@
+-- Faults, one at a time.
+use Rattle.std.proofs.Common.{◌≡◌, ℕ, List, [], ◌∷◌, ◌++◌, ◌+◌, ◌<◌, false, get_or, length, subst, sym, take}
+use Rattle.std.specs.List.{AllZip}
+use Rattle.std.proofs.lemmas.List.{take_more}
+use Rattle.std.proofs.lemmas.Slice.Zip.{all_zipped_more}
+use Rattle.swc_ecma_parser_error.specs.declared.error.Error.{Error}
+use Rattle.ecma_answers.specs.declared.told.Told.{Told}
+use Rattle.ecma_answers.specs.Told.{AreTold, IsTold}
+
+pub told_more : (text : List ℕ) (es : List Error) (ts : List Told) (i : ℕ) (d : Error) (t : Told) → i < length es
+    → AreTold text (take i es) ts → IsTold text false (get_or es i d) t → AreTold text (take (i + 1) es) (ts ++ (t ∷ []))
+told_more text es ts i d t b told one =
+    subst (λ it. AreTold text it (ts ++ (t ∷ []))) (sym (take_more es i d b)) (all_zipped_more (IsTold text false) (take i es) ts (get_or es i d) t told one)

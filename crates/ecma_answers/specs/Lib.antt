@@ -1,0 +1,5 @@
+pub mod Spelled
+pub mod Outcomes
+pub mod Written
+pub mod Listed
+pub mod Told

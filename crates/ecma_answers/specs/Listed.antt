@@ -1,0 +1,50 @@
+-- The faults of a text as a list of JSON, and a tree and faults as one object.
+use Rattle.std.specs.Prelude.{◌≡◌, ℕ, true, false, List, [], ◌∷◌, ◌++◌, codes, Result, Ok, Err}
+use Rattle.std.specs.List.{flat_map}
+use Rattle.swc_ecma_parser_error.specs.declared.error.Error.{Error}
+use Rattle.ecma_estree_text.specs.Places.{Placed}
+use Rattle.ecma_faults.specs.Json.{fault_json}
+use Rattle.ecma_faults.specs.Note.{note_of}
+use Rattle.ecma_answers.specs.declared.options.Options.{Options}
+use Rattle.ecma_answers.specs.declared.parsing.Reading.{Reading}
+use Rattle.ecma_answers.specs.declared.parsing.Tree.{Tree}
+use Rattle.ecma_answers.specs.Spelled.{view_tree}
+use Rattle.ecma_answers.specs.Written.{IsEstree}
+
+-- a fault with the word of its severity
+abbrev pub fault_text : Placed → (word : List ℕ) → Error → List ℕ
+fault_text p word e = fault_json p [] word e (note_of e.kind)
+
+-- one that stands behind another
+abbrev pub next_text : Placed → (word : List ℕ) → Error → List ℕ
+next_text p word e = codes "," ++ fault_text p word e
+
+-- the faults that were recorded, with commas between them
+abbrev pub recorded_text : Placed → List Error → List ℕ
+recorded_text p [] = []
+recorded_text p (e ∷ es) = fault_text p (codes "fault") e ++ flat_map (next_text p (codes "fault")) es
+
+-- why there is no tree, behind the faults that were recorded
+abbrev pub refusal_text : {X : Type 0} → Placed → Result X Error → List Error → List ℕ
+refusal_text p (Ok x) es = []
+refusal_text p (Err e) [] = fault_text p (codes "refused") e
+refusal_text p (Err e) (f ∷ fs) = next_text p (codes "refused") e
+
+-- a text, with its lines
+abbrev pub lined : List ℕ → Placed
+lined text = record { text = text; has_locations = true; has_ranges = false }
+
+-- the faults that were recorded, and why there is no tree
+unfoldable pub told_text : {X : Type 0} → List ℕ → Result X Error → List Error → List ℕ
+told_text text tree es = codes "[" ++ (recorded_text (lined text) es ++ (refusal_text (lined text) tree es ++ codes "]"))
+
+-- the tree, or null where there is none
+abbrev pub IsTree : Options → List ℕ → Result Tree Error → List ℕ → Type 0
+IsTree o text (Ok x) out = IsEstree o text (view_tree x) out
+IsTree o text (Err e) out = out ≡ codes "null"
+
+-- the tree and the faults as one object
+abbrev pub IsAnswer : Options → List ℕ → Reading → List ℕ → Type 0
+IsAnswer o text r out =
+    (tree : List ℕ) × IsTree o text r.tree tree
+    × (out ≡ codes "{\"tree\":" ++ (tree ++ (codes ",\"faults\":" ++ (told_text text r.tree r.faults.items ++ codes "}"))))

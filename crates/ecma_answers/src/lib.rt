@@ -1,0 +1,15 @@
+//! What a text is answered with: a tree, faults, or both as JSON.
+#![tactic(auto)]
+
+mod faults;
+mod object;
+mod options;
+mod parsing;
+mod told;
+mod tree;
+
+pub use object::answer;
+pub use options::{Goal, MAX_LIMIT, Options};
+pub use parsing::{Outcome, Reading, Tree, read};
+pub use told::{Point, Told, told_faults};
+pub use tree::write;

@@ -1,0 +1,49 @@
+//! A tree and faults as one text.
+
+ghost use Rattle.std.specs.Prelude.{◌≡◌, ◌++◌, ◌<◌, ◌^◌, ℕ, List, IfOk, OnOk, length};
+ghost use Rattle.ecma_answers.specs.Listed.{IsAnswer, IsTree};
+
+use crate::faults::push_faults;
+use crate::options::Options;
+use crate::parsing::Reading;
+use crate::tree::write;
+use std::alloc::{AllocError, Global};
+
+/// Writes the tree, or `null` where there is none.
+fn push_tree(
+    alloc: Global,
+    out: &mut Vec<u8>,
+    options: Options,
+    text: &str,
+    reading: &Reading,
+) -> Result<(), AllocError>
+    requires { length text.now < 2 ^ 32 }
+    ensures { OnOk result ((told : List ℕ) × IsTree options text.now reading.now.tree told × (out.new.items ≡ out.old.items ++ told)) }
+{
+    match &reading.tree {
+        Ok(tree) => {
+            let written = write(alloc, options, text, tree)?;
+            out.extend_from_slice(written.as_slice())
+        }
+        Err(_) => out.extend_from_slice(b"null"),
+    }
+}
+
+/// The tree and the faults of a text as one object of JSON: `{"tree":..,"faults":[..]}`. It fails only where memory runs out.
+pub fn answer(
+    alloc: Global,
+    options: Options,
+    text: &str,
+    reading: &Reading,
+) -> Result<Vec<u8>, AllocError>
+    requires { length text.now < 2 ^ 32 }
+    ensures { IfOk result (λ out. IsAnswer options text.now reading.now out.items) }
+{
+    let mut out = Vec::new(alloc);
+    out.extend_from_slice(b"{\"tree\":")?;
+    push_tree(alloc, &mut out, options, text, reading)?;
+    out.extend_from_slice(b",\"faults\":")?;
+    push_faults(alloc, &mut out, text, reading)?;
+    out.extend_from_slice(b"}")?;
+    Ok(out)
+}

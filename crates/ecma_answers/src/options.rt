@@ -1,0 +1,30 @@
+//! What is asked for.
+
+use ecma_estree_text::Extras;
+use swc_ecma_parser::input::Syntax;
+
+/// The most levels that a text may nest.
+pub const MAX_LIMIT: u32 = 1000;
+
+/// What a text is read as: a goal symbol of ECMA-262, section 5.1.4, or whichever of the two it turns out to be.
+#[derive(Clone, Copy)]
+pub enum Goal {
+    Script,
+    Module,
+    Program,
+}
+
+/// What is asked for.
+#[derive(Clone, Copy)]
+pub struct Options {
+    pub goal: Goal,
+    /// How many levels deep the text may nest.
+    pub limit: u32,
+    pub syntax: Syntax,
+    /// What of places is written into a tree.
+    pub extras: Extras,
+    /// Whether a tree has its comments.
+    pub comments: bool,
+    /// Whether a tree has its tokens.
+    pub tokens: bool,
+}

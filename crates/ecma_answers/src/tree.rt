@@ -1,0 +1,98 @@
+//! A tree as ESTree.
+
+ghost use Rattle.std.specs.Prelude.{◌<◌, ◌^◌, ◌≡◌, IfOk, length};
+ghost use Rattle.ecma_answers.specs.Spelled.{view_tree};
+ghost use Rattle.ecma_answers.specs.Written.{AreFields, IsEstree, fields, placed};
+
+use crate::options::Options;
+use crate::parsing::Tree;
+use ecma_estree::{write_module, write_program, write_script};
+use ecma_estree_lists::{push_comments, push_tokens};
+use ecma_estree_text::Places;
+use std::alloc::{AllocError, Global};
+use swc_ecma_parser::common::{BytePos, Comment};
+use swc_ecma_parser::input::Tokens;
+use swc_ecma_parser::lexer::{Lexer, StringInput};
+use swc_ecma_parser::token::TokenAndSpan;
+
+/// The tokens of a text.
+fn tokens_of(alloc: Global, lexer: &mut Lexer<'_>) -> Result<Vec<TokenAndSpan>, AllocError> {
+    let mut tokens = Vec::new(alloc);
+    for _ in 0..u64::MAX {
+        let Some(token) = lexer.next() else {
+            break;
+        };
+        tokens.push(token)?;
+    }
+    Ok(tokens)
+}
+
+/// The comments that were read.
+fn comments_of(lexer: &mut Lexer<'_>) -> Result<Vec<Comment>, AllocError> {
+    match lexer.take_comments() {
+        Ok(comments) => Ok(comments),
+        Err(_) => Err(AllocError),
+    }
+}
+
+/// Comments and tokens as the fields that are asked for.
+fn written_fields(
+    alloc: Global,
+    options: Options,
+    places: &Places<'_>,
+    comments: &[Comment],
+    tokens: &[TokenAndSpan],
+) -> Result<Vec<u8>, AllocError>
+    ensures { IfOk result (λ out. out.items ≡ fields options places.now comments.now tokens.now) }
+{
+    let mut out = Vec::new(alloc);
+    if options.comments {
+        push_comments(&mut out, places, comments)?;
+    }
+    if options.tokens {
+        push_tokens(&mut out, places, tokens)?;
+    }
+    Ok(out)
+}
+
+/// The comments and tokens of a text, as fields that are asked for.
+fn fields_of(alloc: Global, options: Options, places: &Places<'_>) -> Result<Vec<u8>, AllocError>
+    requires bound { length places.now.text < 2 ^ 32 }
+    requires places { places.now ≡ placed options places.now.text }
+    ensures { IfOk result (λ fields. AreFields options places.now.text fields.items) }
+{
+    if !options.comments && !options.tokens {
+        return Ok(Vec::new(alloc));
+    }
+    let text = places.text();
+    let input = StringInput::new(text, BytePos(0), BytePos(text.len() as u32));
+    let mut lexer = Lexer::new(alloc, options.syntax, input, options.comments);
+    let tokens = tokens_of(alloc, &mut lexer)?;
+    let comments = comments_of(&mut lexer)?;
+    written_fields(
+        alloc,
+        options,
+        places,
+        comments.as_slice(),
+        tokens.as_slice(),
+    )
+}
+
+/// A tree as ESTree, with the places of the text that it was read from. It fails only where memory runs out.
+pub fn write(
+    alloc: Global,
+    options: Options,
+    text: &str,
+    tree: &Tree,
+) -> Result<Vec<u8>, AllocError>
+    requires { length text.now < 2 ^ 32 }
+    ensures { IfOk result (λ out. IsEstree options text.now (view_tree tree.now) out.items) }
+{
+    let places = Places::new(alloc, text, options.extras)?;
+    let fields = fields_of(alloc, options, &places)?;
+    match tree {
+        Tree::Script(tree) => write_script(alloc, &places, fields.as_slice(), tree),
+        Tree::Module(tree) => write_module(alloc, &places, fields.as_slice(), tree),
+        Tree::Program(tree) => write_program(alloc, &places, fields.as_slice(), tree),
+    }
+}

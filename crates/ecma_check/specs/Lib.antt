@@ -1,0 +1,5 @@
+pub mod Command
+pub mod Told
+pub mod Printed
+pub mod Sum
+pub mod Answered

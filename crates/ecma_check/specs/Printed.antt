@@ -1,0 +1,63 @@
+-- What is printed of a text, and what the text comes to.
+use Rattle.std.specs.Prelude.{◌≡◌, ℕ, ◌+◌, false, List, [], ◌++◌, codes, length, Result, Ok, Err}
+use Rattle.swc_ecma_parser_error.specs.declared.error.Error.{Error}
+use Rattle.ecma_estree_text.specs.Quoted.{quoted}
+use Rattle.ecma_page.specs.Page.{page_text}
+use Rattle.ecma_page.specs.declared.frame.Frame.{Frame}
+use Rattle.ecma_page.specs.declared.page.Page.{Page}
+use Rattle.ecma_answers.specs.declared.options.Options.{Options}
+use Rattle.ecma_answers.specs.declared.parsing.Reading.{Reading}
+use Rattle.ecma_answers.specs.declared.parsing.Tree.{Tree}
+use Rattle.ecma_answers.specs.Outcomes.{outcome_of}
+use Rattle.ecma_answers.specs.Spelled.{Decides, view_tree}
+use Rattle.ecma_answers.specs.Written.{IsEstree}
+use Rattle.ecma_check.specs.declared.check.Checked.{Checked}
+use Rattle.ecma_check.specs.declared.command.Format.{Format}
+use Rattle.ecma_check.specs.declared.command.Format.TheVariants as format
+use Rattle.ecma_check.specs.declared.command.Settings.{Settings}
+use Rattle.ecma_check.specs.Told.{lined, told_in}
+
+-- the tree in a line; nothing, where there is none
+abbrev pub IsTreeLine : Options → (text : List ℕ) → Result Tree Error → List ℕ → Type 0
+IsTreeLine o text (Ok x) out = (told : List ℕ) × IsEstree o text (view_tree x) told × (out ≡ told ++ codes "\n")
+IsTreeLine o text (Err e) out = out ≡ []
+
+-- a tree in a page has its offsets alone
+abbrev pub without_extras : Options → Options
+without_extras o = record o { extras = record { locations = false; ranges = false }; comments = false; tokens = false }
+
+-- the tree in a page; null, where there is none
+abbrev pub IsTreeData : Options → (text : List ℕ) → Result Tree Error → List ℕ → Type 0
+IsTreeData o text (Ok x) out = IsEstree (without_extras o) text (view_tree x) out
+IsTreeData o text (Err e) out = out ≡ codes "null"
+
+-- a page of a text, with what is told of its faults
+pub record IsPage (frame : Frame) (o : Options) (file text : List ℕ) (tree : Result Tree Error) (told out : List ℕ) : Type 0 where
+  pub page : Page
+  pub name : page.name.now ≡ quoted file
+  pub source : page.source.now ≡ quoted text
+  pub tree_data : IsTreeData o text tree page.tree.now
+  pub faults : page.faults.now ≡ told
+  pub bytes : out ≡ page_text frame page
+
+-- what is printed of a text that was read, on standard output and on standard error
+abbrev pub IsPrinted : Format → Options → Frame → (file text : List ℕ) → Result Tree Error → List Error → (out notes : List ℕ) → Type 0
+IsPrinted format.Text o frame file text x es out notes = (out ≡ told_in format.Text (lined text) file x es) × (notes ≡ [])
+IsPrinted format.Json o frame file text x es out notes = (out ≡ told_in format.Json (lined text) file x es) × (notes ≡ [])
+IsPrinted format.Estree o frame file text x es out notes = IsTreeLine o text x out × (notes ≡ told_in format.Estree (lined text) file x es)
+IsPrinted format.Html o frame file text x es out notes = IsPage frame o file text x (told_in format.Html (lined text) file x es) out × (notes ≡ [])
+
+-- how many faults are told
+abbrev pub fault_count : {X : Type 0} → Result X Error → List Error → ℕ
+fault_count (Ok x) es = length es
+fault_count (Err e) es = length es + 1
+
+-- what a text comes to that was read, and what is printed of it
+pub record IsCheckedReading (s : Settings) (frame : Frame) (file text : List ℕ) (r : Reading) (it : Checked) : Type 0 where
+  pub outcome : it.outcome ≡ outcome_of r.tree r.faults.items
+  pub faults : it.faults ≡ fault_count r.tree r.faults.items
+  pub printed : IsPrinted s.format s.options frame file text r.tree r.faults.items it.printed.out.items it.printed.notes.items
+
+-- the same of a text: a tree was read without a fault exactly where the text spells it
+abbrev pub IsChecked : Settings → Frame → (file text : List ℕ) → Checked → Type 0
+IsChecked s frame file text it = (r : Reading) × Decides s.options text r × IsCheckedReading s frame file text r it

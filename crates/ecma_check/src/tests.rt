@@ -1,0 +1,288 @@
+//! Runs over readers and writers in memory.
+
+use crate::run::run;
+use std::io::{Read, Write};
+use std::test::Fail;
+use std::{io, str};
+
+/// Gives its bytes two at a time, and then fails if it is broken.
+#[derive(Drop)]
+struct Source<'a> {
+    left: &'a [u8],
+    is_broken: bool,
+}
+
+impl Read for Source<'_> {
+    fn read(&mut self, buf: &mut [u8]) -> io::Result<usize> {
+        if self.left.is_empty() && self.is_broken {
+            return Err(io::Error::from(io::ErrorKind::BrokenPipe));
+        }
+        let most = buf.len().min(2);
+        self.left.read(&mut buf[..most])
+    }
+}
+
+/// Takes so many bytes, and then fails.
+#[derive(Drop)]
+struct Target {
+    taken: Vec<u8>,
+    room: usize,
+}
+
+impl Write for Target {
+    fn write(&mut self, buf: &[u8]) -> io::Result<usize> {
+        let count = buf.len().min(self.room).min(3);
+        if count == 0 {
+            return Err(io::Error::from(io::ErrorKind::BrokenPipe));
+        }
+        self.room -= count;
+        self.taken.extend_from_slice(&buf[..count])?;
+        Ok(count)
+    }
+
+    fn flush(&mut self) -> io::Result<()> {
+        Ok(())
+    }
+}
+
+/// What a run over standard input prints, on both outputs, and its status.
+fn printed(
+    rt: &HostRuntime,
+    given: &[&str],
+    input: &[u8],
+    is_broken: bool,
+    room: usize,
+) -> Result<String, Fail> {
+    let alloc = rt.alloc();
+    let mut words = Vec::new(alloc);
+    words.push(String::from_str(alloc, "ecma-check")?)?;
+    for word in given {
+        words.push(String::from_str(alloc, word)?)?;
+    }
+    let mut input = Source {
+        left: input,
+        is_broken,
+    };
+    let mut output = Target {
+        taken: Vec::new(alloc),
+        room,
+    };
+    let mut errors = Vec::new(alloc);
+    let words = Ok(words);
+    let status = run(rt, &words, &mut input, &mut output, &mut errors);
+    let output = str::from_utf8(output.taken.as_slice())?;
+    let errors = str::from_utf8(errors.as_slice())?;
+    Ok(format!(in alloc; "{output}|{errors}|{status}")?)
+}
+
+#[test]
+fn faults_as_text(rt: HostRuntime) -> Result<(), Fail> {
+    let rows = [
+        ("a", "files: 1, faults: 0, refused: 0, unread: 0\n||0"),
+        (
+            "\tbreak;",
+            "-:1:2: fault [TS1105]: `break` stands outside of loops and of `switch`; move it into one, or name a label around it (ECMA-262, 14.9.1)\n\tbreak;\n\t^^^^^^\nfiles: 1, faults: 1, refused: 0, unread: 0\n||1",
+        ),
+        (
+            "a\r\n'\u{1d4b3}\u{4e00}'; throw\n;/*\u{7}*/",
+            "-:3:1: refused [LineBreakInThrow]: the line ends behind `throw`; write what is thrown on the same line (ECMA-262, 14.14)\n;/*\u{fffd}*/\n^\nfiles: 1, faults: 1, refused: 1, unread: 0\n||2",
+        ),
+    ];
+    for (text, wanted) in rows {
+        let found = printed(&rt, &["--script"], text.as_bytes(), false, 1000)?;
+        assert_eq!(rt; found.as_str(), wanted, "{text:?}");
+    }
+    Ok(())
+}
+
+#[test]
+fn an_earlier_place(rt: HostRuntime) -> Result<(), Fail> {
+    let found = printed(&rt, &[], b"\ta b", false, 1000)?;
+    assert_eq!(rt;
+        found.as_str(),
+        "-:1:4: refused [ExpectedSemiForExprStmt]: the statement before this has not ended; write a `;` or a line break between them (ECMA-262, 12.10)\n\ta b\n\t  ^\n-:1:2: note: the expression stands here\n\ta b\n\t^\nfiles: 1, faults: 1, refused: 1, unread: 0\n||2"
+    );
+    Ok(())
+}
+
+#[test]
+fn faults_as_json(rt: HostRuntime) -> Result<(), Fail> {
+    let found = printed(
+        &rt,
+        &["--format", "json", "-"],
+        "'\u{1d4b3}'; return".as_bytes(),
+        false,
+        1000,
+    )?;
+    assert_eq!(rt;
+        found.as_str(),
+        "{\"file\":\"-\",\"severity\":\"fault\",\"kind\":\"ReturnNotAllowed\",\"message\":\"`return` stands outside of functions; move it into the body of one (ECMA-262, 14.10)\",\"byteStart\":8,\"byteEnd\":14,\"start\":6,\"end\":12,\"line\":1,\"column\":7,\"endLine\":1,\"endColumn\":13}\n||1"
+    );
+    Ok(())
+}
+
+#[test]
+fn a_tree_with_all_its_extras(rt: HostRuntime) -> Result<(), Fail> {
+    let found = printed(
+        &rt,
+        &["--format", "estree", "--ranges", "--comments", "--tokens"],
+        b"a//",
+        false,
+        1000,
+    )?;
+    assert_eq!(rt;
+        found.as_str(),
+        "{\"type\":\"Program\",\"start\":0,\"end\":3,\"range\":[0,3],\"body\":[{\"type\":\"ExpressionStatement\",\"start\":0,\"end\":1,\"range\":[0,1],\"expression\":{\"type\":\"Identifier\",\"start\":0,\"end\":1,\"range\":[0,1],\"name\":\"a\"}}],\"sourceType\":\"script\",\"comments\":[{\"type\":\"Line\",\"value\":\"\",\"start\":1,\"end\":3,\"range\":[1,3]}],\"tokens\":[{\"type\":\"Identifier\",\"value\":\"a\",\"start\":0,\"end\":1,\"range\":[0,1]}]}\n||0"
+    );
+    Ok(())
+}
+
+#[test]
+fn a_page(rt: HostRuntime) -> Result<(), Fail> {
+    let rows = [
+        (
+            "'</script>\u{2028}'",
+            "<script type=\"application/json\" id=\"name\">\"-\"</script>\n<script type=\"application/json\" id=\"source\">\"'\\u003c/script>\u{2028}'\"</script>\n<script type=\"application/json\" id=\"faults\"></script>\n<script>\n'use strict';\n",
+            "</script>\n<script type=\"application/json\" id=\"tree\">{\"type\":\"Program\",\"start\":0,\"end\":12,\"body\":[{\"type\":\"ExpressionStatement\",\"start\":0,\"end\":12,\"expression\":{\"type\":\"Literal\",\"start\":0,\"end\":12,\"value\":\"\\u003c/script>\u{2028}\",\"raw\":\"'\\u003c/script>\u{2028}'\"},\"directive\":\"\\u003c/script>\u{2028}\"}],\"sourceType\":\"script\"}</script>\n<script>\nreadTree();\n</script>\n</body>\n</html>\n||0",
+        ),
+        (
+            "a '<",
+            "<script type=\"application/json\" id=\"source\">\"a '\\u003c\"</script>\n<script type=\"application/json\" id=\"faults\">{\"file\":\"-\",\"severity\":\"refused\",",
+            "</script>\n<script type=\"application/json\" id=\"tree\">null</script>\n<script>\nreadTree();\n</script>\n</body>\n</html>\n||2",
+        ),
+    ];
+    for (text, data, end) in rows {
+        let words = ["--format", "html", "--ranges", "--tokens"];
+        let found = printed(&rt, &words, text.as_bytes(), false, 100_000)?;
+        let found = found.as_str();
+        assert!(rt; found.starts_with("<!doctype html>\n"), "{text:?}");
+        assert!(rt; found.contains(data), "{text:?}");
+        assert!(rt; found.ends_with(end), "{text:?}");
+    }
+    Ok(())
+}
+
+#[test]
+fn what_fails(rt: HostRuntime) -> Result<(), Fail> {
+    let found = printed(&rt, &[], b"a", true, 1000)?;
+    assert_eq!(rt;
+        found.as_str(),
+        "files: 1, faults: 0, refused: 0, unread: 1\n|-: cannot read it\n|3"
+    );
+    let found = printed(&rt, &[], b"\xff", false, 1000)?;
+    assert_eq!(rt;
+        found.as_str(),
+        "files: 1, faults: 0, refused: 0, unread: 1\n|-: it is not UTF-8\n|3"
+    );
+    let found = printed(&rt, &["--format", "json"], b"break", false, 4)?;
+    assert_eq!(rt;
+        found.as_str(),
+        "{\"fi|ecma-check: cannot write standard output\n|3"
+    );
+    let found = printed(&rt, &["nosuch\u{1b}file"], b"", false, 1000)?;
+    assert_eq!(rt;
+        found.as_str(),
+        "files: 1, faults: 0, refused: 0, unread: 1\n|nosuch\u{fffd}file: there is no such file\n|3"
+    );
+    let found = printed(&rt, &["--format", "estree", "a", "b"], b"", false, 1000)?;
+    assert_eq!(rt;
+        found.as_str(),
+        "|ecma-check: a tree or a page is of one file; give one FILE\n|3"
+    );
+    Ok(())
+}
+
+#[test]
+fn a_line_that_is_cut(rt: HostRuntime) -> Result<(), Fail> {
+    let rows = [
+        (
+            "                                                            break;                                                            ",
+            "-:1:61: fault [TS1105]: `break` stands outside of loops and of `switch`; move it into one, or name a label around it (ECMA-262, 14.9.1)\n...                                      break;                              ...\n                                         ^^^^^^\nfiles: 1, faults: 1, refused: 0, unread: 0\n||1",
+        ),
+        (
+            "'\u{4e00}\u{4e00}\u{4e00}\u{4e00}\u{4e00}\u{4e00}\u{4e00}\u{4e00}\u{4e00}\u{4e00}\u{4e00}\u{4e00}\u{4e00}\u{4e00}\u{4e00}\u{4e00}\u{4e00}\u{4e00}\u{4e00}\u{4e00}\u{4e00}\u{4e00}\u{4e00}\u{4e00}\u{4e00}\u{4e00}\u{4e00}\u{4e00}\u{4e00}\u{4e00}\u{4e00}\u{4e00}\u{4e00}\u{4e00}\u{4e00}\u{4e00}\u{4e00}\u{4e00}\u{4e00}';break;'\u{4e00}\u{4e00}\u{4e00}\u{4e00}\u{4e00}\u{4e00}\u{4e00}\u{4e00}\u{4e00}\u{4e00}\u{4e00}\u{4e00}\u{4e00}\u{4e00}\u{4e00}\u{4e00}\u{4e00}\u{4e00}\u{4e00}\u{4e00}\u{4e00}\u{4e00}\u{4e00}\u{4e00}\u{4e00}\u{4e00}\u{4e00}\u{4e00}\u{4e00}\u{4e00}\u{4e00}\u{4e00}\u{4e00}\u{4e00}\u{4e00}\u{4e00}\u{4e00}\u{4e00}\u{4e00}\u{4e00}'",
+            "-:1:43: fault [TS1105]: `break` stands outside of loops and of `switch`; move it into one, or name a label around it (ECMA-262, 14.9.1)\n...\u{4e00}\u{4e00}\u{4e00}\u{4e00}\u{4e00}\u{4e00}\u{4e00}\u{4e00}\u{4e00}\u{4e00}\u{4e00}\u{4e00}\u{4e00}\u{4e00}\u{4e00}\u{4e00}\u{4e00}\u{4e00}';break;'\u{4e00}\u{4e00}\u{4e00}\u{4e00}\u{4e00}\u{4e00}\u{4e00}\u{4e00}\u{4e00}\u{4e00}\u{4e00}\u{4e00}\u{4e00}\u{4e00}...\n                                         ^^^^^^\nfiles: 1, faults: 1, refused: 0, unread: 0\n||1",
+        ),
+        (
+            "a\u{2028}break;",
+            "-:2:1: fault [TS1105]: `break` stands outside of loops and of `switch`; move it into one, or name a label around it (ECMA-262, 14.9.1)\nbreak;\n^^^^^^\nfiles: 1, faults: 1, refused: 0, unread: 0\n||1",
+        ),
+        (
+            "'\u{4e00}'; break;",
+            "-:1:6: fault [TS1105]: `break` stands outside of loops and of `switch`; move it into one, or name a label around it (ECMA-262, 14.9.1)\n'\u{4e00}'; break;\n      ^^^^^^\nfiles: 1, faults: 1, refused: 0, unread: 0\n||1",
+        ),
+    ];
+    for (text, wanted) in rows {
+        let found = printed(&rt, &["--script"], text.as_bytes(), false, 1000)?;
+        assert_eq!(rt; found.as_str(), wanted, "{text:?}");
+    }
+    Ok(())
+}
+
+#[test]
+fn the_other_files_go_on(rt: HostRuntime) -> Result<(), Fail> {
+    let found = printed(&rt, &["nosuch", "-"], b"break", false, 1000)?;
+    assert_eq!(rt;
+        found.as_str(),
+        "-:1:1: fault [TS1105]: `break` stands outside of loops and of `switch`; move it into one, or name a label around it (ECMA-262, 14.9.1)\nbreak\n^^^^^\nfiles: 2, faults: 1, refused: 0, unread: 1\n|nosuch: there is no such file\n|3"
+    );
+    Ok(())
+}
+
+#[test]
+fn what_is_wrong_in_a_condition(rt: HostRuntime) -> Result<(), Fail> {
+    let found = printed(&rt, &["--script"], b"if ()", false, 1000)?;
+    assert_eq!(rt;
+        found.as_str(),
+        "-:1:5: refused [WithLabel]: no rule reads this; an expression is wanted in its place (ECMA-262, Annex A)\nif ()\n    ^\n-:1:1: note: it stands in the condition of this `if`\nif ()\n^^\nfiles: 1, faults: 1, refused: 1, unread: 0\n||2"
+    );
+    let found = printed(&rt, &["--script", "--format", "json"], b"{a", false, 1000)?;
+    assert_eq!(rt;
+        found.as_str(),
+        "{\"file\":\"-\",\"severity\":\"fault\",\"kind\":\"Expected\",\"message\":\"`}` is wanted behind this, where the text ends (ECMA-262, Annex A)\",\"byteStart\":1,\"byteEnd\":2,\"start\":1,\"end\":2,\"line\":1,\"column\":2,\"endLine\":1,\"endColumn\":3}\n||1"
+    );
+    Ok(())
+}
+
+#[test]
+fn what_is_enabled(rt: HostRuntime) -> Result<(), Fail> {
+    let found = printed(
+        &rt,
+        &["--enable", "return-outside-function", "--format", "json"],
+        b"return",
+        false,
+        1000,
+    )?;
+    assert_eq!(rt; found.as_str(), "||0");
+    Ok(())
+}
+
+#[test]
+fn words_that_are_no_command(rt: HostRuntime) -> Result<(), Fail> {
+    let rows = [
+        (
+            ["--script", "--module"],
+            "|error: the argument '--script' cannot be used with '--module'\n",
+        ),
+        (
+            ["--\u{1b}x", "a"],
+            "|error: unexpected argument '--\u{fffd}x' found\n",
+        ),
+    ];
+    for (words, begin) in rows {
+        let found = printed(&rt, &words, b"", false, 1000)?;
+        let found = found.as_str();
+        assert!(rt;
+            found.starts_with(begin) && found.ends_with("\n|3"),
+            "{found:?}"
+        );
+    }
+    let found = printed(&rt, &["--help"], b"", false, 10_000)?;
+    assert!(rt; found.as_str().contains("--enable <FLAG>") && found.as_str().ends_with("||0"));
+    let found = printed(&rt, &["--help"], b"", false, 4)?;
+    assert_eq!(rt;
+        found.as_str(),
+        "Tell|ecma-check: cannot write standard output\n|3"
+    );
+    Ok(())
+}

@@ -1,0 +1,28 @@
+// Runs `ecma-check` over a text. ECMA_CHECK says where it is, or else it is looked for as a command.
+'use strict';
+const { spawnSync } = require('child_process');
+
+// A text without a tree: `kind` is the kind of the fault that ended its reading.
+class Refusal extends Error {
+    constructor(kind) {
+        super(`refused: ${kind}`);
+        this.kind = kind;
+    }
+}
+
+function kindOf(errors) {
+    const found = /^[^\n]*: refused \[(\w+)\]: /m.exec(errors);
+    return found ? found[1] : errors.trim();
+}
+
+// The tree of a text, with the fields that `words` ask for.
+function treeOf(text, goal, words = []) {
+    const program = process.env.ECMA_CHECK || 'ecma-check';
+    const all = [`--${goal}`, '--enable', 'import-attributes', '--format', 'estree', ...words];
+    const done = spawnSync(program, all, { input: text, maxBuffer: 1 << 30 });
+    if (done.error) throw done.error;
+    if (done.status > 1) throw new Refusal(kindOf(String(done.stderr)));
+    return JSON.parse(done.stdout);
+}
+
+module.exports = { Refusal, treeOf };
