@@ -25,7 +25,7 @@ pub enum Format {
 }
 
 /// What is asked for, but for the files.
-#[derive(Clone, Copy, Debug, PartialEq, Eq)]
+#[derive(Clone, Copy)]
 pub struct Settings {
     pub format: Format,
     /// How each file is read, and how its tree is written.
