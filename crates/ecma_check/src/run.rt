@@ -156,6 +156,7 @@ fn input_sum<I: Read, W: Write, E: Write>(
 fn ended<E: Write>(alloc: Global, errors: &mut E, sum: Result<Sum, Fault>) -> u8
     ensures ok { IfOk sum (λ sum. result ≡ spec.status sum) }
     ensures err { IfErr sum (λ _. result ≡ 3) }
+    ensures bound { result ≤ 3 }
 {
     match sum {
         Ok(sum) => status(sum),
