@@ -7,7 +7,7 @@ ghost use Rattle.ecma_answers.specs.Spelled.{Spells};
 ghost use Rattle.ecma_check.specs.Answered.{IsAnswered, Shows, summed};
 ghost use Rattle.ecma_check.specs.Sum as spec;
 
-use crate::check::{Checked, Printed, check};
+use crate::check::check;
 use crate::command::{Format, Settings, matches_of, settings_of};
 use crate::fault::Fault;
 use crate::read::{input_text, text_of};
@@ -42,15 +42,11 @@ fn answer_text<W: Write, E: Write>(
     ensures { IfOk result
         (λ it. IsAnswered settings file.now text.now it (W.contents output.old) (W.contents output.new)) }
 {
-    let Checked {
-        outcome,
-        faults,
-        printed: Printed { out, notes },
-    } = check(alloc, settings, file, text)?;
-    write_bytes(output, out.as_slice())?;
+    let checked = check(alloc, settings, file, text)?;
+    write_bytes(output, checked.printed.out.as_slice())?;
     // There is no place left to say that this fails.
-    let _ = errors.write_all(notes.as_slice());
-    Ok((outcome, faults))
+    let _ = errors.write_all(checked.printed.notes.as_slice());
+    Ok((checked.outcome, checked.faults))
 }
 
 /// Reads a file, and prints what it comes to.
