@@ -62,8 +62,8 @@ fn printed_of(
 ) -> Result<Printed, AllocError>
     requires { length text.now < 2 ^ 32 }
     ensures { IfOk result
-        (λ it. IsPrinted settings.format settings.options frame.now file.now text.now reading.now.tree
-        reading.now.faults.items it.out.items it.notes.items) }
+        (λ it. IsPrinted settings.format settings.options frame.now file.now text.now
+        reading.now.tree reading.now.faults.items it.out.items it.notes.items) }
 {
     let told = told(alloc, settings.format, file, text, reading)?;
     let none = Vec::new(alloc);

@@ -40,7 +40,8 @@ fn answer_text<W: Write, E: Write>(
     errors: &mut E,
 ) -> Result<(Outcome, usize), Fault>
     ensures { IfOk result
-        (λ it. IsAnswered settings file.now text.now it (W.contents output.old) (W.contents output.new)) }
+        (λ it. IsAnswered settings file.now text.now it (W.contents output.old)
+        (W.contents output.new)) }
 {
     let checked = check(alloc, settings, file, text)?;
     write_bytes(output, checked.printed.out.as_slice())?;
@@ -105,7 +106,8 @@ fn answer_input<I: Read, W: Write, E: Write>(
     errors: &mut E,
 ) -> Result<(Outcome, usize), Fault>
     ensures { IfOk result (λ it. IfSome (I.remaining input.old)
-        (λ xs. IsAnswered settings (codes "-") xs it (W.contents output.old) (W.contents output.new))) }
+        (λ xs. IsAnswered settings (codes "-") xs it (W.contents output.old)
+        (W.contents output.new))) }
 {
     let text = input_text(alloc, input)?;
     answer_text(alloc, settings, "-", text.as_str(), output, errors)
@@ -136,10 +138,12 @@ fn input_sum<I: Read, W: Write, E: Write>(
     output: &mut W,
     errors: &mut E,
 ) -> Result<Sum, Fault>
-    ensures clean { IfOk result (λ sum. spec.status sum ≡ 0 → IfSome (I.remaining input.old) (λ xs. (x : Tree) × Spells settings.options xs x
+    ensures clean { IfOk result (λ sum. spec.status sum ≡ 0
+        → IfSome (I.remaining input.old) (λ xs. (x : Tree) × Spells settings.options xs x
         × Shows settings xs x (W.contents output.old) (W.contents output.new))) }
     ensures spelled { IfOk result (λ sum. IfSome (I.remaining input.old)
-        (λ xs. (x : Tree) → Spells settings.options xs x → (spec.status sum ≡ 0) ⊎ (spec.status sum ≡ 3))) }
+        (λ xs. (x : Tree) → Spells settings.options xs x
+        → (spec.status sum ≡ 0) ⊎ (spec.status sum ≡ 3))) }
 {
     let answer = answer_input(alloc, settings, input, output, errors);
     tell_answer(alloc, errors, "-", &answer)?;
@@ -172,7 +176,8 @@ fn run_input<I: Read, W: Write, E: Write>(
     errors: &mut E,
 ) -> u8
     ensures status { result ≤ 3 }
-    ensures clean { result ≡ 0 → IfSome (I.remaining input.old) (λ xs. (x : Tree) × Spells settings.options xs x
+    ensures clean { result ≡ 0
+        → IfSome (I.remaining input.old) (λ xs. (x : Tree) × Spells settings.options xs x
         × Shows settings xs x (W.contents output.old) (W.contents output.new)) }
     ensures spelled { IfSome (I.remaining input.old)
         (λ xs. (x : Tree) → Spells settings.options xs x → (result ≡ 0) ⊎ (result ≡ 3)) }
