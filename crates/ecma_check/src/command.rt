@@ -209,9 +209,10 @@ fn syntax_of(matches: &ArgMatches<'_>) -> Syntax
     ensures { result
         ≡ syntax_named (option_map raw_values (matched_of (found_of matches.now) (codes "enable"))) }
 {
+    let plain = Syntax::default();
     match matches.get_strs("enable") {
-        Some(names) => Syntax::Es(all_enabled(EsSyntax::default(), names)),
-        None => Syntax::default(),
+        Some(names) => Syntax::Es(all_enabled(plain.es(), names)),
+        None => plain,
     }
 }
 
