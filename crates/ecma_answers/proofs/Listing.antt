@@ -1,6 +1,5 @@
 -- Faults, one at a time.
 use Rattle.std.proofs.Common.{◌≡◌, ℕ, List, [], ◌∷◌, ◌++◌, ◌+◌, ◌<◌, Result, Err, false, get_or, length, refl, subst, sym, take, true}
-use Rattle.std.specs.List.{AllZip}
 use Rattle.std.proofs.lemmas.List.{take_more}
 use Rattle.std.proofs.lemmas.Slice.Zip.{all_zipped_more}
 use Rattle.swc_ecma_parser_error.specs.declared.error.Error.{Error}

@@ -1,5 +1,5 @@
 -- How a call ends, by what it came to.
-use Rattle.std.proofs.Common.{◌≡◌, ◌≤◌, ◌<◌, ℕ, List, ◌⊎◌, Err, None, Ok, absurd, inr, length, refl, subst, sym, take}
+use Rattle.std.proofs.Common.{◌≡◌, ◌≤◌, ◌<◌, ℕ, List, ◌⊎◌, Err, None, Ok, inr, length, refl, subst, sym, take}
 use Rattle.ecma_answers.specs.declared.parsing.Outcome.{Outcome}
 use Rattle.ecma_link.specs.declared.bytes.Wanted.{Wanted}
 use Rattle.ecma_link.specs.declared.failure.Failure.{Failure}
