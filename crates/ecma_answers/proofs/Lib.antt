@@ -1,2 +1,3 @@
 mod Deciding
+mod Drawing
 mod Listing

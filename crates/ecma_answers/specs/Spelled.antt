@@ -1,5 +1,5 @@
 -- The trees that a text spells, and what was read of it.
-use Rattle.std.specs.Prelude.{◌≡◌, ◌↔◌, ℕ, List, []}
+use Rattle.std.specs.Prelude.{◌↔◌, ℕ, List, []}
 use Rattle.std.specs.Str.{chars}
 use Rattle.swc_ecma_parser_error.specs.Kind.{faults_of}
 use Rattle.swc_ecma_parser_input.specs.declared.syntax.Syntax.{Syntax}

@@ -18,7 +18,8 @@ fn push_fault(
     error: &Error,
 ) -> Result<(), AllocError>
     requires { length places.now.text < 2 ^ 32 }
-    ensures { OnOk result (out.new.items ≡ out.old.items ++ fault_text places.now word.now error.now) }
+    ensures { OnOk result
+        (out.new.items ≡ out.old.items ++ fault_text places.now word.now error.now) }
 {
     push_json(out, "", places, word, error, note_of(&error.kind))
 }
@@ -31,7 +32,8 @@ fn push_next(
     error: &Error,
 ) -> Result<(), AllocError>
     requires { length places.now.text < 2 ^ 32 }
-    ensures { OnOk result (out.new.items ≡ out.old.items ++ next_text places.now word.now error.now) }
+    ensures { OnOk result
+        (out.new.items ≡ out.old.items ++ next_text places.now word.now error.now) }
 {
     out.extend_from_slice(b",")?;
     push_fault(out, places, word, error)
@@ -40,7 +42,9 @@ fn push_next(
 /// Writes faults that stand behind another.
 fn push_rest(out: &mut Vec<u8>, places: &Places<'_>, rest: &[Error]) -> Result<(), AllocError>
     requires { length places.now.text < 2 ^ 32 }
-    ensures { OnOk result (out.new.items ≡ out.old.items ++ flat_map (next_text places.now (codes "fault")) rest.now) }
+    ensures { OnOk result
+        (out.new.items ≡ out.old.items
+        ++ flat_map (next_text places.now (codes "fault")) rest.now) }
 {
     for fault in rest {
         push_next(out, places, "fault", fault)?;
@@ -70,7 +74,8 @@ fn push_refusal(
     faults: &[Error],
 ) -> Result<(), AllocError>
     requires { length places.now.text < 2 ^ 32 }
-    ensures { OnOk result (out.new.items ≡ out.old.items ++ refusal_text places.now tree.now faults.now) }
+    ensures { OnOk result
+        (out.new.items ≡ out.old.items ++ refusal_text places.now tree.now faults.now) }
 {
     match (tree, faults) {
         (Ok(_), _) => Ok(()),
@@ -88,7 +93,9 @@ fn push_told(
     reading: &Reading,
 ) -> Result<(), AllocError>
     requires { length text.now < 2 ^ 32 }
-    ensures { OnOk result (out.new.items ≡ out.old.items ++ told_text text.now reading.now.tree reading.now.faults.items) }
+    ensures { OnOk result
+        (out.new.items ≡ out.old.items
+        ++ told_text text.now reading.now.tree reading.now.faults.items) }
 {
     let extras = Extras {
         locations: true,
@@ -111,7 +118,9 @@ pub(crate) fn push_faults(
     reading: &Reading,
 ) -> Result<(), AllocError>
     requires { length text.now < 2 ^ 32 }
-    ensures { OnOk result (out.new.items ≡ out.old.items ++ told_text text.now reading.now.tree reading.now.faults.items) }
+    ensures { OnOk result
+        (out.new.items ≡ out.old.items
+        ++ told_text text.now reading.now.tree reading.now.faults.items) }
 {
     if reading.tree.is_ok() && reading.faults.is_empty() {
         return out.extend_from_slice(b"[]");

@@ -18,7 +18,9 @@ fn push_tree(
     reading: &Reading,
 ) -> Result<(), AllocError>
     requires { length text.now < 2 ^ 32 }
-    ensures { OnOk result ((told : List ℕ) × IsTree options text.now reading.now.tree told × (out.new.items ≡ out.old.items ++ told)) }
+    ensures { OnOk result
+        ((told : List ℕ) × IsTree options text.now reading.now.tree told
+        × (out.new.items ≡ out.old.items ++ told)) }
 {
     match &reading.tree {
         Ok(tree) => {

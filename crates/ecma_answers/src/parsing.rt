@@ -105,7 +105,8 @@ impl Reading {
 
 /// What was read as a script.
 fn of_script(read: (PResult<Script>, Vec<Error>)) -> Reading
-    ensures tree { (x : Model) → IsRead result x ↔ IsClean view_script read.0 (faults_of read.1.items) x }
+    ensures tree { (x : Model) → IsRead result x
+        ↔ IsClean view_script read.0 (faults_of read.1.items) x }
     ensures lasts { Lasts result.tree → Lasts read.0 }
 {
     let (tree, faults) = read;
@@ -123,7 +124,8 @@ fn of_script(read: (PResult<Script>, Vec<Error>)) -> Reading
 
 /// What was read as a module.
 fn of_module(read: (PResult<Module>, Vec<Error>)) -> Reading
-    ensures tree { (x : Model) → IsRead result x ↔ IsClean view_module read.0 (faults_of read.1.items) x }
+    ensures tree { (x : Model) → IsRead result x
+        ↔ IsClean view_module read.0 (faults_of read.1.items) x }
     ensures lasts { Lasts result.tree → Lasts read.0 }
 {
     let (tree, faults) = read;
@@ -141,7 +143,8 @@ fn of_module(read: (PResult<Module>, Vec<Error>)) -> Reading
 
 /// What was read as a program.
 fn of_program(read: (PResult<Program>, Vec<Error>)) -> Reading
-    ensures tree { (x : Model) → IsRead result x ↔ IsClean view_program read.0 (faults_of read.1.items) x }
+    ensures tree { (x : Model) → IsRead result x
+        ↔ IsClean view_program read.0 (faults_of read.1.items) x }
     ensures lasts { Lasts result.tree → Lasts read.0 }
 {
     let (tree, faults) = read;
@@ -158,7 +161,6 @@ fn of_program(read: (PResult<Program>, Vec<Error>)) -> Reading
 }
 
 /// Reads a text as what is asked for.
-#[tactic(auto, using(crate::proofs::Deciding::decided))]
 fn read_as(alloc: Global, options: Options, text: &str) -> Reading
     requires { length text.now < 2 ^ 32 }
     ensures { Lasts result.tree → Decides options text.now result }

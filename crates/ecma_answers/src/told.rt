@@ -37,6 +37,7 @@ pub struct Told {
 }
 
 /// A place of a text whose lines are known.
+#[tactic(auto, using(ecma_faults::proofs::Columns::column_bound))]
 fn point_of(places: &Places<'_>, byte: u32) -> Point
     requires text { length places.now.text < 2 ^ 32 }
     requires lines { places.now ≡ lined places.now.text }
@@ -96,7 +97,9 @@ fn push_refusal(
 ) -> Result<(), AllocError>
     requires text { length places.now.text < 2 ^ 32 }
     requires lines { places.now ≡ lined places.now.text }
-    ensures { OnOk result ((it : List Told) × IsRefusal places.now.text tree.now it × (out.new.items ≡ out.old.items ++ it)) }
+    ensures { OnOk result
+        ((it : List Told) × IsRefusal places.now.text tree.now it
+        × (out.new.items ≡ out.old.items ++ it)) }
 {
     if let Err(error) = tree {
         let it = told_of(alloc, places, error, true)?;
@@ -108,7 +111,8 @@ fn push_refusal(
 /// The faults of a text that has some, one by one.
 fn list_of(alloc: Global, text: &str, reading: &Reading) -> Result<Vec<Told>, AllocError>
     requires { length text.now < 2 ^ 32 }
-    ensures { IfOk result (λ list. AllTold text.now reading.now.tree reading.now.faults.items list.items) }
+    ensures { IfOk result
+        (λ list. AllTold text.now reading.now.tree reading.now.faults.items list.items) }
 {
     let extras = Extras {
         locations: true,
@@ -123,7 +127,8 @@ fn list_of(alloc: Global, text: &str, reading: &Reading) -> Result<Vec<Told>, Al
 /// The faults of a text one by one: those that were recorded, and why there is no tree. It fails only where memory runs out.
 pub fn told_faults(alloc: Global, text: &str, reading: &Reading) -> Result<Vec<Told>, AllocError>
     requires { length text.now < 2 ^ 32 }
-    ensures { IfOk result (λ list. AllTold text.now reading.now.tree reading.now.faults.items list.items) }
+    ensures { IfOk result
+        (λ list. AllTold text.now reading.now.tree reading.now.faults.items list.items) }
 {
     if reading.tree.is_ok() && reading.faults.is_empty() {
         return Ok(Vec::new(alloc));

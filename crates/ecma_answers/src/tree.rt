@@ -1,6 +1,8 @@
 //! A tree as ESTree.
 
-ghost use Rattle.std.specs.Prelude.{◌<◌, ◌^◌, ◌≡◌, IfOk, length};
+ghost use Rattle.std.specs.Prelude.{◌<◌, ◌^◌, ◌≡◌, false, IfOk, OnOk, length};
+ghost use Rattle.swc_ecma_parser_lexer.specs.Collected.{IsReadOn};
+ghost use Rattle.swc_ecma_parser_lexer.specs.Tokens.{tokens_at};
 ghost use Rattle.ecma_answers.specs.Spelled.{view_tree};
 ghost use Rattle.ecma_answers.specs.Written.{AreFields, IsEstree, fields, placed};
 
@@ -11,24 +13,32 @@ use ecma_estree_lists::{push_comments, push_tokens};
 use ecma_estree_text::Places;
 use std::alloc::{AllocError, Global};
 use swc_ecma_parser::common::{BytePos, Comment};
-use swc_ecma_parser::input::Tokens;
+use swc_ecma_parser::input::{Tokens, is_out_of_memory};
 use swc_ecma_parser::lexer::{Lexer, StringInput};
 use swc_ecma_parser::token::TokenAndSpan;
 
-/// The tokens of a text.
-fn tokens_of(alloc: Global, lexer: &mut Lexer<'_>) -> Result<Vec<TokenAndSpan>, AllocError> {
+/// The tokens that a lexer has left. It fails only where memory runs out, for a token too.
+fn tokens_of(alloc: Global, lexer: &mut Lexer<'_>) -> Result<Vec<TokenAndSpan>, AllocError>
+    ensures tokens { IfOk result (λ tokens. tokens.items ≡ tokens_at lexer.old.place) }
+    ensures comments { OnOk result
+        (IsReadOn lexer.old.comments lexer.old.place lexer.new.comments lexer.new.place) }
+{
     let mut tokens = Vec::new(alloc);
-    for _ in 0..u64::MAX {
-        let Some(token) = lexer.next() else {
-            break;
-        };
+    while let Some(token) = lexer.next() {
+        if is_out_of_memory(&token.token) {
+            return Err(AllocError);
+        }
         tokens.push(token)?;
     }
     Ok(tokens)
 }
 
 /// The comments that were read.
-fn comments_of(lexer: &mut Lexer<'_>) -> Result<Vec<Comment>, AllocError> {
+fn comments_of(lexer: &mut Lexer<'_>) -> Result<Vec<Comment>, AllocError>
+    ensures comments { IfOk result
+        (λ comments. comments.items ≡ lexer.old.comments.comments.items) }
+    ensures lossy { OnOk result (lexer.old.comments.is_lossy ≡ false) }
+{
     match lexer.take_comments() {
         Ok(comments) => Ok(comments),
         Err(_) => Err(AllocError),

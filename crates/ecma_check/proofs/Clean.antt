@@ -32,7 +32,7 @@ joined (Some p) (Some q) None xs ys h k = absurd k
 joined (Some p) (Some q) (Some r) xs ys h k = k ∙ ap (λ z. z ++ ys) h ∙ append_assoc p xs ys
 
 -- one file, of which nothing is told
-pub one : Sum
+abbrev pub one : Sum
 one = record sum.empty { files = 1 }
 
 module _ (o : Options) (text : List ℕ) (before mid after : Option (List ℕ)) where
@@ -51,7 +51,7 @@ module _ (o : Options) (text : List ℕ) (before mid after : Option (List ℕ)) 
 
 module _ (o : Options) (text : List ℕ) where
   -- a tree was read without a fault exactly where the text spells it
-  Decides : Result Tree Error → List Error → Type 0
+  abbrev Decides : Result Tree Error → List Error → Type 0
   Decides x es = (y : model.Tree) → IsClean view_tree x (faults_of es) y ↔ Spells o text y
 
   -- where nothing is told, the text spells the tree that was read
@@ -69,7 +69,7 @@ module _ (o : Options) (text : List ℕ) where
   spelled_none_told (Err e) es d y s = absurd ((d y).1 s)
 
 -- a status that is 0 or 1 is 0 where a test holds
-holds : (b : Bool) → (if b then 0 else 1) ≡ 0 → b ≡ true
+holds : (b : Bool) → ◌≡◌ {A = ℕ} (if b then 0 else 1) 0 → b ≡ true
 holds true h = refl
 holds false h = cc
 

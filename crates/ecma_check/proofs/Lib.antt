@@ -1,1 +1,2 @@
 mod Clean
+mod Results

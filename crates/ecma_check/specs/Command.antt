@@ -1,9 +1,15 @@
 -- The words that a run is called with.
-use Rattle.std.specs.Prelude.{◌≡◌, ℕ, Bool, true, false, List, [], ◌∷◌, Option, Some, None, if◌then◌else◌, codes}
+use Rattle.std.specs.Prelude.{◌≡◌, ◌≤◌, ℕ, Bool, true, false, List, [], ◌∷◌, Option, Some, None, option_map, if◌then◌else◌, codes}
 use Rattle.std.specs.Str.{bytes_eq}
-use Rattle.clap.specs.Matches.{one_text}
+use Rattle.clap.specs.Matches.{matched_of, one_text, raw_values}
 use Rattle.clap.specs.declared.parser.matches.Found.{Found}
 use Rattle.swc_ecma_parser_input.specs.declared.syntax.EsSyntax.{EsSyntax}
+use Rattle.swc_ecma_parser_input.specs.declared.syntax.Syntax.{Syntax}
+use Rattle.swc_ecma_parser_input.specs.declared.syntax.Syntax.TheVariants as syntax
+use Rattle.swc_ecma_parser_input.specs.Setting.{plain, plain_setting}
+use Rattle.ecma_answers.specs.declared.options.Goal.{Goal}
+use Rattle.ecma_answers.specs.declared.options.Goal.TheVariants as goal
+use Rattle.ecma_answers.specs.declared.options.Options.{Options}
 use Rattle.ecma_check.specs.declared.command.Format.{Format}
 use Rattle.ecma_check.specs.declared.command.Format.TheVariants as format
 
@@ -41,3 +47,25 @@ enabled s name =
 abbrev pub all_enabled : EsSyntax → (names : List (List ℕ)) → EsSyntax
 all_enabled s [] = s
 all_enabled s (name ∷ names) = all_enabled (enabled s name) names
+
+-- what is read besides ECMA-262, with all that words name
+abbrev pub syntax_named : Option (List (List ℕ)) → Syntax
+syntax_named None = plain
+syntax_named (Some names) = syntax.Es (all_enabled plain_setting names)
+
+-- what a file is read as: a script or a module, where that word stands there; else a program
+abbrev pub IsGoal : Found → Goal → Type 0
+IsGoal f g =
+    (IsSet f (codes "script") → g ≡ goal.Script)
+    × (IsUnset f (codes "script") → IsSet f (codes "module") → g ≡ goal.Module)
+    × (IsUnset f (codes "script") → IsUnset f (codes "module") → g ≡ goal.Program)
+
+-- what the words ask of each file
+pub record AreOptions (f : Found) (o : Options) : Type 0 where
+  pub goal : IsGoal f o.goal
+  pub limit : o.limit ≤ 1000
+  pub settings : o.syntax ≡ syntax_named (option_map raw_values (matched_of f (codes "enable")))
+  pub locations : IsFlag f (codes "locations") o.extras.locations
+  pub ranges : IsFlag f (codes "ranges") o.extras.ranges
+  pub comments : IsFlag f (codes "comments") o.comments
+  pub tokens : IsFlag f (codes "tokens") o.tokens

@@ -14,7 +14,7 @@ use std::alloc::{AllocError, Global};
 use swc_ecma_parser::error::PResult;
 
 /// What is printed of a text.
-#[derive(Debug, Drop)]
+#[derive(Drop)]
 pub struct Printed {
     /// What is for standard output.
     pub out: Vec<u8>,
@@ -23,7 +23,7 @@ pub struct Printed {
 }
 
 /// What a text comes to, and what is printed of it.
-#[derive(Debug, Drop)]
+#[derive(Drop)]
 pub struct Checked {
     pub outcome: Outcome,
     /// How many faults are told, with that for which there is no tree.
@@ -62,8 +62,8 @@ fn printed_of(
 ) -> Result<Printed, AllocError>
     requires { length text.now < 2 ^ 32 }
     ensures { IfOk result
-        (λ it. IsPrinted settings.format settings.options frame.now file.now text.now reading.now.tree
-        reading.now.faults.items it.out.items it.notes.items) }
+        (λ it. IsPrinted settings.format settings.options frame.now file.now text.now
+        reading.now.tree reading.now.faults.items it.out.items it.notes.items) }
 {
     let told = told(alloc, settings.format, file, text, reading)?;
     let none = Vec::new(alloc);

@@ -1,9 +1,9 @@
 //! The words that a run is called with.
 
 ghost use Rattle.std.specs.Prelude.{◌≡◌, ◌≤◌, codes, map, option_map};
-ghost use Rattle.clap.specs.Words.{first_value, found_of};
+ghost use Rattle.clap.specs.Words.{first_value, found_of, matched_of, raw_values};
 ghost use Rattle.ecma_check.specs.Command as spec;
-ghost use Rattle.ecma_check.specs.Command.{IsFlag, IsSet, IsUnset};
+ghost use Rattle.ecma_check.specs.Command.{AreOptions, IsGoal, syntax_named};
 
 use clap::{Arg, ArgAction, ArgMatches, Command, Error};
 use ecma_answers::{Goal, MAX_LIMIT, Options};
@@ -25,7 +25,7 @@ pub enum Format {
 }
 
 /// What is asked for, but for the files.
-#[derive(Clone, Copy, Debug, PartialEq, Eq)]
+#[derive(Clone, Copy)]
 pub struct Settings {
     pub format: Format,
     /// How each file is read, and how its tree is written.
@@ -126,11 +126,7 @@ fn command<'a>(alloc: Global) -> Result<Command<'a>, AllocError> {
 
 /// What a file is read as.
 fn goal_of(matches: &ArgMatches<'_>) -> Goal
-    ensures script { IsSet (found_of matches.now) (codes "script") → result ≡ Goal.Script }
-    ensures modules { IsUnset (found_of matches.now) (codes "script")
-        → IsSet (found_of matches.now) (codes "module") → result ≡ Goal.Module }
-    ensures program { IsUnset (found_of matches.now) (codes "script")
-        → IsUnset (found_of matches.now) (codes "module") → result ≡ Goal.Program }
+    ensures { IsGoal (found_of matches.now) result }
 {
     if matches.get_flag("script") {
         Goal::Script
@@ -209,10 +205,14 @@ fn all_enabled(settings: EsSyntax, names: &[&str]) -> EsSyntax
 }
 
 /// What is read besides ECMA-262.
-fn syntax_of(matches: &ArgMatches<'_>) -> Syntax {
+fn syntax_of(matches: &ArgMatches<'_>) -> Syntax
+    ensures { result
+        ≡ syntax_named (option_map raw_values (matched_of (found_of matches.now) (codes "enable"))) }
+{
+    let plain = Syntax::default();
     match matches.get_strs("enable") {
-        Some(names) => Syntax::Es(all_enabled(EsSyntax::default(), names)),
-        None => Syntax::default(),
+        Some(names) => Syntax::Es(all_enabled(plain.es(), names)),
+        None => plain,
     }
 }
 
@@ -228,11 +228,7 @@ fn limit_of(matches: &ArgMatches<'_>) -> u32
 
 /// How each file is read, and how its tree is written.
 fn options_of(matches: &ArgMatches<'_>) -> Options
-    ensures limit { result.limit ≤ 1000 }
-    ensures locations { IsFlag (found_of matches.now) (codes "locations") result.extras.locations }
-    ensures ranges { IsFlag (found_of matches.now) (codes "ranges") result.extras.ranges }
-    ensures comments { IsFlag (found_of matches.now) (codes "comments") result.comments }
-    ensures tokens { IsFlag (found_of matches.now) (codes "tokens") result.tokens }
+    ensures { AreOptions (found_of matches.now) result }
 {
     Options {
         goal: goal_of(matches),
@@ -251,7 +247,7 @@ fn options_of(matches: &ArgMatches<'_>) -> Options
 pub fn settings_of(matches: &ArgMatches<'_>) -> Settings
     ensures format { result.format
         ≡ spec.format_named (first_value (found_of matches.now) (codes "format")) }
-    ensures limit { result.options.limit ≤ 1000 }
+    ensures options { AreOptions (found_of matches.now) result.options }
 {
     Settings {
         format: format_of(matches),

@@ -41,7 +41,8 @@ pub fn text_of<R: Files + AllocGlobal, I: Read>(
     file: &str,
 ) -> Result<String, Fault>
     ensures { IfOk result
-        (λ text. file.now ≡ codes "-" → IfSome (I.remaining input.old) (λ xs. string_bytes text ≡ xs)) }
+        (λ text. file.now ≡ codes "-"
+        → IfSome (I.remaining input.old) (λ xs. string_bytes text ≡ xs)) }
 {
     if file == "-" {
         return input_text(rt.alloc(), input);

@@ -7,7 +7,7 @@ ghost use Rattle.ecma_answers.specs.Spelled.{Spells};
 ghost use Rattle.ecma_check.specs.Answered.{IsAnswered, Shows, summed};
 ghost use Rattle.ecma_check.specs.Sum as spec;
 
-use crate::check::{Checked, Printed, check};
+use crate::check::check;
 use crate::command::{Format, Settings, matches_of, settings_of};
 use crate::fault::Fault;
 use crate::read::{input_text, text_of};
@@ -40,17 +40,14 @@ fn answer_text<W: Write, E: Write>(
     errors: &mut E,
 ) -> Result<(Outcome, usize), Fault>
     ensures { IfOk result
-        (λ it. IsAnswered settings file.now text.now it (W.contents output.old) (W.contents output.new)) }
+        (λ it. IsAnswered settings file.now text.now it (W.contents output.old)
+        (W.contents output.new)) }
 {
-    let Checked {
-        outcome,
-        faults,
-        printed: Printed { out, notes },
-    } = check(alloc, settings, file, text)?;
-    write_bytes(output, out.as_slice())?;
+    let checked = check(alloc, settings, file, text)?;
+    write_bytes(output, checked.printed.out.as_slice())?;
     // There is no place left to say that this fails.
-    let _ = errors.write_all(notes.as_slice());
-    Ok((outcome, faults))
+    let _ = errors.write_all(checked.printed.notes.as_slice());
+    Ok((checked.outcome, checked.faults))
 }
 
 /// Reads a file, and prints what it comes to.
@@ -109,7 +106,8 @@ fn answer_input<I: Read, W: Write, E: Write>(
     errors: &mut E,
 ) -> Result<(Outcome, usize), Fault>
     ensures { IfOk result (λ it. IfSome (I.remaining input.old)
-        (λ xs. IsAnswered settings (codes "-") xs it (W.contents output.old) (W.contents output.new))) }
+        (λ xs. IsAnswered settings (codes "-") xs it (W.contents output.old)
+        (W.contents output.new))) }
 {
     let text = input_text(alloc, input)?;
     answer_text(alloc, settings, "-", text.as_str(), output, errors)
@@ -140,10 +138,12 @@ fn input_sum<I: Read, W: Write, E: Write>(
     output: &mut W,
     errors: &mut E,
 ) -> Result<Sum, Fault>
-    ensures clean { IfOk result (λ sum. spec.status sum ≡ 0 → IfSome (I.remaining input.old) (λ xs. (x : Tree) × Spells settings.options xs x
+    ensures clean { IfOk result (λ sum. spec.status sum ≡ 0
+        → IfSome (I.remaining input.old) (λ xs. (x : Tree) × Spells settings.options xs x
         × Shows settings xs x (W.contents output.old) (W.contents output.new))) }
     ensures spelled { IfOk result (λ sum. IfSome (I.remaining input.old)
-        (λ xs. (x : Tree) → Spells settings.options xs x → (spec.status sum ≡ 0) ⊎ (spec.status sum ≡ 3))) }
+        (λ xs. (x : Tree) → Spells settings.options xs x
+        → (spec.status sum ≡ 0) ⊎ (spec.status sum ≡ 3))) }
 {
     let answer = answer_input(alloc, settings, input, output, errors);
     tell_answer(alloc, errors, "-", &answer)?;
@@ -156,6 +156,7 @@ fn input_sum<I: Read, W: Write, E: Write>(
 fn ended<E: Write>(alloc: Global, errors: &mut E, sum: Result<Sum, Fault>) -> u8
     ensures ok { IfOk sum (λ sum. result ≡ spec.status sum) }
     ensures err { IfErr sum (λ _. result ≡ 3) }
+    ensures bound { result ≤ 3 }
 {
     match sum {
         Ok(sum) => status(sum),
@@ -175,7 +176,8 @@ fn run_input<I: Read, W: Write, E: Write>(
     errors: &mut E,
 ) -> u8
     ensures status { result ≤ 3 }
-    ensures clean { result ≡ 0 → IfSome (I.remaining input.old) (λ xs. (x : Tree) × Spells settings.options xs x
+    ensures clean { result ≡ 0
+        → IfSome (I.remaining input.old) (λ xs. (x : Tree) × Spells settings.options xs x
         × Shows settings xs x (W.contents output.old) (W.contents output.new)) }
     ensures spelled { IfSome (I.remaining input.old)
         (λ xs. (x : Tree) → Spells settings.options xs x → (result ≡ 0) ⊎ (result ≡ 3)) }

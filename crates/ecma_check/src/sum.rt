@@ -1,6 +1,6 @@
 //! What the files of a run come to.
 
-ghost use Rattle.std.specs.Prelude.{◌≡◌, ◌++◌, decimal, IfOk, IfErr, OnOk};
+ghost use Rattle.std.specs.Prelude.{◌≡◌, ◌≤◌, ◌++◌, decimal, IfOk, IfErr, OnOk};
 ghost use Rattle.ecma_check.specs.Sum as spec;
 
 use crate::fault::Fault;
@@ -63,7 +63,8 @@ pub fn added(sum: Sum, answer: Result<(Outcome, usize), Fault>) -> Sum
 
 /// The status of a run.
 pub fn status(sum: Sum) -> u8
-    ensures { result ≡ spec.status sum }
+    ensures value { result ≡ spec.status sum }
+    ensures bound { result ≤ 3 }
 {
     if sum.unread > 0 {
         3

@@ -1,6 +1,7 @@
 //! Runs over readers and writers in memory.
 
 use crate::run::run;
+use std::alloc::Global;
 use std::io::{Read, Write};
 use std::test::Fail;
 use std::{io, str};
@@ -40,39 +41,74 @@ impl Write for Target {
         Ok(count)
     }
 
+    /// It fails where no room is left.
     fn flush(&mut self) -> io::Result<()> {
+        if self.room == 0 {
+            return Err(io::Error::from(io::ErrorKind::BrokenPipe));
+        }
         Ok(())
     }
 }
 
-/// What a run over standard input prints, on both outputs, and its status.
-fn printed(
-    rt: &HostRuntime,
-    given: &[&str],
-    input: &[u8],
+/// What a run is given: its words, standard input, and the room on standard output and on standard error.
+#[derive(Clone, Copy)]
+struct Given<'a> {
+    words: &'a [&'a str],
+    input: &'a [u8],
     is_broken: bool,
     room: usize,
-) -> Result<String, Fail> {
-    let alloc = rt.alloc();
+    note_room: usize,
+}
+
+/// A reader that does not fail, and writers with room.
+fn plain<'a>(words: &'a [&'a str], input: &'a [u8]) -> Given<'a> {
+    Given {
+        words,
+        input,
+        is_broken: false,
+        room: 100_000,
+        note_room: 1000,
+    }
+}
+
+/// The words of a call, the program's name among them.
+fn called(alloc: Global, given: &[&str]) -> io::Result<Vec<String>> {
     let mut words = Vec::new(alloc);
     words.push(String::from_str(alloc, "ecma-check")?)?;
     for word in given {
         words.push(String::from_str(alloc, word)?)?;
     }
+    Ok(words)
+}
+
+/// What a run over some words prints, on both outputs, and its status.
+fn ended(
+    rt: &HostRuntime,
+    words: io::Result<Vec<String>>,
+    given: Given<'_>,
+) -> Result<String, Fail> {
+    let alloc = rt.alloc();
     let mut input = Source {
-        left: input,
-        is_broken,
+        left: given.input,
+        is_broken: given.is_broken,
     };
     let mut output = Target {
         taken: Vec::new(alloc),
-        room,
+        room: given.room,
     };
-    let mut errors = Vec::new(alloc);
-    let words = Ok(words);
+    let mut errors = Target {
+        taken: Vec::new(alloc),
+        room: given.note_room,
+    };
     let status = run(rt, &words, &mut input, &mut output, &mut errors);
     let output = str::from_utf8(output.taken.as_slice())?;
-    let errors = str::from_utf8(errors.as_slice())?;
+    let errors = str::from_utf8(errors.taken.as_slice())?;
     Ok(format!(in alloc; "{output}|{errors}|{status}")?)
+}
+
+/// What a run prints, on both outputs, and its status.
+fn printed(rt: &HostRuntime, given: Given<'_>) -> Result<String, Fail> {
+    ended(rt, called(rt.alloc(), given.words), given)
 }
 
 #[test]
@@ -89,7 +125,7 @@ fn faults_as_text(rt: HostRuntime) -> Result<(), Fail> {
         ),
     ];
     for (text, wanted) in rows {
-        let found = printed(&rt, &["--script"], text.as_bytes(), false, 1000)?;
+        let found = printed(&rt, plain(&["--script"], text.as_bytes()))?;
         assert_eq!(rt; found.as_str(), wanted, "{text:?}");
     }
     Ok(())
@@ -97,7 +133,7 @@ fn faults_as_text(rt: HostRuntime) -> Result<(), Fail> {
 
 #[test]
 fn an_earlier_place(rt: HostRuntime) -> Result<(), Fail> {
-    let found = printed(&rt, &[], b"\ta b", false, 1000)?;
+    let found = printed(&rt, plain(&[], b"\ta b"))?;
     assert_eq!(rt;
         found.as_str(),
         "-:1:4: refused [ExpectedSemiForExprStmt]: the statement before this has not ended; write a `;` or a line break between them (ECMA-262, 12.10)\n\ta b\n\t  ^\n-:1:2: note: the expression stands here\n\ta b\n\t^\nfiles: 1, faults: 1, refused: 1, unread: 0\n||2"
@@ -109,10 +145,7 @@ fn an_earlier_place(rt: HostRuntime) -> Result<(), Fail> {
 fn faults_as_json(rt: HostRuntime) -> Result<(), Fail> {
     let found = printed(
         &rt,
-        &["--format", "json", "-"],
-        "'\u{1d4b3}'; return".as_bytes(),
-        false,
-        1000,
+        plain(&["--format", "json", "-"], "'\u{1d4b3}'; return".as_bytes()),
     )?;
     assert_eq!(rt;
         found.as_str(),
@@ -125,10 +158,10 @@ fn faults_as_json(rt: HostRuntime) -> Result<(), Fail> {
 fn a_tree_with_all_its_extras(rt: HostRuntime) -> Result<(), Fail> {
     let found = printed(
         &rt,
-        &["--format", "estree", "--ranges", "--comments", "--tokens"],
-        b"a//",
-        false,
-        1000,
+        plain(
+            &["--format", "estree", "--ranges", "--comments", "--tokens"],
+            b"a//",
+        ),
     )?;
     assert_eq!(rt;
         found.as_str(),
@@ -153,7 +186,7 @@ fn a_page(rt: HostRuntime) -> Result<(), Fail> {
     ];
     for (text, data, end) in rows {
         let words = ["--format", "html", "--ranges", "--tokens"];
-        let found = printed(&rt, &words, text.as_bytes(), false, 100_000)?;
+        let found = printed(&rt, plain(&words, text.as_bytes()))?;
         let found = found.as_str();
         assert!(rt; found.starts_with("<!doctype html>\n"), "{text:?}");
         assert!(rt; found.contains(data), "{text:?}");
@@ -163,32 +196,102 @@ fn a_page(rt: HostRuntime) -> Result<(), Fail> {
 }
 
 #[test]
-fn what_fails(rt: HostRuntime) -> Result<(), Fail> {
-    let found = printed(&rt, &[], b"a", true, 1000)?;
+fn faults_beside_a_tree(rt: HostRuntime) -> Result<(), Fail> {
+    let tree =
+        "{\"type\":\"Program\",\"start\":0,\"end\":5,\"body\":[{\"type\":\"BreakStatement\",\"start\":0,\"end\":5,\"label\":null}],\"sourceType\":\"script\"}\n";
+    let told =
+        "-:1:1: fault [TS1105]: `break` stands outside of loops and of `switch`; move it into one, or name a label around it (ECMA-262, 14.9.1)\nbreak\n^^^^^\n";
+    let words = ["--format", "estree"];
+    let found = printed(&rt, plain(&words, b"break"))?;
+    let wanted = format!(in rt.alloc(); "{tree}|{told}|1")?;
+    assert_eq!(rt; found.as_str(), wanted.as_str());
+    let found = printed(
+        &rt,
+        Given {
+            note_room: 5,
+            ..plain(&words, b"break")
+        },
+    )?;
+    let wanted = format!(in rt.alloc(); "{tree}|-:1:1|1")?;
+    assert_eq!(rt; found.as_str(), wanted.as_str());
+    let found = printed(&rt, plain(&words, b"throw\na"))?;
+    assert_eq!(rt;
+        found.as_str(),
+        "|-:2:1: refused [LineBreakInThrow]: the line ends behind `throw`; write what is thrown on the same line (ECMA-262, 14.14)\na\n^\n|2"
+    );
+    Ok(())
+}
+
+#[test]
+fn texts_that_cannot_be_read(rt: HostRuntime) -> Result<(), Fail> {
+    let found = printed(
+        &rt,
+        Given {
+            is_broken: true,
+            ..plain(&[], b"a")
+        },
+    )?;
     assert_eq!(rt;
         found.as_str(),
         "files: 1, faults: 0, refused: 0, unread: 1\n|-: cannot read it\n|3"
     );
-    let found = printed(&rt, &[], b"\xff", false, 1000)?;
-    assert_eq!(rt;
-        found.as_str(),
-        "files: 1, faults: 0, refused: 0, unread: 1\n|-: it is not UTF-8\n|3"
-    );
-    let found = printed(&rt, &["--format", "json"], b"break", false, 4)?;
-    assert_eq!(rt;
-        found.as_str(),
-        "{\"fi|ecma-check: cannot write standard output\n|3"
-    );
-    let found = printed(&rt, &["nosuch\u{1b}file"], b"", false, 1000)?;
-    assert_eq!(rt;
-        found.as_str(),
-        "files: 1, faults: 0, refused: 0, unread: 1\n|nosuch\u{fffd}file: there is no such file\n|3"
-    );
-    let found = printed(&rt, &["--format", "estree", "a", "b"], b"", false, 1000)?;
+    let rows = [
+        ("-", "-: it is not UTF-8"),
+        (
+            "nosuch\u{1b}file",
+            "nosuch\u{fffd}file: there is no such file",
+        ),
+        ("/", "/: it is a directory"),
+    ];
+    for (file, told) in rows {
+        let found = printed(&rt, plain(&[file], b"\xff"))?;
+        let wanted = format!(in rt.alloc();
+            "files: 1, faults: 0, refused: 0, unread: 1\n|{told}\n|3"
+        )?;
+        assert_eq!(rt; found.as_str(), wanted.as_str(), "{file:?}");
+    }
+    let found = printed(&rt, plain(&["--format", "estree", "a", "b"], b""))?;
     assert_eq!(rt;
         found.as_str(),
         "|ecma-check: a tree or a page is of one file; give one FILE\n|3"
     );
+    Ok(())
+}
+
+#[test]
+fn writers_that_fail(rt: HostRuntime) -> Result<(), Fail> {
+    let unwritten = "ecma-check: cannot write standard output\n|3";
+    let rows: [(&[&str], &[u8], usize, &str); 4] = [
+        // Within a fault; the next file is not read.
+        (&["--format", "json", "-", "nosuch"], b"break", 4, "{\"fi"),
+        // Within the line that sums up.
+        (&[], b"a", 6, "files:"),
+        // At the end.
+        (&["--format", "json"], b"a", 0, ""),
+        (&["--help"], b"", 4, "Tell"),
+    ];
+    for (words, input, room, begin) in rows {
+        let found = printed(
+            &rt,
+            Given {
+                room,
+                ..plain(words, input)
+            },
+        )?;
+        let wanted = format!(in rt.alloc(); "{begin}|{unwritten}")?;
+        assert_eq!(rt; found.as_str(), wanted.as_str());
+    }
+    Ok(())
+}
+
+#[test]
+fn words_that_cannot_be_had(rt: HostRuntime) -> Result<(), Fail> {
+    let words = Err(io::Error::from(io::ErrorKind::InvalidData));
+    let found = ended(&rt, words, plain(&[], b"a"))?;
+    assert_eq!(rt; found.as_str(), "|ecma-check: a word is not UTF-8\n|3");
+    let words = Err(io::Error::from(io::ErrorKind::OutOfMemory));
+    let found = ended(&rt, words, plain(&[], b"a"))?;
+    assert_eq!(rt; found.as_str(), "|ecma-check: out of memory\n|3");
     Ok(())
 }
 
@@ -213,7 +316,7 @@ fn a_line_that_is_cut(rt: HostRuntime) -> Result<(), Fail> {
         ),
     ];
     for (text, wanted) in rows {
-        let found = printed(&rt, &["--script"], text.as_bytes(), false, 1000)?;
+        let found = printed(&rt, plain(&["--script"], text.as_bytes()))?;
         assert_eq!(rt; found.as_str(), wanted, "{text:?}");
     }
     Ok(())
@@ -221,22 +324,56 @@ fn a_line_that_is_cut(rt: HostRuntime) -> Result<(), Fail> {
 
 #[test]
 fn the_other_files_go_on(rt: HostRuntime) -> Result<(), Fail> {
-    let found = printed(&rt, &["nosuch", "-"], b"break", false, 1000)?;
+    let found = printed(&rt, plain(&["nosuch", "-", "/", "-"], b"break"))?;
     assert_eq!(rt;
         found.as_str(),
-        "-:1:1: fault [TS1105]: `break` stands outside of loops and of `switch`; move it into one, or name a label around it (ECMA-262, 14.9.1)\nbreak\n^^^^^\nfiles: 2, faults: 1, refused: 0, unread: 1\n|nosuch: there is no such file\n|3"
+        "-:1:1: fault [TS1105]: `break` stands outside of loops and of `switch`; move it into one, or name a label around it (ECMA-262, 14.9.1)\nbreak\n^^^^^\nfiles: 4, faults: 1, refused: 0, unread: 2\n|nosuch: there is no such file\n/: it is a directory\n|3"
     );
     Ok(())
 }
 
 #[test]
+fn goals_and_limits(rt: HostRuntime) -> Result<(), Fail> {
+    let rows = [
+        (
+            ["--script", "--limit", "9"],
+            "import 'a'",
+            "\"kind\":\"ImportExportInScript\"",
+            "\n||2",
+        ),
+        (["--module", "--limit", "9"], "import 'a'", "", "||0"),
+        (["--program", "--limit", "9"], "import 'a'", "", "||0"),
+        (
+            ["--module", "--limit", "9"],
+            "with (a) b",
+            "\"kind\":\"WithInStrict\"",
+            "\n||1",
+        ),
+        (["--program", "--limit", "9"], "with (a) b", "", "||0"),
+        (
+            ["--script", "--limit", "0"],
+            "a",
+            "\"kind\":\"TooDeep\"",
+            "\n||2",
+        ),
+    ];
+    for ([goal, limit, levels], text, part, end) in rows {
+        let words = [goal, limit, levels, "--format", "json"];
+        let found = printed(&rt, plain(&words, text.as_bytes()))?;
+        let found = found.as_str();
+        assert!(rt; found.contains(part) && found.ends_with(end), "{found:?}");
+    }
+    Ok(())
+}
+
+#[test]
 fn what_is_wrong_in_a_condition(rt: HostRuntime) -> Result<(), Fail> {
-    let found = printed(&rt, &["--script"], b"if ()", false, 1000)?;
+    let found = printed(&rt, plain(&["--script"], b"if ()"))?;
     assert_eq!(rt;
         found.as_str(),
         "-:1:5: refused [WithLabel]: no rule reads this; an expression is wanted in its place (ECMA-262, Annex A)\nif ()\n    ^\n-:1:1: note: it stands in the condition of this `if`\nif ()\n^^\nfiles: 1, faults: 1, refused: 1, unread: 0\n||2"
     );
-    let found = printed(&rt, &["--script", "--format", "json"], b"{a", false, 1000)?;
+    let found = printed(&rt, plain(&["--script", "--format", "json"], b"{a"))?;
     assert_eq!(rt;
         found.as_str(),
         "{\"file\":\"-\",\"severity\":\"fault\",\"kind\":\"Expected\",\"message\":\"`}` is wanted behind this, where the text ends (ECMA-262, Annex A)\",\"byteStart\":1,\"byteEnd\":2,\"start\":1,\"end\":2,\"line\":1,\"column\":2,\"endLine\":1,\"endColumn\":3}\n||1"
@@ -248,10 +385,10 @@ fn what_is_wrong_in_a_condition(rt: HostRuntime) -> Result<(), Fail> {
 fn what_is_enabled(rt: HostRuntime) -> Result<(), Fail> {
     let found = printed(
         &rt,
-        &["--enable", "return-outside-function", "--format", "json"],
-        b"return",
-        false,
-        1000,
+        plain(
+            &["--enable", "return-outside-function", "--format", "json"],
+            b"return",
+        ),
     )?;
     assert_eq!(rt; found.as_str(), "||0");
     Ok(())
@@ -270,19 +407,14 @@ fn words_that_are_no_command(rt: HostRuntime) -> Result<(), Fail> {
         ),
     ];
     for (words, begin) in rows {
-        let found = printed(&rt, &words, b"", false, 1000)?;
+        let found = printed(&rt, plain(&words, b""))?;
         let found = found.as_str();
         assert!(rt;
             found.starts_with(begin) && found.ends_with("\n|3"),
             "{found:?}"
         );
     }
-    let found = printed(&rt, &["--help"], b"", false, 10_000)?;
+    let found = printed(&rt, plain(&["--help"], b""))?;
     assert!(rt; found.as_str().contains("--enable <FLAG>") && found.as_str().ends_with("||0"));
-    let found = printed(&rt, &["--help"], b"", false, 4)?;
-    assert_eq!(rt;
-        found.as_str(),
-        "Tell|ecma-check: cannot write standard output\n|3"
-    );
     Ok(())
 }

@@ -1,29 +1,17 @@
 -- The words of faults, one behind another.
-use Rattle.std.proofs.Common.{◌≡◌, ◌∙◌, ℕ, List, [], ◌∷◌, ◌++◌, ◌+◌, ◌≤◌, ◌<◌, absurd, ap, arith, drop, get_or, length, length-drop, refl, subst, sym, take}
+use Rattle.std.proofs.Common.{◌≡◌, ◌∙◌, ℕ, List, [], ◌∷◌, ◌++◌, ◌+◌, ◌≤◌, ◌<◌, ap, arith, drop, get_or, length, length-drop, refl, subst, sym, take}
 use Rattle.std.specs.List.{AllZip}
-use Rattle.std.proofs.lemmas.List.{take_more, take-append-le, drop-append-le}
+use Rattle.std.proofs.lemmas.List.{drop-append-le, drop_at, take-append-le, take_all, take_at, take_more}
 use Rattle.std.proofs.lemmas.Slice.Zip.{all_zipped_more}
 use Rattle.ecma_answers.specs.declared.told.Told.{Told}
 use Rattle.ecma_link.specs.declared.faults.EcmaFault.{EcmaFault}
 use Rattle.ecma_link.specs.Faults.{AreFaults, IsFault, piece}
 
-take_front : (b c : List ℕ) → take (length b) (b ++ c) ≡ b
-take_front [] c = refl
-take_front (x ∷ b) c = ap (λ r. x ∷ r) (take_front b c)
-
-drop_front : (a b : List ℕ) → drop (length a) (a ++ b) ≡ b
-drop_front [] b = refl
-drop_front (x ∷ a) b = drop_front a b
-
 pub first_piece : (a b c : List ℕ) → piece (a ++ (b ++ c)) (length a) (length b) ≡ b
-first_piece a b c = ap (take (length b)) (drop_front a (b ++ c)) ∙ take_front b c
-
-take_whole : (b : List ℕ) → take (length b) b ≡ b
-take_whole [] = refl
-take_whole (x ∷ b) = ap (λ r. x ∷ r) (take_whole b)
+first_piece a b c = ap (take (length b)) (drop_at a (b ++ c) _ refl) ∙ take_at b c _ refl
 
 pub last_piece : (a b : List ℕ) → piece (a ++ b) (length a) (length b) ≡ b
-last_piece a b = ap (take (length b)) (drop_front a b) ∙ take_whole b
+last_piece a b = ap (take (length b)) (drop_at a b _ refl) ∙ take_all (length b) b (omega arith)
 
 -- what is read of some bytes is read of more bytes too
 piece_more : (a c : List ℕ) (at n : ℕ) → at + n ≤ length a → piece (a ++ c) at n ≡ piece a at n

@@ -1,7 +1,5 @@
 -- What is asked for by numbers.
-use Rattle.std.specs.Prelude.{ℕ, zero, suc, Bool, not, true, false, ◌==◌, if◌then◌else◌, Option, Some, None}
-use Rattle.std.specs.Int.Bits.{bit_and}
-use Rattle.std.specs.Int.{min}
+use Rattle.std.specs.Prelude.{ℕ, Bool, not, ◌==◌, bit_and, if◌then◌else◌, min, Option, Some, None}
 use Rattle.swc_ecma_parser_input.specs.declared.syntax.Syntax.{Syntax}
 use Rattle.swc_ecma_parser_input.specs.declared.syntax.Syntax.TheVariants as syntax
 use Rattle.ecma_answers.specs.declared.options.Goal.{Goal}
@@ -14,10 +12,7 @@ abbrev pub has : (flags bit : ℕ) → Bool
 has flags bit = not (bit_and flags bit == 0)
 
 abbrev pub goal_of : ℕ → Option Goal
-goal_of 0 = Some goal.Script
-goal_of 1 = Some goal.Module
-goal_of 2 = Some goal.Program
-goal_of _ = None
+goal_of n = if n == 0 then Some goal.Script else (if n == 1 then Some goal.Module else (if n == 2 then Some goal.Program else None))
 
 -- what is read besides ECMA-262
 abbrev pub syntax_of : ℕ → Syntax

@@ -1,5 +1,5 @@
 -- What a call answers.
-use Rattle.std.specs.Prelude.{◌≡◌, ◌×◌, ◌<◌, ◌≤◌, ℕ, List, [], Option, Some, Result, Ok, Err, IsUtf8, length, take}
+use Rattle.std.specs.Prelude.{◌≡◌, ◌<◌, ◌≤◌, ◌^◌, ℕ, List, [], None, Some, Result, Ok, Err, IsUtf8, length, take}
 use Rattle.swc_ecma_parser_error.specs.declared.error.Error.{Error}
 use Rattle.ecma_answers.specs.declared.options.Options.{Options}
 use Rattle.ecma_answers.specs.declared.parsing.Outcome.{Outcome}
@@ -15,6 +15,20 @@ use Rattle.ecma_link.specs.declared.failure.Failure.{Failure}
 use Rattle.ecma_link.specs.declared.failure.Failure.TheVariants as failure
 use Rattle.ecma_link.specs.declared.options.EcmaOptions.{EcmaOptions}
 use Rattle.ecma_link.specs.Asked.{asked}
+
+-- what is wrong with a text, before it is read
+abbrev pub IsBadText : List ℕ → Failure → Type 0
+IsBadText text failure.NotUtf8 = ¬ IsUtf8 text
+IsBadText text failure.TooLong = 2 ^ 32 ≤ length text
+IsBadText text _ = ⊥
+
+-- Why a text is not answered, but for want of room: that memory ran out is not told by what is given.
+abbrev pub IsReason : EcmaOptions → List ℕ → Failure → Type 0
+IsReason given text failure.TooShort = ⊥
+IsReason given text failure.OutOfMemory = Unit {0}
+IsReason given text failure.NotUtf8 = ¬ IsUtf8 text
+IsReason given text failure.TooLong = 2 ^ 32 ≤ length text
+IsReason given text failure.UnknownOption = asked given ≡ None
 
 -- the tree as ESTree, or nothing where there is none
 abbrev pub IsTreeAlone : Options → List ℕ → Result Tree Error → List ℕ → Type 0
@@ -32,8 +46,8 @@ IsCall w given text outcome out =
     IsUtf8 text × ((o : Options) × (asked given ≡ Some o) × ((r : Reading) × Decides o text r
     × (outcome ≡ outcome_of r.tree r.faults.items) × IsWritten w o text r out))
 
--- How a call ends that has a room of bytes: its front is the answer, or it stays as it was.
+-- How a call ends that has a room of bytes: its front is the answer, or it stays as it was, for that reason.
 abbrev pub Ends : Wanted → EcmaOptions → List ℕ → Result Outcome Failure → (old new : List ℕ) → (needed : ℕ) → Type 0
 Ends w given text (Ok outcome) old new needed = (needed ≤ length new) × IsCall w given text outcome (take needed new)
 Ends w given text (Err failure.TooShort) old new needed = (new ≡ old) × (length old < needed)
-Ends w given text (Err f) old new needed = new ≡ old
+Ends w given text (Err f) old new needed = (new ≡ old) × IsReason given text f

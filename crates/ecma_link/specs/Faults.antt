@@ -1,5 +1,5 @@
 -- Faults as C takes them.
-use Rattle.std.specs.Prelude.{◌≡◌, ◌+◌, ◌≤◌, ◌<◌, ◌⊎◌, ℕ, List, [], ◌∷◌, ◌++◌, if◌then◌else◌, Result, Ok, Err, IsUtf8, Some, drop, length, string_bytes, take}
+use Rattle.std.specs.Prelude.{◌≡◌, ◌+◌, ◌≤◌, ◌<◌, ◌⊎◌, ℕ, List, ◌++◌, if◌then◌else◌, Result, Ok, Err, IsUtf8, Some, drop, length, string_bytes, take}
 use Rattle.std.specs.List.{AllZip}
 use Rattle.ecma_answers.specs.declared.options.Options.{Options}
 use Rattle.ecma_answers.specs.declared.parsing.Outcome.{Outcome}
@@ -10,6 +10,7 @@ use Rattle.ecma_answers.specs.Outcomes.{outcome_of}
 use Rattle.ecma_answers.specs.Spelled.{Decides}
 use Rattle.ecma_answers.specs.Told.{AllTold}
 use Rattle.ecma_link.specs.Asked.{asked}
+use Rattle.ecma_link.specs.Calls.{IsReason}
 use Rattle.ecma_link.specs.declared.failure.Failure.{Failure}
 use Rattle.ecma_link.specs.declared.failure.Failure.TheVariants as failure
 use Rattle.ecma_link.specs.declared.faults.EcmaFault.{EcmaFault}
@@ -47,8 +48,12 @@ IsCall given text outcome faults words =
     IsUtf8 text × ((o : Options) × (asked given ≡ Some o) × ((r : Reading) × Decides o text r
     × (outcome ≡ outcome_of r.tree r.faults.items) × ((told : List Told) × AllTold text r.tree r.faults.items told × AreFaults words told faults)))
 
--- How a call ends that has a room of faults and one of bytes: their fronts are the answer, or both stay as they were.
-pub record Ends (given : EcmaOptions) (text : List ℕ) (end : Result Outcome Failure) (faults more : List EcmaFault) (words further : List ℕ) (needed : EcmaNeeded) : Type 0 where
-  pub done : (outcome : Outcome) → end ≡ Ok outcome → IsCall given text outcome (take needed.faults more) (take needed.words further)
-  pub short : end ≡ Err failure.TooShort → (length faults < needed.faults) ⊎ (length words < needed.words)
-  pub kept : (f : Failure) → end ≡ Err f → (more ≡ faults) × (further ≡ words)
+-- How a call ends that has a room of faults and one of bytes: their fronts are the answer, or both stay as they were, for that reason.
+abbrev pub Ends : EcmaOptions → List ℕ → Result Outcome Failure → (old_faults new_faults : List EcmaFault) → (old_words new_words : List ℕ) → EcmaNeeded → Type 0
+Ends given text (Ok outcome) old_faults new_faults old_words new_words needed =
+    (needed.faults ≤ length new_faults) × (needed.words ≤ length new_words)
+    × IsCall given text outcome (take needed.faults new_faults) (take needed.words new_words)
+Ends given text (Err failure.TooShort) old_faults new_faults old_words new_words needed =
+    (new_faults ≡ old_faults) × (new_words ≡ old_words) × ((length old_faults < needed.faults) ⊎ (length old_words < needed.words))
+Ends given text (Err f) old_faults new_faults old_words new_words needed =
+    (new_faults ≡ old_faults) × (new_words ≡ old_words) × IsReason given text f

@@ -1,7 +1,7 @@
 //! Answers as bytes.
 
-ghost use Rattle.std.specs.Prelude.{◌≡◌, ◌<◌, ◌^◌, IfOk, IfErr, length};
-ghost use Rattle.ecma_link.specs.Calls.{Ends, IsCall, IsWritten};
+ghost use Rattle.std.specs.Prelude.{◌<◌, ◌^◌, IfOk, IfErr, length};
+ghost use Rattle.ecma_link.specs.Calls.{Ends, IsCall, IsReason, IsWritten};
 
 use crate::failure::Failure;
 use crate::given::text_of;
@@ -45,14 +45,16 @@ fn written(
 }
 
 /// What a text is answered with.
+#[tactic(auto, using(crate::proofs::Reasons::unknown, crate::proofs::Reasons::no_memory, crate::proofs::Reasons::bad_text))]
 fn answer_of(
     alloc: Global,
     wanted: Wanted,
     text: &[u8],
     options: &EcmaOptions,
 ) -> Result<Answered, Failure>
-    ensures answer { IfOk result (λ it. IsCall wanted options.now text.now it.outcome it.bytes.items) }
-    ensures failure { IfErr result (λ failure. failure ≡ Failure.TooShort → ⊥) }
+    ensures answer { IfOk result
+        (λ it. IsCall wanted options.now text.now it.outcome it.bytes.items) }
+    ensures failure { IfErr result (IsReason options.now text.now) }
 {
     let options = options_of(options)?;
     let text = text_of(text)?;
@@ -67,6 +69,7 @@ fn answer_of(
 }
 
 /// Writes what a text is answered with to the front of a room, if that is long enough. `needed` becomes its length.
+#[tactic(auto, using(crate::proofs::Reasons::unanswered, crate::proofs::Reasons::too_short, crate::proofs::Reasons::answered))]
 pub(crate) fn put_answer(
     alloc: Global,
     wanted: Wanted,

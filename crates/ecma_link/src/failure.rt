@@ -1,5 +1,8 @@
 //! Why a call comes to no answer.
 
+ghost use Rattle.std.specs.Prelude.{◌≡◌};
+ghost use Rattle.ecma_link.specs.declared.failure.Failure.TheVariants.{OutOfMemory};
+
 use std::alloc::AllocError;
 
 /// Why a call comes to no answer.
@@ -18,6 +21,8 @@ pub(crate) enum Failure {
 }
 
 impl From<AllocError> for Failure {
+    ghost from_gives = { λ _ failure. failure ≡ OutOfMemory };
+
     fn from(_: AllocError) -> Failure {
         Failure::OutOfMemory
     }

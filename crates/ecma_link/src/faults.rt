@@ -1,6 +1,7 @@
 //! Faults one by one.
 
-ghost use Rattle.std.specs.Prelude.{◌≡◌, ◌++◌, IfOk, OnOk};
+ghost use Rattle.std.specs.Prelude.{◌≡◌, ◌++◌, IfErr, IfOk, OnOk};
+ghost use Rattle.ecma_link.specs.Calls.{IsReason};
 ghost use Rattle.ecma_link.specs.Faults as list;
 ghost use Rattle.ecma_link.specs.Faults.{AreFaults, Ends, IsCall, IsFault, words_of};
 
@@ -112,8 +113,11 @@ fn listed(alloc: Global, outcome: Outcome, told: &[Told]) -> Result<Found, Alloc
 }
 
 /// The faults of a text.
+#[tactic(auto, using(crate::proofs::Reasons::unknown, crate::proofs::Reasons::no_memory, crate::proofs::Reasons::bad_text))]
 fn read_faults(alloc: Global, text: &[u8], options: &EcmaOptions) -> Result<Found, Failure>
-    ensures { IfOk result (λ it. IsCall options.now text.now it.outcome it.faults.items it.words.items) }
+    ensures found { IfOk result
+        (λ it. IsCall options.now text.now it.outcome it.faults.items it.words.items) }
+    ensures failure { IfErr result (IsReason options.now text.now) }
 {
     let options = options_of(options)?;
     let text = text_of(text)?;
@@ -125,6 +129,7 @@ fn read_faults(alloc: Global, text: &[u8], options: &EcmaOptions) -> Result<Foun
 }
 
 /// Writes the faults of a text and their words to the fronts of two rooms, if both are long enough. `needed` becomes how much they take.
+#[tactic(auto, using(crate::proofs::Reasons::unanswered_faults, crate::proofs::Reasons::too_short_for_words, crate::proofs::Reasons::answered_faults))]
 pub(crate) fn put_faults(
     alloc: Global,
     text: &[u8],
@@ -133,7 +138,8 @@ pub(crate) fn put_faults(
     words: &mut [u8],
     needed: &mut EcmaNeeded,
 ) -> Result<Outcome, Failure>
-    ensures { Ends options.now text.now result faults.old faults.new words.old words.new needed.new }
+    ensures { Ends options.now text.now result faults.old faults.new words.old words.new
+        needed.new }
 {
     *needed = EcmaNeeded {
         faults: 0,

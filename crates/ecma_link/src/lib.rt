@@ -34,7 +34,8 @@ pub extern "C" fn ecma_parse(
     out: &mut [u8],
     needed: &mut usize,
 ) -> i32
-    ensures { (end : Result Outcome Failure) × (result ≡ number_of end) × Ends Wanted.Answer options.now text.now end out.old out.new needed.new }
+    ensures { (end : Result Outcome Failure) × (result ≡ number_of end)
+        × Ends Wanted.Answer options.now text.now end out.old out.new needed.new }
 {
     status_of(put_answer(alloc, Wanted::Answer, text, options, out, needed))
 }
@@ -48,7 +49,8 @@ pub extern "C" fn ecma_parse_tree(
     out: &mut [u8],
     needed: &mut usize,
 ) -> i32
-    ensures { (end : Result Outcome Failure) × (result ≡ number_of end) × Ends Wanted.Tree options.now text.now end out.old out.new needed.new }
+    ensures { (end : Result Outcome Failure) × (result ≡ number_of end)
+        × Ends Wanted.Tree options.now text.now end out.old out.new needed.new }
 {
     status_of(put_answer(alloc, Wanted::Tree, text, options, out, needed))
 }
@@ -64,7 +66,9 @@ pub extern "C" fn ecma_parse_faults(
     words: &mut [u8],
     needed: &mut EcmaNeeded,
 ) -> i32
-    ensures { (end : Result Outcome Failure) × (result ≡ number_of end) × EndsWithFaults options.now text.now end faults.old faults.new words.old words.new needed.new }
+    ensures { (end : Result Outcome Failure) × (result ≡ number_of end)
+        × EndsWithFaults options.now text.now end faults.old faults.new words.old words.new
+        needed.new }
 {
     status_of(put_faults(alloc, text, options, faults, words, needed))
 }

@@ -48,7 +48,8 @@ const UNKNOWN: u32 = 0xffff_f080;
 
 /// What a number names, if it names something.
 fn goal_of(number: u32) -> Result<Goal, Failure>
-    ensures { MatchResult result (λ goal. named.goal_of number ≡ Some goal) (λ failure. (named.goal_of number ≡ None) × (failure ≡ Failure.UnknownOption)) }
+    ensures { MatchResult result (λ goal. named.goal_of number ≡ Some goal)
+        (λ failure. (named.goal_of number ≡ None) × (failure ≡ Failure.UnknownOption)) }
 {
     match number {
         0 => Ok(Goal::Script),
@@ -75,7 +76,8 @@ fn syntax_of(flags: u32) -> Syntax
 
 /// What is asked for, if all of it is known.
 pub(crate) fn options_of(options: &EcmaOptions) -> Result<Options, Failure>
-    ensures { MatchResult result (λ it. asked options.now ≡ Some it) (λ failure. (asked options.now ≡ None) × (failure ≡ Failure.UnknownOption)) }
+    ensures { MatchResult result (λ it. asked options.now ≡ Some it)
+        (λ failure. (asked options.now ≡ None) × (failure ≡ Failure.UnknownOption)) }
 {
     let flags = options.flags;
     if flags & UNKNOWN != 0 {

@@ -6,8 +6,11 @@ use crate::failure::Failure;
 
 /// Copies items to the front of a room, if that is long enough.
 pub(crate) fn put<T: Copy>(items: &[T], room: &mut [T]) -> Result<(), Failure>
-    ensures done { OnOk result ((length items.now ≤ length room.new) × (take (length items.now) room.new ≡ items.now)) }
-    ensures short { IfErr result (λ failure. (failure ≡ Failure.TooShort) × (room.new ≡ room.old) × (length room.old < length items.now)) }
+    ensures done { OnOk result
+        ((length items.now ≤ length room.new) × (take (length items.now) room.new ≡ items.now)) }
+    ensures short { IfErr result
+        (λ failure. (failure ≡ Failure.TooShort) × (room.new ≡ room.old)
+        × (length room.old < length items.now)) }
 {
     if room.len() < items.len() {
         return Err(Failure::TooShort);
