@@ -65,8 +65,10 @@ static int32_t write_tree(const uint8_t *text, size_t length, const EcmaOptions 
         out = malloc(needed);
         status = out ? ecma_parse_tree(text, length, options, out, needed, &needed) : ECMA_OUT_OF_MEMORY;
     }
-    if (status == ECMA_CLEAN || status == ECMA_FAULTY)
-        printf("%.*s\n", (int)needed, (const char *)out);
+    if (status == ECMA_CLEAN || status == ECMA_FAULTY) {
+        fwrite(out, 1, needed, stdout);
+        putchar('\n');
+    }
     free(out);
     return status;
 }

@@ -18,7 +18,7 @@ static uint8_t *text_of(napi_env env, napi_value value, size_t *length)
 /* Parses in a room that is guessed, and once more where it was too short. */
 static int32_t parsed(const uint8_t *text, size_t length, const EcmaOptions *options, uint8_t **out, size_t *needed)
 {
-    size_t room = 4096 + length * (options->flags & 0xf00 ? 128 : 48);
+    size_t room = 4096 + length * (options->flags & 0xf00 ? 128 : 64);
     for (;;) {
         *out = malloc(room);
         if (!*out)
