@@ -110,7 +110,10 @@ function stackOf(module, text, limit) {
   new Uint8Array(it.memory.buffer).set(text, Number(from));
   new Uint32Array(it.memory.buffer, Number(at), 3).set([0, limit, 0]);
   it.ecma_parse(from, BigInt(text.length), at, to, room, at + options);
-  return STACK - new Uint8Array(it.memory.buffer, 0, STACK).findIndex(byte => byte !== 0);
+  const words = new Uint32Array(it.memory.buffer, 0, STACK / 4);
+  let untouched = 0;
+  while (words[untouched] === 0) untouched++;
+  return STACK - 4 * untouched;
 }
 
 /** Says which nests take most of the stack in the module's memory for each level, and how much a call takes besides. */
