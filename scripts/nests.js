@@ -3,10 +3,11 @@
 // `pairs` for each of two, and for the worst texts of scripts/worst_pairs.tsv. An overflow is an error of the engine, never a wrong answer;
 // the package's own limit is to be well below the least of these.
 //
-// usage: node [--experimental-wasm-memory64] [--stack-size=KB] scripts/nests.js [check] [pairs] [addon]
+// usage: node [--experimental-wasm-memory64] [--stack-size=KB] scripts/nests.js [check | stack] [pairs] [addon]
 //
 // With `check` it says which nests overflow at the limit that is the package's default. With `check addon` the addon that ECMA_ADDON names
-// answers within 1,000 levels; an overflow ends the process there, so what is to be seen is that it ends by itself.
+// answers within 1,000 levels; an overflow ends the process there, so what is to be seen is that it ends by itself. With `stack` it says which
+// nests take most of the stack that lies in the module's memory, in bytes.
 
 const fs = require('node:fs');
 const path = require('node:path');
@@ -14,6 +15,8 @@ const { numbersOf, guessOf } = require('../npm/answer.js');
 const host = require('../npm/host.js');
 
 const MOST = 1000;
+/** The size of the stack that scripts/wasm links into the module. */
+const STACK = 8 << 20;
 const BEGINS = { statement: ['', ''], expression: ['x=', ''], pattern: ['var ', '=a'] };
 const INNERMOST = { statement: ';', expression: 'a', pattern: 'z' };
 
@@ -98,8 +101,37 @@ function measure(all) {
   console.log(`${found.length} nests; each fits ${found[0][0]} levels`);
 }
 
+/** How many bytes of the stack in the module's memory a text takes: it lies below all else, grows down from its end, and holds zeros before. */
+function stackOf(module, text, limit) {
+  const it = new WebAssembly.Instance(module, {}).exports;
+  const [options, room] = [16n, BigInt(guessOf(text.length, 0))];
+  it.ecma_reset();
+  const [at, from, to] = [it.ecma_room(options + 8n), it.ecma_room(BigInt(text.length + 1)), it.ecma_room(room)];
+  new Uint8Array(it.memory.buffer).set(text, Number(from));
+  new Uint32Array(it.memory.buffer, Number(at), 3).set([0, limit, 0]);
+  it.ecma_parse(from, BigInt(text.length), at, to, room, at + options);
+  const words = new Uint32Array(it.memory.buffer, 0, STACK / 4);
+  let untouched = 0;
+  while (words[untouched] === 0) untouched++;
+  return STACK - 4 * untouched;
+}
+
+/** Says which nests take most of the stack in the module's memory for each level, and how much a call takes besides. */
+function measureStack(all) {
+  const module = new WebAssembly.Module(fs.readFileSync(path.join(__dirname, '../npm/ecma.wasm')));
+  const [few, many] = [50, 250];
+  const found = all.map(nest => {
+    const text = opened(nest, MOST + 100);
+    const [low, high] = [few, many].map(limit => stackOf(module, new TextEncoder().encode(text), limit));
+    const each = (high - low) / (many - few);
+    return [each, low - few * each, opened(nest, 1)];
+  });
+  found.sort((a, b) => b[0] - a[0]);
+  for (const [each, besides, text] of found.slice(0, 10)) console.log(`${each.toFixed(0)} bytes a level and ${besides.toFixed(0)}  ${text}`);
+}
+
 /** The texts that each nest is tried with: more levels than any limit lets through, and as many as a limit lets. */
 const textsWithin = limit => nests().flatMap(nest => [opened(nest, MOST + 100), deepest(nest, limit)]);
 
-if (require.main === module) (asked('check') ? check : measure)(nests());
+if (require.main === module) (asked('check') ? check : asked('stack') ? measureStack : measure)(nests());
 module.exports = { textsWithin };
