@@ -180,7 +180,7 @@ fn a_page(rt: HostRuntime) -> Result<(), Fail> {
         ),
         (
             "a '<",
-            "<script type=\"application/json\" id=\"source\">\"a '\\u003c\"</script>\n<script type=\"application/json\" id=\"faults\">{\"file\":\"-\",\"severity\":\"refused\",",
+            "<script type=\"application/json\" id=\"source\">\"a '\\u003c\"</script>\n<script type=\"application/json\" id=\"faults\">{\"file\":\"-\",\"severity\":\"fault\",\"kind\":\"UnterminatedStrLit\",",
             "</script>\n<script type=\"application/json\" id=\"tree\">null</script>\n<script>\nreadTree();\n</script>\n</body>\n</html>\n||2",
         ),
     ];
