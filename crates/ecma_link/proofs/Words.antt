@@ -39,8 +39,8 @@ all_more a c [] (f ∷ fs) h = absurd h
 all_more a c (t ∷ ts) [] h = absurd h
 all_more a c (t ∷ ts) (f ∷ fs) h = (fault_more a c t f h.0, all_more a c ts fs h.1)
 
-pub faults_more : (a c : List ℕ) (ts : List Told) (fs : List EcmaFault) (i : ℕ) (d : Told) (f : EcmaFault) → i < length ts
-    → AreFaults a (take i ts) fs → IsFault (a ++ c) (get_or ts i d) f → AreFaults (a ++ c) (take (i + 1) ts) (fs ++ (f ∷ []))
-faults_more a c ts fs i d f b all one =
-    subst (λ it. AreFaults (a ++ c) it (fs ++ (f ∷ []))) (sym (take_more ts i d b))
-    (all_zipped_more (IsFault (a ++ c)) (take i ts) fs (get_or ts i d) f (all_more a c (take i ts) fs all) one)
+pub faults_more : (a c new : List ℕ) (ts : List Told) (fs : List EcmaFault) (i : ℕ) (d : Told) (f : EcmaFault) → new ≡ a ++ c → i < length ts
+    → AreFaults a (take i ts) fs → IsFault new (get_or ts i d) f → AreFaults new (take (i + 1) ts) (fs ++ (f ∷ []))
+faults_more a c new ts fs i d f e b all one =
+    let before = subst (λ it. AreFaults it (take i ts) fs) (sym e) (all_more a c (take i ts) fs all) in
+    subst (λ it. AreFaults new it (fs ++ (f ∷ []))) (sym (take_more ts i d b)) (all_zipped_more (IsFault new) (take i ts) fs (get_or ts i d) f before one)

@@ -45,7 +45,7 @@ fn written(
 }
 
 /// What a text is answered with.
-#[tactic(auto, using(crate::proofs::Reasons::unknown, crate::proofs::Reasons::no_memory, crate::proofs::Reasons::bad_text))]
+#[tactic(auto, using(crate::proofs::Reasons::called, crate::proofs::Reasons::unknown, crate::proofs::Reasons::no_memory, crate::proofs::Reasons::bad_text))]
 fn answer_of(
     alloc: Global,
     wanted: Wanted,
@@ -82,7 +82,8 @@ pub(crate) fn put_answer(
 {
     *needed = 0;
     let Answered { outcome, bytes } = answer_of(alloc, wanted, text, options)?;
+    let bytes = bytes.as_slice();
     *needed = bytes.len();
-    put(bytes.as_slice(), out)?;
+    put(bytes, out)?;
     Ok(outcome)
 }
