@@ -1,5 +1,5 @@
 -- How a call ends, by what it came to.
-use Rattle.std.proofs.Common.{◌≡◌, ◌≤◌, ◌<◌, ℕ, List, ◌⊎◌, Err, None, Ok, Some, arith, inr, length, refl, subst, sym, take}
+use Rattle.std.proofs.Common.{◌≡◌, ◌∙◌, ◌≤◌, ◌<◌, ℕ, List, ◌⊎◌, Err, None, Ok, Some, arith, inr, length, refl, subst, sym, take}
 use Rattle.std.specs.Prelude.{IsUtf8}
 use Rattle.ecma_answers.specs.declared.options.Options.{Options}
 use Rattle.ecma_answers.specs.declared.parsing.Outcome.{Outcome}
@@ -60,12 +60,23 @@ answered w given text outcome bytes items old new needed h same e fits front =
 
 -- ---- a room of faults and one of bytes
 
-pub called_faults : (given : EcmaOptions) (text chars : List ℕ) (o : Options) (r : Reading) (outcome : Outcome) (told : List Told)
+pub called_faults : (given : EcmaOptions) (text chars : List ℕ) (o : Options) (r : Reading) (outcome : Outcome) (told slice : List Told)
     → (its : List EcmaFault) (words : List ℕ) → asked given ≡ Some o → chars ≡ text → IsUtf8 text → Decides o chars r
-    → outcome ≡ outcome_of r.tree r.faults.items → AllTold chars r.tree r.faults.items told → faults.AreFaults words told its
+    → outcome ≡ outcome_of r.tree r.faults.items → AllTold chars r.tree r.faults.items told → slice ≡ told → faults.AreFaults words slice its
     → faults.IsCall given text outcome its words
-called_faults given text chars o r outcome told its words e f utf8 decides out all are =
-    (utf8, (o, e, (r, subst (λ it. Decides o it r) f decides, out, (told, subst (λ it. AllTold it r.tree r.faults.items told) f all, are))))
+called_faults given text chars o r outcome told slice its words e f utf8 decides out all same are = (
+  utf8,
+  (
+    o,
+    e,
+    (
+      r,
+      subst (λ it. Decides o it r) f decides,
+      out,
+      (told, subst (λ it. AllTold it r.tree r.faults.items told) f all, subst (λ it. faults.AreFaults words it its) same are),
+    ),
+  ),
+)
 
 pub unanswered_faults : (given : EcmaOptions) (text : List ℕ) (f : Failure) (room : List EcmaFault) (words : List ℕ) (needed : EcmaNeeded)
     → IsReason given text f → faults.Ends given text (Err f) room room words words needed

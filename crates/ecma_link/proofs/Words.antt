@@ -1,5 +1,5 @@
 -- The words of faults, one behind another.
-use Rattle.std.proofs.Common.{◌≡◌, ◌∙◌, ℕ, List, [], ◌∷◌, ◌++◌, ◌+◌, ◌≤◌, ◌<◌, ap, arith, drop, get_or, length, length-drop, refl, subst, sym, take}
+use Rattle.std.proofs.Common.{◌≡◌, ◌∙◌, ℕ, List, [], ◌∷◌, ◌++◌, ◌+◌, ◌≤◌, ◌<◌, ap, arith, drop, get_or, length, length-append, length-drop, refl, subst, sym, take}
 use Rattle.std.specs.List.{AllZip}
 use Rattle.std.proofs.lemmas.List.{drop-append-le, drop_at, take-append-le, take_all, take_at, take_more}
 use Rattle.std.proofs.lemmas.Slice.Zip.{all_zipped_more}
@@ -20,7 +20,7 @@ piece_more a c at n b =
     ap (take n) (drop-append-le at a c (omega arith)) ∙ take-append-le n (drop at a) c (omega arith)
 
 within_more : (a c : List ℕ) (n : ℕ) → n ≤ length a → n ≤ length (a ++ c)
-within_more a c n b = grind (arith)
+within_more a c n b = let e = length-append a c in omega arith
 
 fault_more : (a c : List ℕ) (t : Told) (f : EcmaFault) → IsFault a t f → IsFault (a ++ c) t f
 fault_more a c t f h = record {

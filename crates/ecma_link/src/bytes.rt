@@ -45,7 +45,7 @@ fn written(
 }
 
 /// What a text is answered with.
-#[tactic(auto, using(crate::proofs::Reasons::called, crate::proofs::Reasons::unknown, crate::proofs::Reasons::no_memory, crate::proofs::Reasons::bad_text))]
+#[tactic(auto, using(crate::proofs::Reasons::unknown, crate::proofs::Reasons::no_memory, crate::proofs::Reasons::bad_text))]
 fn answer_of(
     alloc: Global,
     wanted: Wanted,

@@ -113,7 +113,7 @@ fn listed(alloc: Global, outcome: Outcome, told: &[Told]) -> Result<Found, Alloc
 }
 
 /// The faults of a text.
-#[tactic(auto, using(crate::proofs::Reasons::called_faults, crate::proofs::Reasons::unknown, crate::proofs::Reasons::no_memory, crate::proofs::Reasons::bad_text))]
+#[tactic(auto, using(crate::proofs::Reasons::unknown, crate::proofs::Reasons::no_memory, crate::proofs::Reasons::bad_text))]
 fn read_faults(alloc: Global, text: &[u8], options: &EcmaOptions) -> Result<Found, Failure>
     ensures found { IfOk result
         (λ it. IsCall options.now text.now it.outcome it.faults.items it.words.items) }
