@@ -1,5 +1,5 @@
 -- The words of faults, one behind another.
-use Rattle.std.proofs.Common.{◌≡◌, ◌∙◌, ℕ, List, [], ◌∷◌, ◌++◌, ◌+◌, ◌≤◌, ◌<◌, ap, arith, drop, get_or, length, length-drop, refl, subst, sym, take}
+use Rattle.std.proofs.Common.{◌≡◌, ◌∙◌, ℕ, List, [], ◌∷◌, ◌++◌, ◌+◌, ◌≤◌, ◌<◌, ap, arith, drop, get_or, length, length-append, length-drop, refl, subst, sym, take}
 use Rattle.std.specs.List.{AllZip}
 use Rattle.std.proofs.lemmas.List.{drop-append-le, drop_at, take-append-le, take_all, take_at, take_more}
 use Rattle.std.proofs.lemmas.Slice.Zip.{all_zipped_more}
@@ -20,7 +20,7 @@ piece_more a c at n b =
     ap (take n) (drop-append-le at a c (omega arith)) ∙ take-append-le n (drop at a) c (omega arith)
 
 within_more : (a c : List ℕ) (n : ℕ) → n ≤ length a → n ≤ length (a ++ c)
-within_more a c n b = grind (arith)
+within_more a c n b = let e = length-append a c in omega arith
 
 fault_more : (a c : List ℕ) (t : Told) (f : EcmaFault) → IsFault a t f → IsFault (a ++ c) t f
 fault_more a c t f h = record {
@@ -39,8 +39,8 @@ all_more a c [] (f ∷ fs) h = absurd h
 all_more a c (t ∷ ts) [] h = absurd h
 all_more a c (t ∷ ts) (f ∷ fs) h = (fault_more a c t f h.0, all_more a c ts fs h.1)
 
-pub faults_more : (a c : List ℕ) (ts : List Told) (fs : List EcmaFault) (i : ℕ) (d : Told) (f : EcmaFault) → i < length ts
-    → AreFaults a (take i ts) fs → IsFault (a ++ c) (get_or ts i d) f → AreFaults (a ++ c) (take (i + 1) ts) (fs ++ (f ∷ []))
-faults_more a c ts fs i d f b all one =
-    subst (λ it. AreFaults (a ++ c) it (fs ++ (f ∷ []))) (sym (take_more ts i d b))
-    (all_zipped_more (IsFault (a ++ c)) (take i ts) fs (get_or ts i d) f (all_more a c (take i ts) fs all) one)
+pub faults_more : (a c new : List ℕ) (ts : List Told) (fs : List EcmaFault) (i : ℕ) (d : Told) (f : EcmaFault) → new ≡ a ++ c → i < length ts
+    → AreFaults a (take i ts) fs → IsFault new (get_or ts i d) f → AreFaults new (take (i + 1) ts) (fs ++ (f ∷ []))
+faults_more a c new ts fs i d f e b all one =
+    let before = subst (λ it. AreFaults it (take i ts) fs) (sym e) (all_more a c (take i ts) fs all) in
+    subst (λ it. AreFaults new it (fs ++ (f ∷ []))) (sym (take_more ts i d b)) (all_zipped_more (IsFault new) (take i ts) fs (get_or ts i d) f before one)

@@ -82,7 +82,8 @@ pub(crate) fn put_answer(
 {
     *needed = 0;
     let Answered { outcome, bytes } = answer_of(alloc, wanted, text, options)?;
+    let bytes = bytes.as_slice();
     *needed = bytes.len();
-    put(bytes.as_slice(), out)?;
+    put(bytes, out)?;
     Ok(outcome)
 }

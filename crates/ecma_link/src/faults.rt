@@ -129,7 +129,7 @@ fn read_faults(alloc: Global, text: &[u8], options: &EcmaOptions) -> Result<Foun
 }
 
 /// Writes the faults of a text and their words to the fronts of two rooms, if both are long enough. `needed` becomes how much they take.
-#[tactic(auto, using(crate::proofs::Reasons::unanswered_faults, crate::proofs::Reasons::too_short_for_words, crate::proofs::Reasons::answered_faults))]
+#[tactic(auto, using(crate::proofs::Reasons::unanswered_faults, crate::proofs::Reasons::too_short_for_words, crate::proofs::Reasons::answered_faults, crate::proofs::Reasons::no_room))]
 pub(crate) fn put_faults(
     alloc: Global,
     text: &[u8],
@@ -146,14 +146,16 @@ pub(crate) fn put_faults(
         words: 0,
     };
     let found = read_faults(alloc, text, options)?;
+    let items = found.faults.as_slice();
+    let bytes = found.words.as_slice();
     *needed = EcmaNeeded {
-        faults: found.faults.len(),
-        words: found.words.len(),
+        faults: items.len(),
+        words: bytes.len(),
     };
-    if faults.len() < found.faults.len() {
+    if faults.len() < items.len() {
         return Err(Failure::TooShort);
     }
-    put(found.words.as_slice(), words)?;
-    put(found.faults.as_slice(), faults)?;
+    put(bytes, words)?;
+    put(items, faults)?;
     Ok(found.outcome)
 }
