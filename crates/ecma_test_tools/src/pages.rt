@@ -22,7 +22,7 @@ fn page(alloc: Global, text: &str) -> Result<Vec<u8>, AllocError> {
 }
 
 const BLOCKS: &str = r#"<script type="application/json" id="name">"a.js"</script>
-<script type="application/json" id="source">"a \u003c \"b\\u003c/script>\""</script>
+<script type="application/json" id="source">"a \u003c \"b\u003c/script>\""</script>
 <script type="application/json" id="faults"></script>
 "#;
 
