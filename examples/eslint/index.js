@@ -1,4 +1,4 @@
-// A parser over `ecma-check` and a plugin for ESLint.
+// A parser over `ecma-check` and a plugin for ESLint. `over-package.js` has the parser over the npm package.
 'use strict';
 const { parseForESLint } = require('./over-program');
 

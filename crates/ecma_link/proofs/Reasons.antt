@@ -1,0 +1,108 @@
+-- How a call ends, by what it came to.
+use Rattle.std.proofs.Common.{◌≡◌, ◌∙◌, ◌≤◌, ◌<◌, ℕ, List, ◌⊎◌, Err, None, Ok, Some, arith, inr, length, refl, subst, sym, take}
+use Rattle.std.specs.Prelude.{IsUtf8}
+use Rattle.ecma_answers.specs.declared.options.Options.{Options}
+use Rattle.ecma_answers.specs.declared.parsing.Outcome.{Outcome}
+use Rattle.ecma_answers.specs.declared.parsing.Reading.{Reading}
+use Rattle.ecma_answers.specs.declared.told.Told.{Told}
+use Rattle.ecma_answers.specs.Outcomes.{outcome_of}
+use Rattle.ecma_answers.specs.Spelled.{Decides}
+use Rattle.ecma_answers.specs.Told.{AllTold}
+use Rattle.ecma_link.specs.declared.bytes.Wanted.{Wanted}
+use Rattle.ecma_link.specs.declared.failure.Failure.{Failure}
+use Rattle.ecma_link.specs.declared.failure.Failure.TheVariants as failure
+use Rattle.ecma_link.specs.declared.faults.EcmaFault.{EcmaFault}
+use Rattle.ecma_link.specs.declared.faults.EcmaNeeded.{EcmaNeeded}
+use Rattle.ecma_link.specs.declared.options.EcmaOptions.{EcmaOptions}
+use Rattle.ecma_link.specs.Asked.{asked}
+use Rattle.ecma_link.specs.Calls.{Ends, IsBadText, IsCall, IsReason, IsWritten}
+use Rattle.ecma_link.specs.Faults as faults
+
+pub unknown : (given : EcmaOptions) (text : List ℕ) (f : Failure) → asked given ≡ None → f ≡ failure.UnknownOption → IsReason given text f
+unknown given text f h e = subst (λ it. IsReason given text it) (sym e) h
+
+pub no_memory : (given : EcmaOptions) (text : List ℕ) (f : Failure) → f ≡ failure.OutOfMemory → IsReason given text f
+no_memory given text f e = subst (λ it. IsReason given text it) (sym e) tt
+
+pub bad_text : (given : EcmaOptions) (text : List ℕ) (f : Failure) → IsBadText text f → IsReason given text f
+bad_text given text failure.TooShort h = h
+bad_text given text failure.OutOfMemory h = tt
+bad_text given text failure.NotUtf8 h = h
+bad_text given text failure.TooLong h = h
+bad_text given text failure.UnknownOption h = absurd h
+
+-- ---- a room of bytes
+
+pub called : (w : Wanted) (given : EcmaOptions) (text chars : List ℕ) (o : Options) (r : Reading) (outcome : Outcome) (bytes : List ℕ)
+    → asked given ≡ Some o → chars ≡ text → IsUtf8 text → Decides o chars r → outcome ≡ outcome_of r.tree r.faults.items
+    → IsWritten w o chars r bytes → IsCall w given text outcome bytes
+called w given text chars o r outcome bytes e f utf8 decides out written =
+    (utf8, (o, e, (r, subst (λ it. Decides o it r) f decides, out, subst (λ it. IsWritten w o it r bytes) f written)))
+
+pub unanswered : (w : Wanted) (given : EcmaOptions) (text : List ℕ) (f : Failure) (old : List ℕ) (needed : ℕ) → IsReason given text f
+    → Ends w given text (Err f) old old needed
+unanswered w given text failure.TooShort old needed h = absurd h
+unanswered w given text failure.OutOfMemory old needed h = (refl, h)
+unanswered w given text failure.NotUtf8 old needed h = (refl, h)
+unanswered w given text failure.TooLong old needed h = (refl, h)
+unanswered w given text failure.UnknownOption old needed h = (refl, h)
+
+pub too_short : (w : Wanted) (given : EcmaOptions) (text : List ℕ) (f : Failure) (old new : List ℕ) (needed : ℕ) → f ≡ failure.TooShort → new ≡ old
+    → length old < needed → Ends w given text (Err f) old new needed
+too_short w given text f old new needed e same h = subst (λ it. Ends w given text (Err it) old new needed) (sym e) (same, h)
+
+pub answered : (w : Wanted) (given : EcmaOptions) (text : List ℕ) (outcome : Outcome) (bytes items old new : List ℕ) (needed : ℕ)
+    → IsCall w given text outcome bytes → items ≡ bytes → needed ≡ length items → length items ≤ length new → take (length items) new ≡ items
+    → Ends w given text (Ok outcome) old new needed
+answered w given text outcome bytes items old new needed h same e fits front =
+    let whole = subst (λ it. IsCall w given text outcome it) (sym (front ∙ same)) h in
+    subst (λ n. Ends w given text (Ok outcome) old new n) (sym e) (fits, whole)
+
+-- ---- a room of faults and one of bytes
+
+pub called_faults : (given : EcmaOptions) (text chars : List ℕ) (o : Options) (r : Reading) (outcome : Outcome) (told slice : List Told)
+    → (its : List EcmaFault) (words : List ℕ) → asked given ≡ Some o → chars ≡ text → IsUtf8 text → Decides o chars r
+    → outcome ≡ outcome_of r.tree r.faults.items → AllTold chars r.tree r.faults.items told → slice ≡ told → faults.AreFaults words slice its
+    → faults.IsCall given text outcome its words
+called_faults given text chars o r outcome told slice its words e f utf8 decides out all same are = (
+  utf8,
+  (
+    o,
+    e,
+    (
+      r,
+      subst (λ it. Decides o it r) f decides,
+      out,
+      (told, subst (λ it. AllTold it r.tree r.faults.items told) f all, subst (λ it. faults.AreFaults words it its) same are),
+    ),
+  ),
+)
+
+pub unanswered_faults : (given : EcmaOptions) (text : List ℕ) (f : Failure) (room : List EcmaFault) (words : List ℕ) (needed : EcmaNeeded)
+    → IsReason given text f → faults.Ends given text (Err f) room room words words needed
+unanswered_faults given text failure.TooShort room words needed h = absurd h
+unanswered_faults given text failure.OutOfMemory room words needed h = (refl, refl, h)
+unanswered_faults given text failure.NotUtf8 room words needed h = (refl, refl, h)
+unanswered_faults given text failure.TooLong room words needed h = (refl, refl, h)
+unanswered_faults given text failure.UnknownOption room words needed h = (refl, refl, h)
+
+pub too_short_for_words : (given : EcmaOptions) (text : List ℕ) (f : Failure) (room : List EcmaFault) (old new : List ℕ) (needed : EcmaNeeded)
+    → f ≡ failure.TooShort → new ≡ old → length old < needed.words → faults.Ends given text (Err f) room room old new needed
+too_short_for_words given text f room old new needed e same h =
+    subst (λ it. faults.Ends given text (Err it) room room old new needed) (sym e) (refl, same, inr h)
+
+pub answered_faults : (given : EcmaOptions) (text : List ℕ) (outcome : Outcome) (its items : List EcmaFault) (words bytes : List ℕ)
+    → (old_faults new_faults : List EcmaFault) (old_words new_words : List ℕ) (needed : EcmaNeeded)
+    → faults.IsCall given text outcome its words → items ≡ its → bytes ≡ words → needed ≡ record { faults = length items; words = length bytes }
+    → length items ≤ length new_faults → length bytes ≤ length new_words → take (length items) new_faults ≡ items
+    → take (length bytes) new_words ≡ bytes → faults.Ends given text (Ok outcome) old_faults new_faults old_words new_words needed
+answered_faults given text outcome its items words bytes old_faults new_faults old_words new_words needed h same_faults same_words e fits_faults fits_words f g =
+    let first = subst (λ it. faults.IsCall given text outcome it words) (sym (f ∙ same_faults)) h in
+    let whole = subst (λ it. faults.IsCall given text outcome (take (length items) new_faults) it) (sym (g ∙ same_words)) first in
+    subst (λ n. faults.Ends given text (Ok outcome) old_faults new_faults old_words new_words n) (sym e) (fits_faults, fits_words, whole)
+
+-- a room that was long enough is not too short
+pub no_room : (given : EcmaOptions) (text : List ℕ) (f : Failure) (old_faults new_faults : List EcmaFault) (old_words new_words : List ℕ)
+    → (needed : EcmaNeeded) (size room : ℕ) → room < size → size ≤ room
+    → faults.Ends given text (Err f) old_faults new_faults old_words new_words needed
+no_room given text f old_faults new_faults old_words new_words needed size room h k = absurd (omega arith)

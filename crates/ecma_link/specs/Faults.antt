@@ -1,0 +1,59 @@
+-- Faults as C takes them.
+use Rattle.std.specs.Prelude.{◌≡◌, ◌+◌, ◌≤◌, ◌<◌, ◌⊎◌, ℕ, List, ◌++◌, if◌then◌else◌, Result, Ok, Err, IsUtf8, Some, drop, length, string_bytes, take}
+use Rattle.std.specs.List.{AllZip}
+use Rattle.ecma_answers.specs.declared.options.Options.{Options}
+use Rattle.ecma_answers.specs.declared.parsing.Outcome.{Outcome}
+use Rattle.ecma_answers.specs.declared.parsing.Reading.{Reading}
+use Rattle.ecma_answers.specs.declared.told.Point.{Point}
+use Rattle.ecma_answers.specs.declared.told.Told.{Told}
+use Rattle.ecma_answers.specs.Outcomes.{outcome_of}
+use Rattle.ecma_answers.specs.Spelled.{Decides}
+use Rattle.ecma_answers.specs.Told.{AllTold}
+use Rattle.ecma_link.specs.Asked.{asked}
+use Rattle.ecma_link.specs.Calls.{IsReason}
+use Rattle.ecma_link.specs.declared.failure.Failure.{Failure}
+use Rattle.ecma_link.specs.declared.failure.Failure.TheVariants as failure
+use Rattle.ecma_link.specs.declared.faults.EcmaFault.{EcmaFault}
+use Rattle.ecma_link.specs.declared.faults.EcmaNeeded.{EcmaNeeded}
+use Rattle.ecma_link.specs.declared.faults.EcmaPoint.{EcmaPoint}
+use Rattle.ecma_link.specs.declared.options.EcmaOptions.{EcmaOptions}
+
+abbrev pub point_of : Point → EcmaPoint
+point_of p = record { byte = p.byte; unit = p.unit; line = p.line; column = p.column }
+
+-- so many of the words from a place on
+abbrev pub piece : (words : List ℕ) → (at size : ℕ) → List ℕ
+piece words at size = take size (drop at words)
+
+-- the words of a fault
+abbrev pub words_of : Told → List ℕ
+words_of told = told.kind.now ++ string_bytes told.message
+
+-- a fault, with its words among those of all
+pub record IsFault (words : List ℕ) (told : Told) (it : EcmaFault) : Type 0 where
+  pub start : it.start ≡ point_of told.start
+  pub end : it.end ≡ point_of told.end
+  pub kind_within : it.kind_at + it.kind_length ≤ length words
+  pub kind : piece words it.kind_at it.kind_length ≡ told.kind.now
+  pub message_within : it.message_at + it.message_length ≤ length words
+  pub message : piece words it.message_at it.message_length ≡ string_bytes told.message
+  pub refusal : it.is_refusal ≡ (if told.is_refusal then 1 else 0)
+
+abbrev pub AreFaults : (words : List ℕ) → List Told → List EcmaFault → Type 0
+AreFaults words ts its = AllZip (IsFault words) ts its
+
+-- a text that was read as it is asked for: how it comes out, its faults and their words
+abbrev pub IsCall : EcmaOptions → List ℕ → Outcome → List EcmaFault → List ℕ → Type 0
+IsCall given text outcome faults words =
+    IsUtf8 text × ((o : Options) × (asked given ≡ Some o) × ((r : Reading) × Decides o text r
+    × (outcome ≡ outcome_of r.tree r.faults.items) × ((told : List Told) × AllTold text r.tree r.faults.items told × AreFaults words told faults)))
+
+-- How a call ends that has a room of faults and one of bytes: their fronts are the answer, or both stay as they were, for that reason.
+abbrev pub Ends : EcmaOptions → List ℕ → Result Outcome Failure → (old_faults new_faults : List EcmaFault) → (old_words new_words : List ℕ) → EcmaNeeded → Type 0
+Ends given text (Ok outcome) old_faults new_faults old_words new_words needed =
+    (needed.faults ≤ length new_faults) × (needed.words ≤ length new_words)
+    × IsCall given text outcome (take needed.faults new_faults) (take needed.words new_words)
+Ends given text (Err failure.TooShort) old_faults new_faults old_words new_words needed =
+    (new_faults ≡ old_faults) × (new_words ≡ old_words) × ((length old_faults < needed.faults) ⊎ (length old_words < needed.words))
+Ends given text (Err f) old_faults new_faults old_words new_words needed =
+    (new_faults ≡ old_faults) × (new_words ≡ old_words) × IsReason given text f

@@ -1,0 +1,161 @@
+//! Faults one by one.
+
+ghost use Rattle.std.specs.Prelude.{◌≡◌, ◌++◌, IfErr, IfOk, OnOk};
+ghost use Rattle.ecma_link.specs.Calls.{IsReason};
+ghost use Rattle.ecma_link.specs.Faults as list;
+ghost use Rattle.ecma_link.specs.Faults.{AreFaults, Ends, IsCall, IsFault, words_of};
+
+use crate::failure::Failure;
+use crate::given::text_of;
+use crate::options::{EcmaOptions, options_of};
+use crate::room::put;
+use ecma_answers::{Outcome, Point, Told, read, told_faults};
+use std::alloc::{AllocError, Global};
+
+/// A place.
+#[repr(C)]
+#[derive(Clone, Copy)]
+pub struct EcmaPoint {
+    /// Bytes of UTF-8 before it.
+    pub byte: u64,
+    /// Code units of UTF-16 before it.
+    pub unit: u64,
+    /// From 1.
+    pub line: u64,
+    /// From 1, in code units of UTF-16.
+    pub column: u64,
+}
+
+/// A fault. Its words stand among those of all faults.
+#[repr(C)]
+#[derive(Clone, Copy)]
+pub struct EcmaFault {
+    pub start: EcmaPoint,
+    pub end: EcmaPoint,
+    /// Where the name of its kind begins, and how many bytes it has.
+    pub kind_at: u64,
+    pub kind_length: u64,
+    /// Where its sentence begins, and how many bytes it has.
+    pub message_at: u64,
+    pub message_length: u64,
+    /// 1 where it is why there is no tree, and 0 where there is one beside it.
+    pub is_refusal: u64,
+}
+
+/// How much room faults take.
+#[repr(C)]
+#[derive(Clone, Copy)]
+pub struct EcmaNeeded {
+    /// How many faults there are.
+    pub faults: usize,
+    /// How many bytes their words have.
+    pub words: usize,
+}
+
+/// A place as C takes it.
+fn point_of(point: Point) -> EcmaPoint
+    ensures { result ≡ list.point_of point }
+{
+    EcmaPoint {
+        byte: point.byte as u64,
+        unit: point.unit,
+        line: point.line,
+        column: point.column,
+    }
+}
+
+/// A fault as C takes it, and its words behind those of others.
+#[tactic(auto, using(crate::proofs::Words::first_piece, crate::proofs::Words::last_piece))]
+fn fault_of(words: &mut Vec<u8>, told: &Told) -> Result<EcmaFault, AllocError>
+    ensures fault { IfOk result (IsFault words.new.items told.now) }
+    ensures words { OnOk result (words.new.items ≡ words.old.items ++ words_of told.now) }
+{
+    let kind_at = words.len();
+    words.extend_from_slice(told.kind.as_bytes())?;
+    let message_at = words.len();
+    words.extend_from_slice(told.message.as_bytes())?;
+    Ok(EcmaFault {
+        start: point_of(told.start),
+        end: point_of(told.end),
+        kind_at: kind_at as u64,
+        kind_length: told.kind.len() as u64,
+        message_at: message_at as u64,
+        message_length: told.message.len() as u64,
+        is_refusal: told.is_refusal as u64,
+    })
+}
+
+/// How a text comes out, and what is told of it.
+#[derive(Drop)]
+struct Found {
+    outcome: Outcome,
+    faults: Vec<EcmaFault>,
+    words: Vec<u8>,
+}
+
+/// What is told, as C takes it.
+#[tactic(auto, using(crate::proofs::Words::faults_more))]
+fn listed(alloc: Global, outcome: Outcome, told: &[Told]) -> Result<Found, AllocError>
+    ensures outcome { IfOk result (λ it. it.outcome ≡ outcome) }
+    ensures faults { IfOk result (λ it. AreFaults it.words.items told.now it.faults.items) }
+{
+    let mut faults = Vec::new(alloc);
+    let mut words = Vec::new(alloc);
+    for it in told {
+        let fault = fault_of(&mut words, it)?;
+        faults.push(fault)?;
+    }
+    Ok(Found {
+        outcome,
+        faults,
+        words,
+    })
+}
+
+/// The faults of a text.
+#[tactic(auto, using(crate::proofs::Reasons::unknown, crate::proofs::Reasons::no_memory, crate::proofs::Reasons::bad_text))]
+fn read_faults(alloc: Global, text: &[u8], options: &EcmaOptions) -> Result<Found, Failure>
+    ensures found { IfOk result
+        (λ it. IsCall options.now text.now it.outcome it.faults.items it.words.items) }
+    ensures failure { IfErr result (IsReason options.now text.now) }
+{
+    let options = options_of(options)?;
+    let text = text_of(text)?;
+    let reading = read(alloc, options, text)?;
+    let outcome = reading.outcome();
+    let told = told_faults(alloc, text, &reading);
+    reading.discard();
+    Ok(listed(alloc, outcome, told?.as_slice())?)
+}
+
+/// Writes the faults of a text and their words to the fronts of two rooms, if both are long enough. `needed` becomes how much they take.
+#[tactic(auto, using(crate::proofs::Reasons::unanswered_faults, crate::proofs::Reasons::too_short_for_words, crate::proofs::Reasons::answered_faults, crate::proofs::Reasons::no_room))]
+pub(crate) fn put_faults(
+    alloc: Global,
+    text: &[u8],
+    options: &EcmaOptions,
+    faults: &mut [EcmaFault],
+    words: &mut [u8],
+    needed: &mut EcmaNeeded,
+) -> Result<Outcome, Failure>
+    ensures { Ends options.now text.now result faults.old faults.new words.old words.new
+        needed.new }
+{
+    *needed = EcmaNeeded {
+        faults: 0,
+        words: 0,
+    };
+    let found = read_faults(alloc, text, options)?;
+    let items = found.faults.as_slice();
+    let bytes = found.words.as_slice();
+    *needed = EcmaNeeded {
+        faults: items.len(),
+        words: bytes.len(),
+    };
+    if faults.len() < items.len() {
+        return Err(Failure::TooShort);
+    }
+    put(bytes, words)?;
+    put(items, faults)?;
+    Ok(found.outcome)
+}

@@ -1,0 +1,49 @@
+'use strict';
+// Calls the module. It is a file of its own so that a page can have it too: it needs nothing but WebAssembly.
+
+/** An instance that has grown beyond this is let go behind its call. */
+const KEPT_BYTES = 64 * 1024 * 1024;
+
+/** Room for what is asked for (three numbers of 32 bits), and behind it for the length of the answer. */
+const OPTIONS = 16;
+
+/** A function that answers the status of a text, and its tree and faults as JSON. */
+function host(module, guessOf, memory) {
+  const encoder = new TextEncoder();
+  const decoder = new TextDecoder();
+  let instance = null;
+
+  const started = () => {
+    const made = new WebAssembly.Instance(module, {}).exports;
+    if (memory !== undefined) made.ecma_limit_memory(BigInt(memory));
+    return made;
+  };
+
+  /** One call, in a room of so many bytes. */
+  function called(it, text, { goal, limit, bits }, room) {
+    it.ecma_reset();
+    const at = it.ecma_room(BigInt(OPTIONS + 8));
+    const from = it.ecma_room(BigInt(text.length + 1));
+    const to = it.ecma_room(BigInt(room));
+    if (at === 0n || from === 0n || to === 0n) return { status: -2, needed: 0 };
+    new Uint8Array(it.memory.buffer).set(text, Number(from));
+    new Uint32Array(it.memory.buffer, Number(at), 3).set([goal, limit, bits]);
+    const status = it.ecma_parse(from, BigInt(text.length), at, to, BigInt(room), at + BigInt(OPTIONS));
+    const needed = Number(new BigUint64Array(it.memory.buffer, Number(at) + OPTIONS, 1)[0]);
+    return { status, needed, bytes: new Uint8Array(it.memory.buffer, Number(to), status < 0 ? 0 : needed) };
+  }
+
+  return function answer(source, numbers) {
+    const text = encoder.encode(source);
+    const it = instance ?? started();
+    // A trap, as by a stack that overflows, leaves no instance behind.
+    instance = null;
+    let found = called(it, text, numbers, guessOf(text.length, numbers.bits));
+    if (found.status === -1) found = called(it, text, numbers, found.needed);
+    const json = found.status < 0 ? '' : decoder.decode(found.bytes);
+    if (it.memory.buffer.byteLength <= KEPT_BYTES) instance = it;
+    return { status: found.status, json };
+  };
+}
+
+if (typeof module !== 'undefined') module.exports = host;

@@ -1,0 +1,232 @@
+'use strict';
+// Drives the page in web/ in a headless Chromium, by its pipe for debugging: keys, clicks, answers, a picture.
+//
+// usage: node [--experimental-wasm-memory64] scripts/page.js [--picture FILE] [--most MS] [--requests FILE]
+//
+// It types, opens the tree, clicks a fault, loads the page anew, has memory run out, tries what nests, and measures how long texts of 100 KB take
+// from a key to their answer; with --most it fails where a usual one takes longer, which says something on a quiet machine. With --picture it
+// keeps a picture of the page. With --requests it answers those in FILE (texts with the numbers of their options) as the page's worker does, and
+// writes the answers to standard output.
+
+const assert = require('node:assert');
+const fs = require('node:fs');
+const path = require('node:path');
+const { pathToFileURL } = require('node:url');
+const { Browser, Tab } = require('./browser.js');
+const { textsWithin } = require('./nests.js');
+
+const PAGE = pathToFileURL(path.join(__dirname, '../web/index.html')).href;
+const CHUNK = 200;
+const ROUNDS = 21;
+const SIZE = 100_000;
+const word = name => (process.argv.includes(name) ? process.argv[process.argv.indexOf(name) + 1] : undefined);
+
+class Playground extends Tab {
+  static async open(browser) {
+    const page = await browser.open(Playground);
+    await page.send('Page.navigate', { url: PAGE });
+    await page.until('document.documentElement?.dataset.shown !== undefined');
+    return page;
+  }
+
+  /** Waits until what was asked last is shown. */
+  settled() {
+    return this.until('document.documentElement?.dataset.shown === document.documentElement?.dataset.asked');
+  }
+
+  /** Puts a text into the page, and waits until it is answered. */
+  async given(source) {
+    await this.value(`text.value = ${JSON.stringify(source)}; changed(); 0`);
+    await this.settled();
+  }
+
+  async clickOn(selector) {
+    const { x, y } = await this.value(`(() => { const it = document.querySelector(${JSON.stringify(selector)}); it.scrollIntoView();
+      const { x, y, height } = it.getBoundingClientRect(); return { x: x + 5, y: y + height / 2 }; })()`);
+    await this.click(x, y);
+  }
+
+  async type(text) {
+    for (const key of text) await this.send('Input.dispatchKeyEvent', { type: 'char', text: key });
+  }
+}
+
+const PICTURED = `const limit = 100;
+function total(items) {
+  let sum = 0;
+  for (const item of items) sum = sum + item.price;
+  if (sum > limit) continue;
+  return sum;
+}
+again: again: while (total([])) break;
+`;
+
+/** Typing, clicks, the address. */
+async function used(page) {
+  assert.strictEqual(await page.value(`$('faults').childElementCount`), 1, await page.value(`$('state').textContent`));
+  await page.clickOn('#text');
+  await page.given('');
+  await page.type('a;\r b c');
+  await page.settled();
+  assert.ok((await page.value(`$('faults').textContent`)).startsWith('2:4 refused'));
+  await page.clickOn('#faults li');
+  assert.deepStrictEqual(await page.value('[text.selectionStart, text.selectionEnd]'), [6, 7]);
+  await page.given('f(\u00e9, 1n)');
+  assert.strictEqual(await page.value(`$('faults').childElementCount`), 0);
+  await page.clickOn('#tree > details > details:nth-of-type(1) > summary');
+  await page.until(`$('tree').textContent.includes('ExpressionStatement')`);
+  await page.until(`unpacked(location.hash.slice(1)).then(it => it === text.value, () => false)`);
+  await page.value('self.isOld = true; location.reload()');
+  await page.until('self.isOld === undefined && document.documentElement?.dataset.shown !== undefined');
+  assert.strictEqual(await page.value('text.value'), 'f(\u00e9, 1n)');
+  console.error('typing, clicks, tree, address: as they should be');
+}
+
+/** The texts of about 100 KB that are measured: a usual one, and those of which much stands in one line, in many lines or in the list of faults. */
+function measuredTexts() {
+  const unit = 'function total(items, kind) {\n  let sum = 0;\n  for (const item of items) {\n    sum = sum + item.price * item.count;\n  }\n  return sum * rates[kind];\n}\n\n';
+  return {
+    'functions': unit.repeat(SIZE / unit.length),
+    'one line of calls': `[${'f(x + 1), '.repeat(SIZE / 10)}1]`,
+    'short lines': 'a;\n'.repeat(SIZE / 3),
+    'a fault a line': 'break;\n'.repeat(SIZE / 7),
+  };
+}
+
+/** Notes how long it is from each key to the answer in the page, and to the next frame, which shows it. */
+const WATCH = `self.times = [];
+  text.addEventListener('keypress', ({ timeStamp }) => { self.from = timeStamp; });
+  new MutationObserver(() => {
+    const { shown, asked } = document.documentElement.dataset;
+    if (shown !== asked) return;
+    const answered = performance.now() - from;
+    requestAnimationFrame(() => setTimeout(() => times.push([answered, performance.now() - from])));
+  }).observe(document.documentElement, { attributes: true, attributeFilter: ['data-shown'] });
+  0`;
+
+/**
+ * Types into the middle of a text, and prints how long it takes until that is answered and until it is seen: the middle of some keys, which is what
+ * it answers, and the least.
+ */
+async function measuredIn(page, name, source) {
+  const middle = source.length >> 1;
+  const at = 1 + Math.max(source.lastIndexOf('\n', middle), source.lastIndexOf(' ', middle));
+  await page.value(`text.value = ${JSON.stringify(source)}; text.focus(); text.setSelectionRange(${at}, ${at}); changed(); 0`);
+  await page.settled();
+  await page.value('new Promise(done => setTimeout(done, 500)).then(() => { times.length = 0; })');
+  const spent = await page.browser.spent();
+  for (let round = 0; round < ROUNDS; round++) {
+    await page.type(' ');
+    await page.until(`times.length > ${round}`);
+  }
+  const each = (await page.browser.spent() - spent) / ROUNDS;
+  const times = await page.value('times');
+  const [answered, seen] = [0, 1].map(part => times.map(it => Math.round(it[part])).sort((a, b) => a - b));
+  const middleOf = sorted => sorted[ROUNDS >> 1];
+  console.error(`${name}, ${source.length} bytes: answered after ${middleOf(answered)} ms (${answered[0]} at least), seen after ${middleOf(seen)} ms; ${Math.round(each)} ms of processors`);
+  return middleOf(answered);
+}
+
+/** From a key to its answer in texts of 100 KB. */
+async function measured(page) {
+  await page.value(WATCH);
+  const took = [];
+  for (const [name, source] of Object.entries(measuredTexts())) took.push(await measuredIn(page, name, source));
+  assert.ok(took[0] <= Number(word('--most') ?? Infinity), `${took[0]} ms from a key to its answer`);
+}
+
+/** Makes the page's own host and module known to what is evaluated in the page. */
+function prepared(page) {
+  return page.value(`(async () => {
+    const kept = self.onmessage;
+    const { host, answers } = new Function($('worker').textContent + '; return { host, answers }')();
+    self.onmessage = kept;
+    const letters = Uint8Array.from(atob($('module').textContent), it => it.charCodeAt(0));
+    self.own = { host, answers, module: await WebAssembly.compile(await piped(letters, new DecompressionStream('gzip'))) }; })()`);
+}
+
+/** Want of memory and depth, as the page's own code answers them. */
+async function starved(page) {
+  await prepared(page);
+  const found = await page.value(`(() => {
+    const { host, answers, module } = own;
+    const least = new WebAssembly.Instance(module, {}).exports.memory.buffer.byteLength;
+    const found = [];
+    for (let more = 0; found.at(-1) !== 0; more += 65536) found.push(host(module, answers.guessOf, least + more)('f(a, b);\\n'.repeat(100), answers.numbersOf({ tokens: true })).status);
+    return found; })()`);
+  assert.ok(found.length > 10 && found.slice(0, -1).every(it => it === -2), JSON.stringify(found));
+  await page.given('{'.repeat(100000));
+  assert.ok((await page.value(`$('faults').textContent`)).includes('[TooDeep]'));
+  console.error('want of memory and depth: told');
+}
+
+/** What nests as deep as the page's limit lets it, and deeper: each is answered or refused by its worker, and none overflows the stack. */
+async function nested(page) {
+  const texts = textsWithin(await page.value(`Number($('limit').value)`));
+  await page.value(`$('goal').value = 'script'; 0`);
+  for (const text of texts) {
+    await page.given(text);
+    const state = await page.value(`$('state').textContent`);
+    assert.match(state, /^\d+ faults?, /, `${text.slice(0, 40)}: ${state}`);
+  }
+  console.error(`${texts.length} texts that nest: none overflows`);
+}
+
+/** The answers of the page's own code to requests, as examples/node/answers.js tells them. */
+async function answered(page, requests) {
+  await prepared(page);
+  await page.value(`(() => {
+    const answer = own.host(own.module, own.answers.guessOf);
+    self.digestsOf = async requests => {
+      const found = [];
+      for (const { text, ...numbers } of requests) {
+        const { status, json } = answer(text, numbers);
+        const bytes = new TextEncoder().encode(json);
+        const hash = new Uint8Array(await crypto.subtle.digest('SHA-256', bytes));
+        found.push([status, bytes.length, Array.from(hash, it => it.toString(16).padStart(2, '0')).join('')]);
+      }
+      return found;
+    }; })()`);
+  const answers = [];
+  for (let at = 0; at < requests.length; at += CHUNK) {
+    answers.push(...await page.value(`digestsOf(${JSON.stringify(requests.slice(at, at + CHUNK))})`));
+  }
+  return answers;
+}
+
+/** Keeps a picture of the page, with a part of the tree opened and a fault clicked. */
+async function pictured(page, file) {
+  await page.given(PICTURED);
+  const body = '#tree > details > details:nth-of-type(1)', second = `${body} > details:nth-of-type(2)`;
+  for (const opened of [body, second, `${second} > details:nth-last-of-type(1)`]) {
+    await page.clickOn(`${opened} > summary`);
+    await page.until(`document.querySelector('${opened}').childElementCount > 1`);
+  }
+  await page.clickOn('#faults li');
+  await page.picture(file);
+}
+
+async function main() {
+  const browser = new Browser();
+  try {
+    const page = await Playground.open(browser);
+    const requests = word('--requests');
+    if (requests) {
+      console.log(JSON.stringify(await answered(page, JSON.parse(fs.readFileSync(requests, 'utf8')))));
+      return;
+    }
+    await used(page);
+    const picture = word('--picture');
+    if (picture) await pictured(page, picture);
+    await starved(page);
+    await nested(page);
+    await measured(page);
+  } finally {
+    await browser.close();
+  }
+}
+
+main().catch(error => {
+  console.error(error);
+  process.exitCode = 1;
+});

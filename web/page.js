@@ -1,0 +1,176 @@
+// The part of the page that is seen. The worker parses, so nothing here waits.
+'use strict';
+
+const FLAGS = {
+  decorators: 'decorators',
+  decoratorsBeforeExport: 'decorators before export',
+  exportDefaultFrom: 'export v from',
+  importAttributes: 'import attributes',
+  allowReturnOutsideFunction: 'return outside functions',
+  autoAccessors: 'accessor',
+  explicitResourceManagement: 'using',
+};
+const EXTRAS = { locations: 'lines and columns', ranges: 'ranges', comments: 'comments', tokens: 'tokens' };
+const KEPT_BYTES = 65536;
+const FIRST = 'while (a) b;\nbreak\n';
+
+const $ = id => document.getElementById(id);
+const text = $('text');
+
+function made(tag, className, content) {
+  const it = document.createElement(tag);
+  if (className) it.className = className;
+  if (content !== undefined) it.textContent = content;
+  return it;
+}
+
+for (const [name, label] of Object.entries({ ...FLAGS, ...EXTRAS })) {
+  const box = Object.assign(made('input'), { type: 'checkbox', id: name });
+  const line = made('label');
+  line.append(box, ` ${label}`);
+  $('flags').append(line);
+}
+
+function optionsNow() {
+  const options = { sourceType: $('goal').value, limit: Number($('limit').value), flags: Object.keys(FLAGS).filter(it => $(it).checked) };
+  for (const name of Object.keys(EXTRAS)) options[name] = $(name).checked;
+  return options;
+}
+
+// The text, packed into the address.
+
+async function piped(bytes, stream) {
+  return new Uint8Array(await new Response(new Blob([bytes]).stream().pipeThrough(stream)).arrayBuffer());
+}
+
+async function packed(source) {
+  const bytes = await piped(new TextEncoder().encode(source), new CompressionStream('deflate-raw'));
+  if (bytes.length > KEPT_BYTES) return '';
+  let letters = '';
+  for (const byte of bytes) letters += String.fromCharCode(byte);
+  return btoa(letters).replaceAll('+', '-').replaceAll('/', '_').replaceAll('=', '');
+}
+
+async function unpacked(letters) {
+  const bytes = Uint8Array.from(atob(letters.replaceAll('-', '+').replaceAll('_', '/')), it => it.charCodeAt(0));
+  return new TextDecoder().decode(await piped(bytes, new DecompressionStream('deflate-raw')));
+}
+
+let keeping;
+
+/** Keeps the text in the address once typing rests. */
+function keep() {
+  clearTimeout(keeping);
+  keeping = setTimeout(async () => {
+    const hash = await packed(text.value);
+    history.replaceState(null, '', hash ? `#${hash}` : location.pathname + location.search);
+  }, 300);
+}
+
+// What the worker found.
+
+function select(start, end) {
+  text.focus();
+  text.setSelectionRange(start, Math.max(end, start + 1));
+}
+
+function faultShown(fault) {
+  const it = made('li');
+  const { line, column } = fault.loc.start;
+  it.append(made('span', 'place', `${line}:${column + 1}`), ' ', made('span', 'severity', fault.isRefusal ? 'refused' : 'fault'), ` ${fault.message} `, made('span', 'place', `[${fault.kind}]`));
+  it.addEventListener('click', () => select(fault.start, fault.end));
+  return it;
+}
+
+const waiting = new Map();
+
+/** A field of the tree. One that can be opened asks the worker what stands in it. */
+function entryShown(entry, generation) {
+  const name = made('span', 'key', entry.name === '' ? '' : `${entry.name}: `);
+  if (entry.id === undefined) {
+    const line = made('div');
+    line.append(name, made('span', 'field', entry.label));
+    return line;
+  }
+  const details = made('details');
+  const summary = made('summary');
+  summary.append(name, made('span', 'kind', entry.label));
+  if (entry.start !== undefined) {
+    const place = made('span', 'place', ` ${entry.start}\u2013${entry.end}`);
+    place.addEventListener('click', event => { event.preventDefault(); select(entry.start, entry.end); });
+    summary.append(place);
+  }
+  details.append(summary);
+  details.addEventListener('toggle', () => {
+    if (details.open && details.childElementCount === 1) {
+      waiting.set(entry.id, details);
+      worker.postMessage({ open: entry.id, generation });
+    }
+  });
+  return details;
+}
+
+function show({ ms, count, faults, tree, entries, failure, generation, number }) {
+  $('faults').replaceChildren(...faults.map(faultShown));
+  waiting.clear();
+  if (tree) {
+    const root = entryShown(tree, generation);
+    root.append(...entries.map(it => entryShown(it, generation)));
+    root.open = true;
+    $('tree').replaceChildren(root);
+  } else {
+    $('tree').replaceChildren(made('p', '', failure ?? 'no tree'));
+  }
+  $('state').textContent = failure ?? `${count} ${count === 1 ? 'fault' : 'faults'}, ${ms.toFixed(1)} ms`;
+  document.documentElement.dataset.shown = number;
+}
+
+// One text is with the worker at a time, and behind it the newest.
+
+let isBusy = true;
+let isStale = false;
+let number = 0;
+
+function ask() {
+  isStale = isBusy;
+  if (isBusy) return;
+  isBusy = true;
+  worker.postMessage({ text: text.value, options: optionsNow(), number });
+}
+
+function changed() {
+  number += 1;
+  document.documentElement.dataset.asked = number;
+  keep();
+  ask();
+}
+
+const worker = new Worker(URL.createObjectURL(new Blob([$('worker').textContent], { type: 'text/javascript' })));
+
+worker.onmessage = ({ data }) => {
+  if (data.opened !== undefined) {
+    waiting.get(data.opened)?.append(...data.entries.map(it => entryShown(it, data.generation)));
+    return;
+  }
+  if (data.failure && !data.faults) {
+    $('state').textContent = data.failure;
+    return;
+  }
+  isBusy = false;
+  if (data.ready) isStale = true;
+  else show(data);
+  if (isStale) ask();
+};
+
+async function start() {
+  const letters = Uint8Array.from(atob($('module').textContent), it => it.charCodeAt(0));
+  worker.postMessage({ module: await piped(letters, new DecompressionStream('gzip')) });
+  let first = FIRST;
+  if (location.hash.length > 1) first = await unpacked(location.hash.slice(1)).catch(() => FIRST);
+  text.value = first;
+  text.addEventListener('input', changed);
+  for (const it of document.querySelectorAll('header select, header input')) it.addEventListener('change', changed);
+  changed();
+}
+
+start();

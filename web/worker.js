@@ -1,0 +1,106 @@
+// The part of the page that parses. It keeps the last answer, and hands out what stands in a node when that is opened.
+'use strict';
+
+const MOST_ENTRIES = 200;
+const MOST_FAULTS = 100;
+const NODE = /\{"type":"(\w+)","start":(\d+),"end":(\d+)/y;
+const OWN_NAMES = ['type', 'start', 'end'];
+/** What stands before the tree, behind the body of a program, and before the faults. */
+const [TREE, REST, FAULTS] = ['{"tree":', ',"sourceType":"', ',"faults":['];
+/** From this status on an answer has no tree. */
+const NO_TREE = 2;
+
+let answer;
+let generation = 0;
+let written = '';
+/** Where in what was written each node and list begins that was handed out. */
+let places = [];
+
+const valueOf = from => written.slice(from, parts.valueEnd(written, from));
+
+/** What is shown of an object: most are nodes. */
+function objectShown(from) {
+  NODE.lastIndex = from;
+  const found = NODE.exec(written);
+  return found ? { label: found[1], start: Number(found[2]), end: Number(found[3]) } : { label: '' };
+}
+
+/** What is shown of a part: a node or a list, which can be opened, or a value. */
+function entryOf({ name, from }) {
+  const first = written[from];
+  if (first !== '{' && first !== '[') return { name, label: valueOf(from) };
+  const shown = first === '{' ? objectShown(from) : { label: written[from + 1] === ']' ? '[]' : '[..]' };
+  places.push(from);
+  return { name, id: places.length - 1, ...shown };
+}
+
+/** The parts of a literal, with the value that JSON may have no form for. */
+function literalEntries(from) {
+  const literal = JSON.parse(valueOf(from));
+  answers.restore(literal);
+  const named = Object.entries(literal).filter(([name]) => !OWN_NAMES.includes(name));
+  return named.map(([name, value]) => ({ name, label: typeof value === 'bigint' ? `${value}n` : JSON.stringify(value) }));
+}
+
+/** What stands in a node or a list, as far as it is shown. The end of a program's body is looked for from behind. */
+function entriesOf(from) {
+  if (written.startsWith('{"type":"Literal"', from)) return literalEntries(from);
+  const ends = from === TREE.length ? { body: written.lastIndexOf(REST) } : {};
+  const entries = [];
+  for (const part of parts.partsOf(written, from, ends)) {
+    if (OWN_NAMES.includes(part.name)) continue;
+    if (entries.length === MOST_ENTRIES) return [...entries, { name: '..', label: 'more' }];
+    entries.push(entryOf(part));
+  }
+  return entries;
+}
+
+/** How many faults there are, and those that are shown. Each stands in a line. Where there is no tree, the last says why. */
+function faultsOf(from, hasTree) {
+  const lines = written.slice(from).split('\n').slice(0, -1);
+  const shown = lines.filter((_, index) => index < MOST_FAULTS || (!hasTree && index === lines.length - 1));
+  const faults = shown.map(line => answers.faultOf(JSON.parse(line.slice(1))));
+  if (!hasTree) faults.at(-1).isRefusal = true;
+  return { count: lines.length, faults };
+}
+
+/** What is shown of an answer. */
+function answerShown(status) {
+  const found = faultsOf(written.lastIndexOf(FAULTS) + FAULTS.length - 1, status < NO_TREE);
+  if (status >= NO_TREE) return found;
+  return { ...found, tree: entryOf({ name: '', from: TREE.length }), entries: entriesOf(TREE.length) };
+}
+
+/** The tree and the faults of a text, or why there is no answer, and how long that took. */
+function told(text, options) {
+  places = [];
+  generation += 1;
+  const begun = performance.now();
+  let found;
+  try {
+    const { status, json } = answer(text, answers.numbersOf(options));
+    const failure = answers.failureOf(status);
+    if (failure) throw failure;
+    written = json;
+    found = answerShown(status);
+  } catch (error) {
+    found = { count: 0, faults: [], failure: error.message };
+  }
+  return { ms: performance.now() - begun, ...found };
+}
+
+self.onmessage = async ({ data }) => {
+  if (data.module) {
+    try {
+      answer = host(await WebAssembly.compile(data.module), answers.guessOf);
+      self.postMessage({ ready: true });
+    } catch (error) {
+      self.postMessage({ failure: `this browser cannot run it: ${error.message}` });
+    }
+  } else if (data.open !== undefined) {
+    if (data.generation === generation) self.postMessage({ opened: data.open, generation, entries: entriesOf(places[data.open]) });
+  } else {
+    const found = told(data.text, data.options);
+    self.postMessage({ ...found, generation, number: data.number });
+  }
+};
