@@ -1,7 +1,8 @@
 //! Lists: a step writes the comma before the first part of what is left, has that part written, and then the rest.
 
-ghost use Rattle.std.specs.Prelude.{◌≡◌, map, OnOk};
+ghost use Rattle.std.specs.Prelude.{◌≡◌, ◌++◌, map, OnOk};
 ghost use Rattle.ecma_estree_writer.specs.Estree.{jsons, plain, directives, members, attributes};
+ghost use Rattle.ecma_estree_writer.specs.Work.{work_text};
 ghost use Rattle.ecma_estree_writer.specs.Writing.{Writes};
 ghost use Rattle.swc_ecma_parser_ast.specs.Parts.{view_option};
 ghost use Rattle.swc_ecma_parser_ast.specs.View.{view_class_member, view_declarator, view_decorator, view_export_specifier, view_expr_or_spread, view_import_specifier, view_module_item, view_object_pat_prop, view_param, view_param_or_ts_param_prop, view_pat, view_prop_or_spread, view_stmt, view_switch_case};
@@ -20,6 +21,23 @@ use swc_ecma_parser_ast::{
     VarDeclarator,
 };
 
+/// Has the first part of what is left of a list written, behind a comma where another stands before it, and then the rest.
+fn write_next<'a>(
+    w: &mut Writer<'a>,
+    is_first: bool,
+    part: Work<'a>,
+    rest: Work<'a>,
+) -> Result<(), AllocError>
+    ensures { OnOk result
+        (Writes w.old w.new
+        (parts.comma is_first
+        ++ (work_text w.old.source part.entry ++ work_text w.old.source rest.entry))) }
+{
+    w.comma(is_first)?;
+    w.push(rest)?;
+    w.push(part)
+}
+
 /// Writes expressions.
 pub(crate) fn write_exprs<'a>(
     w: &mut Writer<'a>,
@@ -30,12 +48,10 @@ pub(crate) fn write_exprs<'a>(
         (Writes w.old w.new
         (jsons w.old.source plain is_first (trees (map (λ b. b.node.tree) parts.now)))) }
 {
-    let Some((x, rest)) = parts.split_first() else {
-        return Ok(());
-    };
-    w.comma(is_first)?;
-    w.push(Work::Exprs(rest, false))?;
-    w.push(Work::Expr(x))
+    match parts.split_first() {
+        Some((x, rest)) => write_next(w, is_first, Work::Expr(x), Work::Exprs(rest, false)),
+        None => Ok(()),
+    }
 }
 
 /// Writes arguments.
@@ -48,12 +64,10 @@ pub(crate) fn write_arguments<'a>(
         (Writes w.old w.new
         (jsons w.old.source plain is_first (trees (map view_expr_or_spread parts.now)))) }
 {
-    let Some((x, rest)) = parts.split_first() else {
-        return Ok(());
-    };
-    w.comma(is_first)?;
-    w.push(Work::Arguments(rest, false))?;
-    w.push(Work::Argument(x))
+    match parts.split_first() {
+        Some((x, rest)) => write_next(w, is_first, Work::Argument(x), Work::Arguments(rest, false)),
+        None => Ok(()),
+    }
 }
 
 /// Writes parts of an object.
@@ -66,12 +80,17 @@ pub(crate) fn write_properties<'a>(
         (Writes w.old w.new
         (jsons w.old.source plain is_first (trees (map view_prop_or_spread parts.now)))) }
 {
-    let Some((x, rest)) = parts.split_first() else {
-        return Ok(());
-    };
-    w.comma(is_first)?;
-    w.push(Work::Properties(rest, false))?;
-    w.push(Work::Property(x))
+    match parts.split_first() {
+        Some((x, rest)) => {
+            write_next(
+                w,
+                is_first,
+                Work::Property(x),
+                Work::Properties(rest, false),
+            )
+        }
+        None => Ok(()),
+    }
 }
 
 /// Writes attributes.
@@ -84,12 +103,17 @@ pub(crate) fn write_attributes<'a>(
         (Writes w.old w.new
         (jsons w.old.source attributes is_first (trees (map view_prop_or_spread parts.now)))) }
 {
-    let Some((x, rest)) = parts.split_first() else {
-        return Ok(());
-    };
-    w.comma(is_first)?;
-    w.push(Work::Attributes(rest, false))?;
-    w.push(Work::Attribute(x))
+    match parts.split_first() {
+        Some((x, rest)) => {
+            write_next(
+                w,
+                is_first,
+                Work::Attribute(x),
+                Work::Attributes(rest, false),
+            )
+        }
+        None => Ok(()),
+    }
 }
 
 /// Writes patterns.
@@ -101,12 +125,10 @@ pub(crate) fn write_patterns<'a>(
     ensures { OnOk result
         (Writes w.old w.new (jsons w.old.source plain is_first (trees (map view_pat parts.now)))) }
 {
-    let Some((x, rest)) = parts.split_first() else {
-        return Ok(());
-    };
-    w.comma(is_first)?;
-    w.push(Work::Patterns(rest, false))?;
-    w.push(Work::Pattern(x))
+    match parts.split_first() {
+        Some((x, rest)) => write_next(w, is_first, Work::Pattern(x), Work::Patterns(rest, false)),
+        None => Ok(()),
+    }
 }
 
 /// Writes parts of an object pattern.
@@ -119,12 +141,17 @@ pub(crate) fn write_pat_properties<'a>(
         (Writes w.old w.new
         (jsons w.old.source plain is_first (trees (map view_object_pat_prop parts.now)))) }
 {
-    let Some((x, rest)) = parts.split_first() else {
-        return Ok(());
-    };
-    w.comma(is_first)?;
-    w.push(Work::PatProperties(rest, false))?;
-    w.push(Work::PatProperty(x))
+    match parts.split_first() {
+        Some((x, rest)) => {
+            write_next(
+                w,
+                is_first,
+                Work::PatProperty(x),
+                Work::PatProperties(rest, false),
+            )
+        }
+        None => Ok(()),
+    }
 }
 
 /// Writes parameters.
@@ -137,12 +164,17 @@ pub(crate) fn write_params<'a>(
         (Writes w.old w.new
         (jsons w.old.source plain is_first (trees (map view_param parts.now)))) }
 {
-    let Some((x, rest)) = parts.split_first() else {
-        return Ok(());
-    };
-    w.comma(is_first)?;
-    w.push(Work::Params(rest, false))?;
-    w.push(Work::Pattern(&x.pat))
+    match parts.split_first() {
+        Some((x, rest)) => {
+            write_next(
+                w,
+                is_first,
+                Work::Pattern(&x.pat),
+                Work::Params(rest, false),
+            )
+        }
+        None => Ok(()),
+    }
 }
 
 /// Writes decorators.
@@ -155,12 +187,17 @@ pub(crate) fn write_decorators<'a>(
         (Writes w.old w.new
         (jsons w.old.source plain is_first (trees (map view_decorator parts.now)))) }
 {
-    let Some((x, rest)) = parts.split_first() else {
-        return Ok(());
-    };
-    w.comma(is_first)?;
-    w.push(Work::Decorators(rest, false))?;
-    w.push(Work::Decorator(x))
+    match parts.split_first() {
+        Some((x, rest)) => {
+            write_next(
+                w,
+                is_first,
+                Work::Decorator(x),
+                Work::Decorators(rest, false),
+            )
+        }
+        None => Ok(()),
+    }
 }
 
 /// Writes statements.
@@ -172,12 +209,17 @@ pub(crate) fn write_statements<'a>(
     ensures { OnOk result
         (Writes w.old w.new (jsons w.old.source plain is_first (trees (map view_stmt parts.now)))) }
 {
-    let Some((x, rest)) = parts.split_first() else {
-        return Ok(());
-    };
-    w.comma(is_first)?;
-    w.push(Work::Statements(rest, false))?;
-    w.push(Work::Statement(x))
+    match parts.split_first() {
+        Some((x, rest)) => {
+            write_next(
+                w,
+                is_first,
+                Work::Statement(x),
+                Work::Statements(rest, false),
+            )
+        }
+        None => Ok(()),
+    }
 }
 
 /// Writes cases.
@@ -190,12 +232,10 @@ pub(crate) fn write_cases<'a>(
         (Writes w.old w.new
         (jsons w.old.source plain is_first (trees (map view_switch_case parts.now)))) }
 {
-    let Some((x, rest)) = parts.split_first() else {
-        return Ok(());
-    };
-    w.comma(is_first)?;
-    w.push(Work::Cases(rest, false))?;
-    w.push(Work::Case(x))
+    match parts.split_first() {
+        Some((x, rest)) => write_next(w, is_first, Work::Case(x), Work::Cases(rest, false)),
+        None => Ok(()),
+    }
 }
 
 /// Writes variables.
@@ -208,12 +248,17 @@ pub(crate) fn write_declarators<'a>(
         (Writes w.old w.new
         (jsons w.old.source plain is_first (trees (map view_declarator parts.now)))) }
 {
-    let Some((x, rest)) = parts.split_first() else {
-        return Ok(());
-    };
-    w.comma(is_first)?;
-    w.push(Work::Declarators(rest, false))?;
-    w.push(Work::Declarator(x))
+    match parts.split_first() {
+        Some((x, rest)) => {
+            write_next(
+                w,
+                is_first,
+                Work::Declarator(x),
+                Work::Declarators(rest, false),
+            )
+        }
+        None => Ok(()),
+    }
 }
 
 /// Writes items.
@@ -226,12 +271,10 @@ pub(crate) fn write_items<'a>(
         (Writes w.old w.new
         (jsons w.old.source plain is_first (trees (map view_module_item parts.now)))) }
 {
-    let Some((x, rest)) = parts.split_first() else {
-        return Ok(());
-    };
-    w.comma(is_first)?;
-    w.push(Work::Items(rest, false))?;
-    w.push(Work::Item(x))
+    match parts.split_first() {
+        Some((x, rest)) => write_next(w, is_first, Work::Item(x), Work::Items(rest, false)),
+        None => Ok(()),
+    }
 }
 
 /// Writes elements, a hole as `null`.
@@ -248,12 +291,11 @@ pub(crate) fn write_elements<'a>(
     let Some((x, rest)) = parts.split_first() else {
         return Ok(());
     };
-    w.comma(is_first)?;
-    w.push(Work::Elements(rest, false))?;
-    match x {
-        Some(x) => w.push(Work::Argument(x)),
-        None => w.push(Work::Nothing),
-    }
+    let part = match x {
+        Some(x) => Work::Argument(x),
+        None => Work::Nothing,
+    };
+    write_next(w, is_first, part, Work::Elements(rest, false))
 }
 
 /// Writes elements of a pattern, a hole as `null`.
@@ -270,12 +312,11 @@ pub(crate) fn write_pat_elements<'a>(
     let Some((x, rest)) = parts.split_first() else {
         return Ok(());
     };
-    w.comma(is_first)?;
-    w.push(Work::PatElements(rest, false))?;
-    match x {
-        Some(x) => w.push(Work::Pat(x)),
-        None => w.push(Work::Nothing),
-    }
+    let part = match x {
+        Some(x) => Work::Pat(x),
+        None => Work::Nothing,
+    };
+    write_next(w, is_first, part, Work::PatElements(rest, false))
 }
 
 /// Writes the parameters of a constructor.
@@ -291,11 +332,13 @@ pub(crate) fn write_constructor_params<'a>(
     let Some((x, rest)) = parts.split_first() else {
         return Ok(());
     };
-    w.comma(is_first)?;
-    w.push(Work::ConstructorParams(rest, false))?;
-    match x {
-        ParamOrTsParamProp::Param(x) => w.push(Work::Pattern(&x.pat)),
-    }
+    let ParamOrTsParamProp::Param(x) = x;
+    write_next(
+        w,
+        is_first,
+        Work::Pattern(&x.pat),
+        Work::ConstructorParams(rest, false),
+    )
 }
 
 /// Whether a member of a class is a `;` alone.
@@ -325,9 +368,7 @@ pub(crate) fn write_members<'a>(
     if is_empty_member(x) {
         return w.push(Work::Members(rest, is_first));
     }
-    w.comma(is_first)?;
-    w.push(Work::Members(rest, false))?;
-    w.push(Work::Member(x))
+    write_next(w, is_first, Work::Member(x), Work::Members(rest, false))
 }
 
 /// Writes statements, the first ones as directives as long as they are strings.
@@ -344,13 +385,17 @@ pub(crate) fn write_directives<'a>(
     let Some((x, rest)) = parts.split_first() else {
         return Ok(());
     };
-    w.comma(is_first)?;
     if x.can_precede_directive() {
+        w.comma(is_first)?;
         w.push(Work::Directives(rest, false))?;
         write_directive(w, x)
     } else {
-        w.push(Work::Statements(rest, false))?;
-        w.push(Work::Statement(x))
+        write_next(
+            w,
+            is_first,
+            Work::Statement(x),
+            Work::Statements(rest, false),
+        )
     }
 }
 
@@ -368,13 +413,12 @@ pub(crate) fn write_directive_items<'a>(
     let Some((x, rest)) = parts.split_first() else {
         return Ok(());
     };
-    w.comma(is_first)?;
     if can_precede_directive(x) {
+        w.comma(is_first)?;
         w.push(Work::DirectiveItems(rest, false))?;
         write_directive_item(w, x)
     } else {
-        w.push(Work::Items(rest, false))?;
-        w.push(Work::Item(x))
+        write_next(w, is_first, Work::Item(x), Work::Items(rest, false))
     }
 }
 
