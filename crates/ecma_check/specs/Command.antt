@@ -1,6 +1,7 @@
 -- The words that a run is called with.
-use Rattle.std.specs.Prelude.{◌≡◌, ◌≤◌, ℕ, Bool, true, false, List, [], ◌∷◌, Option, Some, None, option_map, if◌then◌else◌, codes}
+use Rattle.std.specs.Prelude.{◌≡◌, ◌≤◌, ℕ, Bool, true, false, List, [], ◌∷◌, Option, Some, None, option_map, if◌then◌else◌, min, codes}
 use Rattle.std.specs.Str.{bytes_eq}
+use Rattle.std.specs.Str.Parse.{IsNumeral, digits_value, without_leading_plus}
 use Rattle.clap.specs.Matches.{matched_of, one_text, raw_values}
 use Rattle.clap.specs.declared.parser.matches.Found.{Found}
 use Rattle.swc_ecma_parser_input.specs.declared.syntax.EsSyntax.{EsSyntax}
@@ -60,10 +61,20 @@ IsGoal f g =
     × (IsUnset f (codes "script") → IsSet f (codes "module") → g ≡ goal.Module)
     × (IsUnset f (codes "script") → IsUnset f (codes "module") → g ≡ goal.Program)
 
+-- how many levels a number asks for: a thousand at most
+abbrev pub levels : (word : List ℕ) → ℕ
+levels word = min (digits_value 10 (without_leading_plus word)) 1000
+
+-- how many levels deep a file may nest: as many as the number behind `--limit` asks for; a thousand, where there is none
+pub record IsLimit (f : Found) (n : ℕ) : Type 0 where
+  pub bounded : n ≤ 1000
+  pub unnamed : one_text f (codes "limit") ≡ None → n ≡ 1000
+  pub named : (word : List ℕ) → one_text f (codes "limit") ≡ Some word → IsNumeral 10 (without_leading_plus word) → n ≡ levels word
+
 -- what the words ask of each file
 pub record AreOptions (f : Found) (o : Options) : Type 0 where
   pub goal : IsGoal f o.goal
-  pub limit : o.limit ≤ 1000
+  pub limit : IsLimit f o.limit
   pub settings : o.syntax ≡ syntax_named (option_map raw_values (matched_of f (codes "enable")))
   pub locations : IsFlag f (codes "locations") o.extras.locations
   pub ranges : IsFlag f (codes "ranges") o.extras.ranges

@@ -1,9 +1,9 @@
 //! The words that a run is called with.
 
-ghost use Rattle.std.specs.Prelude.{◌≡◌, ◌≤◌, codes, map, option_map};
+ghost use Rattle.std.specs.Prelude.{◌≡◌, codes, map, option_map};
 ghost use Rattle.clap.specs.Words.{first_value, found_of, matched_of, raw_values};
 ghost use Rattle.ecma_check.specs.Command as spec;
-ghost use Rattle.ecma_check.specs.Command.{AreOptions, IsGoal, syntax_named};
+ghost use Rattle.ecma_check.specs.Command.{AreOptions, IsGoal, IsLimit, syntax_named};
 
 use clap::{Arg, ArgAction, ArgMatches, Command, Error};
 use ecma_answers::{Goal, MAX_LIMIT, Options};
@@ -218,7 +218,7 @@ fn syntax_of(matches: &ArgMatches<'_>) -> Syntax
 
 /// How many levels deep a file may nest.
 fn limit_of(matches: &ArgMatches<'_>) -> u32
-    ensures { result ≤ 1000 }
+    ensures { IsLimit (found_of matches.now) result }
 {
     match matches.get_one::<u32>("limit") {
         Some(limit) => limit.min(MAX_LIMIT),
