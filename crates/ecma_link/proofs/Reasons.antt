@@ -1,5 +1,5 @@
 -- How a call ends, by what it came to.
-use Rattle.std.proofs.Common.{◌≡◌, ◌∙◌, ◌≤◌, ◌<◌, ℕ, List, ◌⊎◌, Err, None, Ok, Some, arith, inr, length, refl, subst, sym, take}
+use Rattle.std.proofs.Common.{◌≡◌, ◌∙◌, ◌≤◌, ◌<◌, ℕ, List, ◌⊎◌, Err, None, Ok, Some, ap, arith, inl, inr, length, refl, subst, sym, take}
 use Rattle.std.specs.Prelude.{IsUtf8}
 use Rattle.ecma_answers.specs.declared.options.Options.{Options}
 use Rattle.ecma_answers.specs.declared.parsing.Outcome.{Outcome}
@@ -15,7 +15,7 @@ use Rattle.ecma_link.specs.declared.faults.EcmaFault.{EcmaFault}
 use Rattle.ecma_link.specs.declared.faults.EcmaNeeded.{EcmaNeeded}
 use Rattle.ecma_link.specs.declared.options.EcmaOptions.{EcmaOptions}
 use Rattle.ecma_link.specs.Asked.{asked}
-use Rattle.ecma_link.specs.Calls.{Ends, IsBadText, IsCall, IsReason, IsWritten}
+use Rattle.ecma_link.specs.Calls.{Ends, HasSize, IsBadText, IsCall, IsReason, IsWritten}
 use Rattle.ecma_link.specs.Faults as faults
 
 pub unknown : (given : EcmaOptions) (text : List ℕ) (f : Failure) → asked given ≡ None → f ≡ failure.UnknownOption → IsReason given text f
@@ -47,9 +47,13 @@ unanswered w given text failure.NotUtf8 old needed h = (refl, h)
 unanswered w given text failure.TooLong old needed h = (refl, h)
 unanswered w given text failure.UnknownOption old needed h = (refl, h)
 
-pub too_short : (w : Wanted) (given : EcmaOptions) (text : List ℕ) (f : Failure) (old new : List ℕ) (needed : ℕ) → f ≡ failure.TooShort → new ≡ old
-    → length old < needed → Ends w given text (Err f) old new needed
-too_short w given text f old new needed e same h = subst (λ it. Ends w given text (Err it) old new needed) (sym e) (same, h)
+pub too_short : (w : Wanted) (given : EcmaOptions) (text : List ℕ) (f : Failure) (outcome : Outcome) (bytes items old new : List ℕ) (needed : ℕ)
+    → f ≡ failure.TooShort → new ≡ old → length old < length items → IsCall w given text outcome bytes → items ≡ bytes → needed ≡ length items
+    → Ends w given text (Err f) old new needed
+too_short w given text f outcome bytes items old new needed e kept short h same n =
+    let is_too_short = subst (λ it. length old < it) (sym n) short in
+    let sized : HasSize w given text needed = (outcome, bytes, ap length (sym same) ∙ sym n, h) in
+    subst (λ it. Ends w given text (Err it) old new needed) (sym e) (kept, is_too_short, sized)
 
 pub answered : (w : Wanted) (given : EcmaOptions) (text : List ℕ) (outcome : Outcome) (bytes items old new : List ℕ) (needed : ℕ)
     → IsCall w given text outcome bytes → items ≡ bytes → needed ≡ length items → length items ≤ length new → take (length items) new ≡ items
@@ -86,10 +90,27 @@ unanswered_faults given text failure.NotUtf8 room words needed h = (refl, refl, 
 unanswered_faults given text failure.TooLong room words needed h = (refl, refl, h)
 unanswered_faults given text failure.UnknownOption room words needed h = (refl, refl, h)
 
-pub too_short_for_words : (given : EcmaOptions) (text : List ℕ) (f : Failure) (room : List EcmaFault) (old new : List ℕ) (needed : EcmaNeeded)
-    → f ≡ failure.TooShort → new ≡ old → length old < needed.words → faults.Ends given text (Err f) room room old new needed
-too_short_for_words given text f room old new needed e same h =
-    subst (λ it. faults.Ends given text (Err it) room room old new needed) (sym e) (refl, same, inr h)
+sized : (given : EcmaOptions) (text : List ℕ) (outcome : Outcome) (its items : List EcmaFault) (words bytes : List ℕ) (needed : EcmaNeeded)
+    → faults.IsCall given text outcome its words → items ≡ its → bytes ≡ words → needed ≡ record { faults = length items; words = length bytes }
+    → faults.HasSize given text needed
+sized given text outcome its items words bytes needed h same_faults same_words e =
+    subst (λ n. faults.HasSize given text n) (sym e) (outcome, its, words, ap length (sym same_faults), ap length (sym same_words), h)
+
+pub too_short_for_faults : (given : EcmaOptions) (text : List ℕ) (outcome : Outcome) (its items room : List EcmaFault) (words bytes kept : List ℕ)
+    → (needed : EcmaNeeded) → length room < length items → faults.IsCall given text outcome its words → items ≡ its → bytes ≡ words
+    → needed ≡ record { faults = length items; words = length bytes } → faults.Ends given text (Err failure.TooShort) room room kept kept needed
+too_short_for_faults given text outcome its items room words bytes kept needed short h same_faults same_words e =
+    let is_too_short = subst (λ n. length room < n.faults) (sym e) short in
+    (refl, refl, inl is_too_short, sized given text outcome its items words bytes needed h same_faults same_words e)
+
+pub too_short_for_words : (given : EcmaOptions) (text : List ℕ) (f : Failure) (outcome : Outcome) (its items room : List EcmaFault)
+    → (words bytes old new : List ℕ) (needed : EcmaNeeded) → f ≡ failure.TooShort → new ≡ old → length old < length bytes
+    → faults.IsCall given text outcome its words → items ≡ its → bytes ≡ words → needed ≡ record { faults = length items; words = length bytes }
+    → faults.Ends given text (Err f) room room old new needed
+too_short_for_words given text f outcome its items room words bytes old new needed e kept short h same_faults same_words n =
+    let is_too_short = subst (λ n. length old < n.words) (sym n) short in
+    let size = sized given text outcome its items words bytes needed h same_faults same_words n in
+    subst (λ it. faults.Ends given text (Err it) room room old new needed) (sym e) (refl, kept, inr is_too_short, size)
 
 pub answered_faults : (given : EcmaOptions) (text : List ℕ) (outcome : Outcome) (its items : List EcmaFault) (words bytes : List ℕ)
     → (old_faults new_faults : List EcmaFault) (old_words new_words : List ℕ) (needed : EcmaNeeded)

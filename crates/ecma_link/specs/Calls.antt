@@ -46,8 +46,12 @@ IsCall w given text outcome out =
     IsUtf8 text × ((o : Options) × (asked given ≡ Some o) × ((r : Reading) × Decides o text r
     × (outcome ≡ outcome_of r.tree r.faults.items) × IsWritten w o text r out))
 
--- How a call ends that has a room of bytes: its front is the answer, or it stays as it was, for that reason.
+-- some answer has so many bytes
+abbrev pub HasSize : Wanted → EcmaOptions → List ℕ → ℕ → Type 0
+HasSize w given text size = (outcome : Outcome) × (out : List ℕ) × (length out ≡ size) × IsCall w given text outcome out
+
+-- How a call ends that has a room of bytes: its front is the answer; or the room stays as it was, where an answer is longer or for another reason.
 abbrev pub Ends : Wanted → EcmaOptions → List ℕ → Result Outcome Failure → (old new : List ℕ) → (needed : ℕ) → Type 0
 Ends w given text (Ok outcome) old new needed = (needed ≤ length new) × IsCall w given text outcome (take needed new)
-Ends w given text (Err failure.TooShort) old new needed = (new ≡ old) × (length old < needed)
+Ends w given text (Err failure.TooShort) old new needed = (new ≡ old) × (length old < needed) × HasSize w given text needed
 Ends w given text (Err f) old new needed = (new ≡ old) × IsReason given text f

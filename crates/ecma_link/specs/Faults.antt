@@ -48,12 +48,20 @@ IsCall given text outcome faults words =
     IsUtf8 text × ((o : Options) × (asked given ≡ Some o) × ((r : Reading) × Decides o text r
     × (outcome ≡ outcome_of r.tree r.faults.items) × ((told : List Told) × AllTold text r.tree r.faults.items told × AreFaults words told faults)))
 
--- How a call ends that has a room of faults and one of bytes: their fronts are the answer, or both stay as they were, for that reason.
+-- some answer takes so much room
+abbrev pub HasSize : EcmaOptions → List ℕ → EcmaNeeded → Type 0
+HasSize given text needed =
+    (outcome : Outcome) × (its : List EcmaFault) × (words : List ℕ) × (length its ≡ needed.faults) × (length words ≡ needed.words)
+    × IsCall given text outcome its words
+
+-- How a call ends that has a room of faults and one of bytes: their fronts are the answer; or both stay as they were, where one is too short for
+-- an answer or for another reason.
 abbrev pub Ends : EcmaOptions → List ℕ → Result Outcome Failure → (old_faults new_faults : List EcmaFault) → (old_words new_words : List ℕ) → EcmaNeeded → Type 0
 Ends given text (Ok outcome) old_faults new_faults old_words new_words needed =
     (needed.faults ≤ length new_faults) × (needed.words ≤ length new_words)
     × IsCall given text outcome (take needed.faults new_faults) (take needed.words new_words)
 Ends given text (Err failure.TooShort) old_faults new_faults old_words new_words needed =
     (new_faults ≡ old_faults) × (new_words ≡ old_words) × ((length old_faults < needed.faults) ⊎ (length old_words < needed.words))
+    × HasSize given text needed
 Ends given text (Err f) old_faults new_faults old_words new_words needed =
     (new_faults ≡ old_faults) × (new_words ≡ old_words) × IsReason given text f

@@ -69,7 +69,7 @@ fn answer_of(
 }
 
 /// Writes what a text is answered with to the front of a room, if that is long enough. `needed` becomes its length.
-#[tactic(auto, using(crate::proofs::Reasons::unanswered, crate::proofs::Reasons::too_short, crate::proofs::Reasons::answered))]
+#[tactic(auto, using(crate::proofs::Reasons::unanswered))]
 pub(crate) fn put_answer(
     alloc: Global,
     wanted: Wanted,
