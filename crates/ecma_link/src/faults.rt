@@ -129,7 +129,7 @@ fn read_faults(alloc: Global, text: &[u8], options: &EcmaOptions) -> Result<Foun
 }
 
 /// Writes the faults of a text and their words to the fronts of two rooms, if both are long enough. `needed` becomes how much they take.
-#[tactic(auto, using(crate::proofs::Reasons::unanswered_faults, crate::proofs::Reasons::too_short_for_words, crate::proofs::Reasons::answered_faults, crate::proofs::Reasons::no_room))]
+#[tactic(auto, using(crate::proofs::Reasons::unanswered_faults, crate::proofs::Reasons::no_room))]
 pub(crate) fn put_faults(
     alloc: Global,
     text: &[u8],
