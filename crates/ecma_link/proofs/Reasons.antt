@@ -1,5 +1,5 @@
 -- How a call ends, by what it came to.
-use Rattle.std.proofs.Common.{◌≡◌, ◌∙◌, ◌≤◌, ◌<◌, ℕ, List, ◌⊎◌, Err, None, Ok, Some, ap, arith, inl, inr, length, refl, subst, sym, take}
+use Rattle.std.proofs.Common.{◌≡◌, ◌∙◌, ◌≤◌, ◌<◌, ℕ, List, Err, None, Ok, Some, ap, arith, inl, inr, length, refl, subst, sym, take}
 use Rattle.std.specs.Prelude.{IsUtf8}
 use Rattle.ecma_answers.specs.declared.options.Options.{Options}
 use Rattle.ecma_answers.specs.declared.parsing.Outcome.{Outcome}
