@@ -1,8 +1,8 @@
 'use strict';
 // Calls the module. It is a file of its own so that a page can have it too: it needs nothing but WebAssembly.
 
-/** An instance that has grown beyond this is let go behind its call. */
-const KEPT_BYTES = 64 * 1024 * 1024;
+/** An instance that has grown beyond this is let go behind its call. 100 KB of text take up to 75 MB, which a new instance would have to grow again. */
+const KEPT_BYTES = 128 * 1024 * 1024;
 
 /** Room for what is asked for (three numbers of 32 bits), and behind it for the length of the answer. */
 const OPTIONS = 16;

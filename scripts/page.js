@@ -1,12 +1,12 @@
 'use strict';
 // Drives the page in web/ in a headless Chromium, by its pipe for debugging: keys, clicks, answers, a picture.
 //
-// usage: node [--experimental-wasm-memory64] scripts/page.js [--picture FILE] [--most MS] [--requests FILE]
+// usage: node [--experimental-wasm-memory64] scripts/page.js [--picture FILE] [--times] [--most MS] [--requests FILE]
 //
 // It types, opens the tree, clicks a fault, loads the page anew, has memory run out, tries what nests, and measures how long texts of 100 KB take
-// from a key to their answer; with --most it fails where a usual one takes longer, which says something on a quiet machine. With --picture it
-// keeps a picture of the page. With --requests it answers those in FILE (texts with the numbers of their options) as the page's worker does, and
-// writes the answers to standard output.
+// from a key to their answer. With --times it only measures; with --most it fails where a usual text takes longer, which says something on a quiet
+// machine. With --picture it keeps a picture of the page. With --requests it answers those in FILE (texts with the numbers of their options) as the
+// page's worker does, and writes the answers to standard output.
 
 const assert = require('node:assert');
 const fs = require('node:fs');
@@ -71,6 +71,10 @@ async function used(page) {
   assert.ok((await page.value(`$('faults').textContent`)).startsWith('2:4 refused'));
   await page.clickOn('#faults li');
   assert.deepStrictEqual(await page.value('[text.selectionStart, text.selectionEnd]'), [6, 7]);
+  await page.value('text.select(); self.before = number; 0');
+  await page.type('q');
+  await page.settled();
+  assert.deepStrictEqual(await page.value('[text.value, asked, number - before]'), ['q', 'q', 1], 'a key is asked for once');
   await page.given('f(\u00e9, 1n)');
   assert.strictEqual(await page.value(`$('faults').childElementCount`), 0);
   await page.clickOn('#tree > details > details:nth-of-type(1) > summary');
@@ -213,6 +217,10 @@ async function main() {
     const requests = word('--requests');
     if (requests) {
       console.log(JSON.stringify(await answered(page, JSON.parse(fs.readFileSync(requests, 'utf8')))));
+      return;
+    }
+    if (process.argv.includes('--times')) {
+      await measured(page);
       return;
     }
     await used(page);

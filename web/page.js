@@ -130,19 +130,31 @@ function show({ ms, count, faults, tree, entries, failure, generation, number })
 let isBusy = true;
 let isStale = false;
 let number = 0;
+let asked = '';
 
 function ask() {
   isStale = isBusy;
   if (isBusy) return;
   isBusy = true;
-  worker.postMessage({ text: text.value, options: optionsNow(), number });
+  worker.postMessage({ text: asked, options: optionsNow(), number });
 }
 
-function changed() {
+function changed(source = text.value) {
+  asked = source;
   number += 1;
   document.documentElement.dataset.asked = number;
   keep();
   ask();
+}
+
+/** What a key that is about to be taken in makes of the text: the worker begins with it while the browser lays the text out. */
+function foreseen({ inputType, data }) {
+  if (inputType !== 'insertText' || !data) return;
+  changed(text.value.slice(0, text.selectionStart) + data + text.value.slice(text.selectionEnd));
+}
+
+function edited() {
+  if (text.value !== asked) changed();
 }
 
 const worker = new Worker(URL.createObjectURL(new Blob([$('worker').textContent], { type: 'text/javascript' })));
@@ -168,8 +180,9 @@ async function start() {
   let first = FIRST;
   if (location.hash.length > 1) first = await unpacked(location.hash.slice(1)).catch(() => FIRST);
   text.value = first;
-  text.addEventListener('input', changed);
-  for (const it of document.querySelectorAll('header select, header input')) it.addEventListener('change', changed);
+  text.addEventListener('beforeinput', foreseen);
+  text.addEventListener('input', edited);
+  for (const it of document.querySelectorAll('header select, header input')) it.addEventListener('change', () => changed());
   changed();
 }
 
