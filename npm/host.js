@@ -7,7 +7,7 @@ const KEPT_BYTES = 128 * 1024 * 1024;
 /** Room for what is asked for (three numbers of 32 bits), and behind it for the length of the answer. */
 const OPTIONS = 16;
 
-/** A function that answers the status of a text, and its tree and faults as JSON. */
+/** A function that answers the status of a text, and its tree and faults as JSON, in bytes and as text: both are to be read before the next call. */
 function host(module, guessOf, memory) {
   const encoder = new TextEncoder();
   const decoder = new TextDecoder();
@@ -25,7 +25,7 @@ function host(module, guessOf, memory) {
     const at = it.ecma_room(BigInt(OPTIONS + 8));
     const from = it.ecma_room(BigInt(text.length + 1));
     const to = it.ecma_room(BigInt(room));
-    if (at === 0n || from === 0n || to === 0n) return { status: -2, needed: 0 };
+    if (at === 0n || from === 0n || to === 0n) return { status: -2, needed: 0, bytes: new Uint8Array(0) };
     new Uint8Array(it.memory.buffer).set(text, Number(from));
     new Uint32Array(it.memory.buffer, Number(at), 3).set([goal, limit, bits]);
     const status = it.ecma_parse(from, BigInt(text.length), at, to, BigInt(room), at + BigInt(OPTIONS));
@@ -40,9 +40,8 @@ function host(module, guessOf, memory) {
     instance = null;
     let found = called(it, text, numbers, guessOf(text.length, numbers.bits));
     if (found.status === -1) found = called(it, text, numbers, found.needed);
-    const json = found.status < 0 ? '' : decoder.decode(found.bytes);
     if (it.memory.buffer.byteLength <= KEPT_BYTES) instance = it;
-    return { status: found.status, json };
+    return { status: found.status, bytes: found.bytes, get json() { return decoder.decode(found.bytes); } };
   };
 }
 

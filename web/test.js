@@ -5,18 +5,18 @@ const assert = require('node:assert');
 const fs = require('node:fs');
 const path = require('node:path');
 const vm = require('node:vm');
-const { partsOf, valueEnd } = require('./parts.js');
+const { partsOf, valueEnd, textOf } = require('./parts.js');
 
 const SOURCES = ['../npm/answer.js', 'parts.js', 'worker.js'];
 
 /** An answer as the parser writes it: each fault in a line. */
 function written({ tree, faults }) {
-  return `{"tree":${JSON.stringify(tree)},"faults":[${faults.map(it => `${JSON.stringify(it)}\n`).join()}]}`;
+  return new TextEncoder().encode(`{"tree":${JSON.stringify(tree)},"faults":[${faults.map(it => `${JSON.stringify(it)}\n`).join()}]}`);
 }
 
 /** A worker whose parser answers what is given, and what it tells of that. */
 function told(status, answer) {
-  const context = vm.createContext({ self: {}, performance, given: { status, json: written(answer) } });
+  const context = vm.createContext({ self: {}, performance, TextDecoder, given: { status, bytes: written(answer) } });
   vm.runInContext(SOURCES.map(it => fs.readFileSync(path.join(__dirname, it), 'utf8')).join('\n'), context);
   const run = code => JSON.parse(vm.runInContext(`JSON.stringify(${code})`, context) ?? 'null');
   vm.runInContext('answer = () => given', context);
@@ -29,10 +29,10 @@ const fault = at => ({ kind: `K${at}`, message: 'm', byteStart: at, byteEnd: at,
 
 test('the parts of a value are those that JSON.parse finds', () => {
   for (const value of [[], {}, [1, -2.5e9, null, true], { 'a"\\': '},]"\\', b: [[], {}, ['"']], '\u2028': { c: {} } }, [[[[]]], '', { '': 0 }]]) {
-    const text = `x${JSON.stringify(value)}`;
-    const found = [...partsOf(text, 1)].map(({ name, from }) => [name, JSON.parse(text.slice(from, valueEnd(text, from)))]);
+    const bytes = new TextEncoder().encode(`x${JSON.stringify(value)}`);
+    const found = [...partsOf(bytes, 1)].map(({ name, from }) => [name, JSON.parse(textOf(bytes, from, valueEnd(bytes, from)))]);
     assert.deepStrictEqual(found, Object.entries(value));
-    assert.strictEqual(valueEnd(text, 1), text.length);
+    assert.strictEqual(valueEnd(bytes, 1), bytes.length);
   }
 });
 

@@ -3,33 +3,37 @@
 
 const MOST_ENTRIES = 200;
 const MOST_FAULTS = 100;
-const NODE = /\{"type":"(\w+)","start":(\d+),"end":(\d+)/y;
+const NODE = /^\{"type":"(\w+)","start":(\d+),"end":(\d+)/;
+/** How many bytes have all that NODE finds. */
+const MOST_HEAD = 128;
 const OWN_NAMES = ['type', 'start', 'end'];
+const LITERAL = '{"type":"Literal"';
 /** What stands before the tree, behind the body of a program, and before the faults. */
 const [TREE, REST, FAULTS] = ['{"tree":', ',"sourceType":"', ',"faults":['];
+const [OPEN, OPEN_LIST, CLOSE_LIST, NEWLINE] = ['{', '[', ']', '\n'].map(it => it.charCodeAt(0));
 /** From this status on an answer has no tree. */
 const NO_TREE = 2;
 
 let answer;
 let generation = 0;
-let written = '';
+/** What the parser wrote, as bytes of its memory. */
+let written = new Uint8Array(0);
 /** Where in what was written each node and list begins that was handed out. */
 let places = [];
 
-const valueOf = from => written.slice(from, parts.valueEnd(written, from));
+const valueOf = from => parts.textOf(written, from, parts.valueEnd(written, from));
 
 /** What is shown of an object: most are nodes. */
 function objectShown(from) {
-  NODE.lastIndex = from;
-  const found = NODE.exec(written);
+  const found = NODE.exec(parts.textOf(written, from, from + MOST_HEAD));
   return found ? { label: found[1], start: Number(found[2]), end: Number(found[3]) } : { label: '' };
 }
 
 /** What is shown of a part: a node or a list, which can be opened, or a value. */
 function entryOf({ name, from }) {
   const first = written[from];
-  if (first !== '{' && first !== '[') return { name, label: valueOf(from) };
-  const shown = first === '{' ? objectShown(from) : { label: written[from + 1] === ']' ? '[]' : '[..]' };
+  if (first !== OPEN && first !== OPEN_LIST) return { name, label: valueOf(from) };
+  const shown = first === OPEN ? objectShown(from) : { label: written[from + 1] === CLOSE_LIST ? '[]' : '[..]' };
   places.push(from);
   return { name, id: places.length - 1, ...shown };
 }
@@ -44,8 +48,8 @@ function literalEntries(from) {
 
 /** What stands in a node or a list, as far as it is shown. The end of a program's body is looked for from behind. */
 function entriesOf(from) {
-  if (written.startsWith('{"type":"Literal"', from)) return literalEntries(from);
-  const ends = from === TREE.length ? { body: written.lastIndexOf(REST) } : {};
+  if (parts.textOf(written, from, from + LITERAL.length) === LITERAL) return literalEntries(from);
+  const ends = from === TREE.length ? { body: parts.lastIndexOf(written, REST, 'T') } : {};
   const entries = [];
   for (const part of parts.partsOf(written, from, ends)) {
     if (OWN_NAMES.includes(part.name)) continue;
@@ -57,16 +61,17 @@ function entriesOf(from) {
 
 /** How many faults there are, and those that are shown. Each stands in a line. Where there is no tree, the last says why. */
 function faultsOf(from, hasTree) {
-  const lines = written.slice(from).split('\n').slice(0, -1);
-  const shown = lines.filter((_, index) => index < MOST_FAULTS || (!hasTree && index === lines.length - 1));
-  const faults = shown.map(line => answers.faultOf(JSON.parse(line.slice(1))));
+  const places = [];
+  for (let end; (end = written.indexOf(NEWLINE, from)) >= 0; from = end + 1) places.push([from + 1, end]);
+  const shown = places.filter((_, index) => index < MOST_FAULTS || (!hasTree && index === places.length - 1));
+  const faults = shown.map(([at, end]) => answers.faultOf(JSON.parse(parts.textOf(written, at, end))));
   if (!hasTree) faults.at(-1).isRefusal = true;
-  return { count: lines.length, faults };
+  return { count: places.length, faults };
 }
 
 /** What is shown of an answer. */
 function answerShown(status) {
-  const found = faultsOf(written.lastIndexOf(FAULTS) + FAULTS.length - 1, status < NO_TREE);
+  const found = faultsOf(parts.lastIndexOf(written, FAULTS, '[') + FAULTS.length - 1, status < NO_TREE);
   if (status >= NO_TREE) return found;
   return { ...found, tree: entryOf({ name: '', from: TREE.length }), entries: entriesOf(TREE.length) };
 }
@@ -78,10 +83,10 @@ function told(text, options) {
   const begun = performance.now();
   let found;
   try {
-    const { status, json } = answer(text, answers.numbersOf(options));
+    const { status, bytes } = answer(text, answers.numbersOf(options));
     const failure = answers.failureOf(status);
     if (failure) throw failure;
-    written = json;
+    written = bytes;
     found = answerShown(status);
   } catch (error) {
     found = { count: 0, faults: [], failure: error.message };
