@@ -79,6 +79,9 @@ async function used(page) {
   assert.strictEqual(await page.value(`$('faults').childElementCount`), 0);
   await page.clickOn('#tree > details > details:nth-of-type(1) > summary');
   await page.until(`$('tree').textContent.includes('ExpressionStatement')`);
+  await page.given('f(\u00e9, 1n);');
+  assert.ok(await page.value(`$('tree').textContent.includes('ExpressionStatement 0\u20139')`), 'what is open stays open, and tells its new place');
+  await page.given('f(\u00e9, 1n)');
   await page.until(`unpacked(location.hash.slice(1)).then(it => it === text.value, () => false)`);
   await page.value('self.isOld = true; location.reload()');
   await page.until('self.isOld === undefined && document.documentElement?.dataset.shown !== undefined');

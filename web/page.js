@@ -82,45 +82,83 @@ function faultShown(fault) {
   return it;
 }
 
-const waiting = new Map();
+// The tree. An element of it keeps what it shows as `entry`, and a new answer is shown in the elements that are there: to make them takes longer.
 
-/** A field of the tree. One that can be opened asks the worker what stands in it. */
-function entryShown(entry, generation) {
-  const name = made('span', 'key', entry.name === '' ? '' : `${entry.name}: `);
-  if (entry.id === undefined) {
-    const line = made('div');
-    line.append(name, made('span', 'field', entry.label));
-    return line;
-  }
-  const details = made('details');
+const waiting = new Map();
+let generation = 0;
+
+const nameOf = ({ name }) => (name === '' ? '' : `${name}: `);
+
+const placeOf = ({ start, end }) => (start === undefined ? '' : ` ${start}\u2013${end}`);
+
+/** A field whose value is no node and no list. */
+function valueShown(entry) {
+  const line = made('div');
+  line.append(made('span', 'key', nameOf(entry)), made('span', 'field', entry.label));
+  return Object.assign(line, { entry });
+}
+
+/** A field that can be opened. It tells the worker when it is opened or closed, and is answered what stands in it. */
+function nodeShown(entry) {
+  const details = Object.assign(made('details'), { entry, open: entry.entries !== undefined });
   const summary = made('summary');
-  summary.append(name, made('span', 'kind', entry.label));
-  if (entry.start !== undefined) {
-    const place = made('span', 'place', ` ${entry.start}\u2013${entry.end}`);
-    place.addEventListener('click', event => { event.preventDefault(); select(entry.start, entry.end); });
-    summary.append(place);
-  }
-  details.append(summary);
+  const place = made('span', 'place', placeOf(entry));
+  place.addEventListener('click', event => { event.preventDefault(); select(details.entry.start, details.entry.end); });
+  summary.append(made('span', 'key', nameOf(entry)), made('span', 'kind', entry.label), place);
+  details.append(summary, ...(entry.entries ?? []).map(entryShown));
+  let isOpen = details.open;
   details.addEventListener('toggle', () => {
-    if (details.open && details.childElementCount === 1) {
-      waiting.set(entry.id, details);
-      worker.postMessage({ open: entry.id, generation });
-    }
+    if (details.open === isOpen) return;
+    isOpen = details.open;
+    if (details.childElementCount === 1) waiting.set(details.entry.id, details);
+    worker.postMessage({ toggled: details.entry.id, isOpen, generation });
   });
   return details;
 }
 
-function show({ ms, count, faults, tree, entries, failure, generation, number }) {
+function entryShown(entry) {
+  return entry.id === undefined ? valueShown(entry) : nodeShown(entry);
+}
+
+/** Shows entries in the place of the elements behind the first of some. */
+function renewAll(parent, entries) {
+  const elements = Array.from(parent.children).slice(1);
+  entries.forEach((entry, index) => {
+    if (index < elements.length) renew(elements[index], entry);
+    else parent.append(entryShown(entry));
+  });
+  for (const it of elements.slice(entries.length)) it.remove();
+}
+
+/** Shows an entry in the place of another. */
+function renew(element, entry) {
+  const { name, label, id } = element.entry;
+  const isAlike = name === entry.name && label === entry.label && (id === undefined) === (entry.id === undefined);
+  if (!isAlike || element.open !== (entry.id === undefined ? undefined : entry.entries !== undefined)) {
+    element.replaceWith(entryShown(entry));
+    return;
+  }
+  if (id !== undefined) {
+    const place = placeOf(entry);
+    if (placeOf(element.entry) !== place) element.firstChild.lastChild.textContent = place;
+    renewAll(element, entry.entries ?? []);
+  }
+  element.entry = entry;
+}
+
+/** Shows a tree, or why there is none. */
+function treeShown(tree, why) {
+  const root = $('tree').firstChild;
+  if (!tree) $('tree').replaceChildren(made('p', '', why));
+  else if (root?.entry) renew(root, tree);
+  else $('tree').replaceChildren(entryShown(tree));
+}
+
+function show({ ms, count, faults, tree, failure, generation: shown, number }) {
+  generation = shown;
   $('faults').replaceChildren(...faults.map(faultShown));
   waiting.clear();
-  if (tree) {
-    const root = entryShown(tree, generation);
-    root.append(...entries.map(it => entryShown(it, generation)));
-    root.open = true;
-    $('tree').replaceChildren(root);
-  } else {
-    $('tree').replaceChildren(made('p', '', failure ?? 'no tree'));
-  }
+  treeShown(tree, failure ?? 'no tree');
   $('state').textContent = failure ?? `${count} ${count === 1 ? 'fault' : 'faults'}, ${ms.toFixed(1)} ms`;
   document.documentElement.dataset.shown = number;
 }
@@ -160,8 +198,9 @@ function edited() {
 const worker = new Worker(URL.createObjectURL(new Blob([$('worker').textContent], { type: 'text/javascript' })));
 
 worker.onmessage = ({ data }) => {
-  if (data.opened !== undefined) {
-    waiting.get(data.opened)?.append(...data.entries.map(it => entryShown(it, data.generation)));
+  if (data.toggled !== undefined) {
+    if (data.entries.length > 0) waiting.get(data.toggled)?.append(...data.entries.map(entryShown));
+    waiting.delete(data.toggled);
     return;
   }
   if (data.failure && !data.faults) {

@@ -20,7 +20,8 @@ function told(status, answer) {
   vm.runInContext(SOURCES.map(it => fs.readFileSync(path.join(__dirname, it), 'utf8')).join('\n'), context);
   const run = code => JSON.parse(vm.runInContext(`JSON.stringify(${code})`, context) ?? 'null');
   vm.runInContext('answer = () => given', context);
-  return { ...run(`told('', {})`), opened: id => run(`entriesOf(places[${id}])`) };
+  const again = () => run(`told('', {})`);
+  return { ...again(), again, opened: id => run(`toggled(${id}, true)`), closed: id => run(`toggled(${id}, false)`) };
 }
 
 const node = (type, start, end, fields) => ({ type, start, end, ...fields });
@@ -38,10 +39,23 @@ test('the parts of a value are those that JSON.parse finds', () => {
 
 test('a tree is handed out level by level', () => {
   const found = told(1, { tree: program([node('EmptyStatement', 3, 4)]), faults: [fault(5)] });
-  assert.deepStrictEqual(found.tree, { name: '', id: 0, label: 'Program', start: 0, end: 9 });
-  assert.deepStrictEqual(found.entries, [{ name: 'body', id: 1, label: '[..]' }, { name: 'sourceType', label: '"script"' }]);
+  const { entries, ...whole } = found.tree;
+  assert.deepStrictEqual(whole, { name: '', id: 0, label: 'Program', start: 0, end: 9 });
+  assert.deepStrictEqual(entries, [{ name: 'body', id: 1, label: '[..]' }, { name: 'sourceType', label: '"script"' }]);
   assert.deepStrictEqual(found.opened(1), [{ name: '0', id: 2, label: 'EmptyStatement', start: 3, end: 4 }]);
   assert.deepStrictEqual(found.faults.map(it => [it.kind, it.loc.start, it.isRefusal]), [['K5', { line: 1, column: 5 }, undefined]]);
+});
+
+test('what is open stays open in the next answer', () => {
+  const found = told(0, { tree: program([node('ExpressionStatement', 0, 2, { expression: node('Identifier', 0, 1, { name: 'a' }) })]), faults: [] });
+  const bodyOf = ({ tree }) => tree.entries[0];
+  assert.strictEqual(bodyOf(found).entries, undefined);
+  const [statement] = found.opened(1);
+  found.opened(statement.id);
+  const [expression] = bodyOf(found.again()).entries[0].entries;
+  assert.deepStrictEqual([expression.name, expression.label, expression.entries], ['expression', 'Identifier', undefined]);
+  found.closed(bodyOf(found.again()).id);
+  assert.strictEqual(bodyOf(found.again()).entries, undefined);
 });
 
 test('a big integer is shown', () => {
@@ -53,13 +67,13 @@ test('a big integer is shown', () => {
 test('what stands behind the body of a program is shown', () => {
   const tree = { ...program([node('ExpressionStatement', 0, 1, { expression: node('Identifier', 0, 1, { name: ',"sourceType":"' }) })]), comments: [], tokens: [{}] };
   const found = told(0, { tree, faults: [] });
-  assert.deepStrictEqual(found.entries.map(it => [it.name, it.label]), [['body', '[..]'], ['sourceType', '"script"'], ['comments', '[]'], ['tokens', '[..]']]);
+  assert.deepStrictEqual(found.tree.entries.map(it => [it.name, it.label]), [['body', '[..]'], ['sourceType', '"script"'], ['comments', '[]'], ['tokens', '[..]']]);
   assert.deepStrictEqual([found.count, found.faults], [0, []]);
 });
 
 test('of many parts and faults the first are shown', () => {
   const found = told(1, { tree: program(Array.from({ length: 500 }, (_, at) => node('EmptyStatement', at, at))), faults: Array.from({ length: 500 }, (_, at) => fault(at)) });
-  assert.strictEqual(found.entries[0].label, '[..]');
+  assert.strictEqual(found.tree.entries[0].label, '[..]');
   assert.deepStrictEqual(found.opened(1).slice(-1), [{ name: '..', label: 'more' }]);
   assert.deepStrictEqual([found.count, found.faults.length], [500, 100]);
 });

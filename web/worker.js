@@ -1,4 +1,5 @@
-// The part of the page that parses. It keeps the last answer, and hands out what stands in a node when that is opened.
+// The part of the page that parses. It keeps the last answer, and hands out what stands in a node when that is opened: of a new text at once
+// what stands at the paths that are open.
 'use strict';
 
 const MOST_ENTRIES = 200;
@@ -18,8 +19,10 @@ let answer;
 let generation = 0;
 /** What the parser wrote, as bytes of its memory. */
 let written = new Uint8Array(0);
-/** Where in what was written each node and list begins that was handed out. */
+/** Each node and list that was handed out: where it begins in what was written, and its path. */
 let places = [];
+/** The paths that are open: the names that lead to a node or a list, with a `/` before each. The first, of the whole, is empty. */
+const opened = new Set(['/']);
 
 const valueOf = from => parts.textOf(written, from, parts.valueEnd(written, from));
 
@@ -29,13 +32,14 @@ function objectShown(from) {
   return found ? { label: found[1], start: Number(found[2]), end: Number(found[3]) } : { label: '' };
 }
 
-/** What is shown of a part: a node or a list, which can be opened, or a value. */
-function entryOf({ name, from }) {
+/** What is shown of a part: a node or a list, which can be opened, with what stands in it if it is open; or a value. */
+function entryOf({ name, from }, above) {
   const first = written[from];
   if (first !== OPEN && first !== OPEN_LIST) return { name, label: valueOf(from) };
   const shown = first === OPEN ? objectShown(from) : { label: written[from + 1] === CLOSE_LIST ? '[]' : '[..]' };
-  places.push(from);
-  return { name, id: places.length - 1, ...shown };
+  const path = `${above}/${name}`;
+  const entry = { name, id: places.push({ from, path }) - 1, ...shown };
+  return opened.has(path) ? { ...entry, entries: entriesOf(from, path) } : entry;
 }
 
 /** The parts of a literal, with the value that JSON may have no form for. */
@@ -47,14 +51,14 @@ function literalEntries(from) {
 }
 
 /** What stands in a node or a list, as far as it is shown. The end of a program's body is looked for from behind. */
-function entriesOf(from) {
+function entriesOf(from, path) {
   if (parts.textOf(written, from, from + LITERAL.length) === LITERAL) return literalEntries(from);
   const ends = from === TREE.length ? { body: parts.lastIndexOf(written, REST, 'T') } : {};
   const entries = [];
   for (const part of parts.partsOf(written, from, ends)) {
     if (OWN_NAMES.includes(part.name)) continue;
     if (entries.length === MOST_ENTRIES) return [...entries, { name: '..', label: 'more' }];
-    entries.push(entryOf(part));
+    entries.push(entryOf(part, path));
   }
   return entries;
 }
@@ -73,7 +77,7 @@ function faultsOf(from, hasTree) {
 function answerShown(status) {
   const found = faultsOf(parts.lastIndexOf(written, FAULTS, '[') + FAULTS.length - 1, status < NO_TREE);
   if (status >= NO_TREE) return found;
-  return { ...found, tree: entryOf({ name: '', from: TREE.length }), entries: entriesOf(TREE.length) };
+  return { ...found, tree: entryOf({ name: '', from: TREE.length }, '') };
 }
 
 /** The tree and the faults of a text, or why there is no answer, and how long that took. */
@@ -94,6 +98,14 @@ function told(text, options) {
   return { ms: performance.now() - begun, ...found };
 }
 
+/** Notes that a node is opened or closed, and answers what stands in it. */
+function toggled(id, isOpen) {
+  const { from, path } = places[id];
+  if (isOpen) opened.add(path);
+  else opened.delete(path);
+  return isOpen ? entriesOf(from, path) : [];
+}
+
 self.onmessage = async ({ data }) => {
   if (data.module) {
     try {
@@ -102,8 +114,8 @@ self.onmessage = async ({ data }) => {
     } catch (error) {
       self.postMessage({ failure: `this browser cannot run it: ${error.message}` });
     }
-  } else if (data.open !== undefined) {
-    if (data.generation === generation) self.postMessage({ opened: data.open, generation, entries: entriesOf(places[data.open]) });
+  } else if (data.toggled !== undefined) {
+    if (data.generation === generation) self.postMessage({ toggled: data.toggled, generation, entries: toggled(data.toggled, data.isOpen) });
   } else {
     const found = told(data.text, data.options);
     self.postMessage({ ...found, generation, number: data.number });
