@@ -4,7 +4,7 @@
 /** An instance that has grown beyond this is let go behind its call. 100 KB of text take up to 75 MB, which a new instance would have to grow again. */
 const KEPT_BYTES = 128 * 1024 * 1024;
 
-/** Room for what is asked for (three numbers of 32 bits), and behind it for the length of the answer. */
+/** Room for what is asked for (four numbers of 32 bits, the last of which has all faults told), and behind it for the length of the answer. */
 const OPTIONS = 16;
 
 /** A function that answers the status of a text, and its tree and faults as JSON, in bytes and as text: both are to be read before the next call. */
@@ -27,7 +27,7 @@ function host(module, guessOf, memory) {
     const to = it.ecma_room(BigInt(room));
     if (at === 0n || from === 0n || to === 0n) return { status: -2, needed: 0, bytes: new Uint8Array(0) };
     new Uint8Array(it.memory.buffer).set(text, Number(from));
-    new Uint32Array(it.memory.buffer, Number(at), 3).set([goal, limit, bits]);
+    new Uint32Array(it.memory.buffer, Number(at), 4).set([goal, limit, bits, 0]);
     const status = it.ecma_parse(from, BigInt(text.length), at, to, BigInt(room), at + BigInt(OPTIONS));
     const needed = Number(new BigUint64Array(it.memory.buffer, Number(at) + OPTIONS, 1)[0]);
     return { status, needed, bytes: new Uint8Array(it.memory.buffer, Number(to), status < 0 ? 0 : needed) };

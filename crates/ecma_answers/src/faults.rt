@@ -4,7 +4,7 @@ ghost use Rattle.std.specs.Prelude.{◌≡◌, ◌++◌, ◌<◌, ◌^◌, OnOk,
 ghost use Rattle.std.specs.List.{flat_map};
 ghost use Rattle.ecma_answers.specs.Listed.{fault_text, next_text, recorded_text, refusal_text, told_text};
 
-use crate::parsing::{Reading, Tree};
+use crate::parsing::Tree;
 use ecma_estree_text::{Extras, Places};
 use ecma_faults::{note_of, push_json};
 use std::alloc::{AllocError, Global};
@@ -90,40 +90,39 @@ fn push_told(
     alloc: Global,
     out: &mut Vec<u8>,
     text: &str,
-    reading: &Reading,
+    tree: &PResult<Tree>,
+    faults: &[Error],
 ) -> Result<(), AllocError>
     requires { length text.now < 2 ^ 32 }
     ensures { OnOk result
-        (out.new.items ≡ out.old.items
-        ++ told_text text.now reading.now.tree reading.now.faults.items) }
+        (out.new.items ≡ out.old.items ++ told_text text.now tree.now faults.now) }
 {
     let extras = Extras {
         locations: true,
         ranges: false,
     };
     let places = Places::new(alloc, text, extras)?;
-    let faults = reading.faults.as_slice();
     out.extend_from_slice(b"[")?;
     push_recorded(out, &places, faults)?;
-    push_refusal(out, &places, &reading.tree, faults)?;
+    push_refusal(out, &places, tree, faults)?;
     out.extend_from_slice(b"]")
 }
 
-/// Writes the faults of a text as a list: those that were recorded, and why there is no tree. Lines are counted only where there is a fault.
+/// Writes faults of a text as a list: some that were recorded, and why there is no tree. Lines are counted only where there is a fault.
 #[tactic(auto, unfolding(crate::specs::Listed::told_text))]
 pub(crate) fn push_faults(
     alloc: Global,
     out: &mut Vec<u8>,
     text: &str,
-    reading: &Reading,
+    tree: &PResult<Tree>,
+    faults: &[Error],
 ) -> Result<(), AllocError>
     requires { length text.now < 2 ^ 32 }
     ensures { OnOk result
-        (out.new.items ≡ out.old.items
-        ++ told_text text.now reading.now.tree reading.now.faults.items) }
+        (out.new.items ≡ out.old.items ++ told_text text.now tree.now faults.now) }
 {
-    if reading.tree.is_ok() && reading.faults.is_empty() {
+    if tree.is_ok() && faults.is_empty() {
         return out.extend_from_slice(b"[]");
     }
-    push_told(alloc, out, text, reading)
+    push_told(alloc, out, text, tree, faults)
 }

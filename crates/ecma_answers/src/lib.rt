@@ -1,6 +1,7 @@
 //! What a text is answered with: a tree, faults, or both as JSON.
 #![tactic(auto)]
 
+mod cap;
 mod faults;
 mod object;
 mod options;
@@ -8,6 +9,7 @@ mod parsing;
 mod told;
 mod tree;
 
+pub use cap::{MAX_FAULTS, front, left_out};
 pub use object::answer;
 pub use options::{Goal, MAX_LIMIT, Options};
 pub use parsing::{Outcome, Reading, Tree, read};

@@ -1,4 +1,5 @@
 pub mod Command
+pub mod Faults
 pub mod Told
 pub mod Printed
 pub mod Sum

@@ -8,23 +8,18 @@ mod page;
 mod read;
 mod run;
 mod sum;
+mod tell;
 #[cfg(test)]
 mod tests;
 mod told;
+mod words;
 
 use std::process::ExitCode;
-use std::rt::Env;
-use std::{env, io};
-
-/// The arguments, the program's name among them.
-fn words(rt: &(impl Env + AllocGlobal)) -> io::Result<Vec<String>> {
-    Ok(env::args(rt)?.collect(rt.alloc())?)
-}
 
 fn main(rt: HostRuntime) -> ExitCode {
     let status = run::run(
         &rt,
-        &words(&rt),
+        &words::words(&rt),
         &mut rt.stdin(),
         &mut rt.stdout(),
         &mut rt.stderr(),

@@ -4,6 +4,7 @@ ghost use Rattle.std.specs.Prelude.{◌≡◌, IfOk, IfSome, OnOk, codes, string
 ghost use Rattle.std.specs.Io.KnownBytes.{IsAtEnd};
 
 use crate::fault::Fault;
+use crate::words::is_marked;
 use std::alloc::Global;
 use std::fs;
 use std::io::{ErrorKind, Read};
@@ -46,6 +47,9 @@ pub fn text_of<R: Files + AllocGlobal, I: Read>(
 {
     if file == "-" {
         return input_text(rt.alloc(), input);
+    }
+    if is_marked(file) {
+        return Err(Fault::BadName);
     }
     match fs::read_to_string(rt, file) {
         Ok(text) => Ok(text),

@@ -12,23 +12,14 @@ use crate::command::{Format, Settings, matches_of, settings_of};
 use crate::fault::Fault;
 use crate::read::{input_text, text_of};
 use crate::sum::{Sum, added, empty, line, status};
+use crate::tell::{cut_off, tell, tell_no_memory, write_bytes, write_fault, write_notes};
+use crate::words::shown;
 use clap::Error;
 use ecma_answers::Outcome;
 use ecma_faults::push_name;
 use std::alloc::{AllocError, Global};
-use std::io::{self, ErrorKind, Read, Write};
+use std::io::{Read, Write};
 use std::rt::Files;
-
-/// Writes all of some bytes.
-fn write_bytes<W: Write>(output: &mut W, bytes: &[u8]) -> Result<(), Fault>
-    ensures ok { OnOk result (Appends (W.contents output.old) (W.contents output.new) bytes.now) }
-    ensures err { IfErr result (λ fault. fault ≡ Fault.CannotWrite) }
-{
-    if output.write_all(bytes).is_err() {
-        return Err(Fault::CannotWrite);
-    }
-    Ok(())
-}
 
 /// Prints what a text comes to. The answer is how it comes out, and how many faults are told.
 fn answer_text<W: Write, E: Write>(
@@ -45,8 +36,7 @@ fn answer_text<W: Write, E: Write>(
 {
     let checked = check(alloc, settings, file, text)?;
     write_bytes(output, checked.printed.out.as_slice())?;
-    // There is no place left to say that this fails.
-    let _ = errors.write_all(checked.printed.notes.as_slice());
+    write_notes(errors, checked.printed.notes.as_slice())?;
     Ok((checked.outcome, checked.faults))
 }
 
@@ -63,25 +53,6 @@ fn answer<R: Files + AllocGlobal, I: Read, W: Write, E: Write>(
     answer_text(rt.alloc(), settings, file, text.as_str(), output, errors)
 }
 
-/// Writes lines of a text as a terminal may show them.
-fn push_lines(out: &mut Vec<u8>, text: &str) -> Result<(), AllocError> {
-    for line in text.lines() {
-        push_name(out, line)?;
-        out.push(b'\n')?;
-    }
-    Ok(())
-}
-
-/// Tells why a file, or the program, comes to no answer.
-fn tell<E: Write>(alloc: Global, errors: &mut E, name: &str, fault: Fault) {
-    let mut shown = Vec::new(alloc);
-    // There is no place left to say that one of these fails.
-    if push_name(&mut shown, name).is_ok() {
-        let _ = errors.write_all(shown.as_slice());
-    }
-    let _ = writeln!(errors, ": {fault}");
-}
-
 /// Writes the line that sums up a run, if people read it, and sees to it that all is written.
 fn finish<W: Write>(alloc: Global, output: &mut W, format: Format, sum: Sum) -> Result<(), Fault>
     ensures { OnOk result
@@ -91,10 +62,10 @@ fn finish<W: Write>(alloc: Global, output: &mut W, format: Format, sum: Sum) -> 
         let line = line(alloc, sum)?;
         write_bytes(output, line.as_slice())?;
     }
-    if output.flush().is_err() {
-        return Err(Fault::CannotWrite);
+    match output.flush() {
+        Ok(()) => Ok(()),
+        Err(error) => Err(write_fault(&error)),
     }
-    Ok(())
 }
 
 /// Prints what standard input comes to.
@@ -121,12 +92,11 @@ fn tell_answer<E: Write>(
     answer: &Result<(Outcome, usize), Fault>,
 ) -> Result<(), Fault> {
     match answer {
-        Err(Fault::CannotWrite) => Err(Fault::CannotWrite),
-        Err(fault) => {
-            tell(alloc, errors, file, *fault);
-            Ok(())
-        }
         Ok(_) => Ok(()),
+        Err(Fault::CannotWrite) => Err(Fault::CannotWrite),
+        Err(Fault::BrokenPipe) => Err(Fault::BrokenPipe),
+        Err(Fault::CannotTell) => Err(Fault::CannotTell),
+        Err(fault) => tell(alloc, errors, shown(file), *fault),
     }
 }
 
@@ -160,10 +130,7 @@ fn ended<E: Write>(alloc: Global, errors: &mut E, sum: Result<Sum, Fault>) -> u8
 {
     match sum {
         Ok(sum) => status(sum),
-        Err(fault) => {
-            tell(alloc, errors, "ecma-check", fault);
-            3
-        }
+        Err(fault) => cut_off(alloc, errors, fault),
     }
 }
 
@@ -225,19 +192,30 @@ fn run_files<R: Files + AllocGlobal, I: Read, W: Write, E: Write>(
     ensures { result ≤ 3 }
 {
     if is_of_one_file(settings.format) && files.len() != 1 {
-        tell(rt.alloc(), errors, "ecma-check", Fault::ManyFiles);
-        return 3;
+        return cut_off(rt.alloc(), errors, Fault::ManyFiles);
     }
     let sum = answers(rt, settings, files, input, output, errors);
     ended(rt.alloc(), errors, sum)
 }
 
+/// Writes lines of a text as a terminal may show them.
+fn push_lines(out: &mut Vec<u8>, text: &str) -> Result<(), AllocError> {
+    for line in text.lines() {
+        push_name(out, line)?;
+        out.push(b'\n')?;
+    }
+    Ok(())
+}
+
 /// Writes what the words come to that ask for no run.
 fn print_words<W: Write>(alloc: Global, output: &mut W, error: &Error) -> Result<(), Fault> {
     let text = format!(in alloc; "{error}")?;
-    let mut shown = Vec::new(alloc);
-    push_lines(&mut shown, text.as_str())?;
-    write_bytes(output, shown.as_slice())
+    if text.is_empty() {
+        return Err(Fault::OutOfMemory);
+    }
+    let mut lines = Vec::new(alloc);
+    push_lines(&mut lines, text.as_str())?;
+    write_bytes(output, lines.as_slice())
 }
 
 /// Tells what is wrong with the words, or prints the help that they ask for.
@@ -250,24 +228,14 @@ fn tell_words<W: Write, E: Write>(
     ensures { result ≤ 3 }
 {
     if error.use_stderr() {
-        // There is no place left to say that this fails.
-        let _ = print_words(alloc, errors, error);
+        if let Err(Fault::OutOfMemory) = print_words(alloc, errors, error) {
+            tell_no_memory(errors);
+        }
         return 3;
     }
     match print_words(alloc, output, error) {
         Ok(()) => 0,
-        Err(fault) => {
-            tell(alloc, errors, "ecma-check", fault);
-            3
-        }
-    }
-}
-
-/// Why there are no words.
-fn word_fault(error: &io::Error) -> Fault {
-    match error.kind() {
-        ErrorKind::OutOfMemory => Fault::OutOfMemory,
-        _ => Fault::BadWord,
+        Err(fault) => cut_off(alloc, errors, fault),
     }
 }
 
@@ -275,7 +243,7 @@ fn word_fault(error: &io::Error) -> Fault {
 /// no tree, 3 where one cannot be read, nothing can be written, or the words are no command.
 pub fn run<R: Files + AllocGlobal, I: Read, W: Write, E: Write>(
     rt: &R,
-    words: &io::Result<Vec<String>>,
+    words: &Result<Vec<String>, AllocError>,
     input: &mut I,
     output: &mut W,
     errors: &mut E,
@@ -285,16 +253,16 @@ pub fn run<R: Files + AllocGlobal, I: Read, W: Write, E: Write>(
 {
     let words = match words {
         Ok(words) => words,
-        Err(error) => {
-            tell(rt.alloc(), errors, "ecma-check", word_fault(error));
-            return 3;
-        }
+        Err(_) => return cut_off(rt.alloc(), errors, Fault::OutOfMemory),
     };
     let matches = match matches_of(rt.alloc(), words.as_slice()) {
         Ok(matches) => matches,
         Err(error) => return tell_words(rt.alloc(), output, errors, &error),
     };
-    let settings = settings_of(&matches);
+    let settings = match settings_of(rt.alloc(), &matches) {
+        Ok(settings) => settings,
+        Err(fault) => return cut_off(rt.alloc(), errors, fault),
+    };
     match matches.get_strs("FILE") {
         Some(files) if !files.is_empty() => run_files(rt, settings, files, input, output, errors),
         _ => run_input(rt.alloc(), settings, input, output, errors),
