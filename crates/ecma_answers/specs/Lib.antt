@@ -4,3 +4,4 @@ pub mod Written
 pub mod Capped
 pub mod Listed
 pub mod Told
+pub mod Same

@@ -3,6 +3,7 @@
 
 mod cap;
 mod faults;
+mod laws;
 mod object;
 mod options;
 mod parsing;
@@ -10,6 +11,7 @@ mod told;
 mod tree;
 
 pub use cap::{MAX_FAULTS, front, left_out};
+pub use laws::one_reading;
 pub use object::answer;
 pub use options::{Goal, MAX_LIMIT, Options};
 pub use parsing::{Outcome, Reading, Tree, read};

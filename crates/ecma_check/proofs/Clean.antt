@@ -115,7 +115,7 @@ module _ (s : Settings) (before mid : Option (List ℕ)) where
       let (reading, decides, a) = h.is_checked in
       let none : (sum.refusals it.0 ≡ 0) × (it.1 ≡ 0) = no_faults it.0 it.1 (subst (λ t. sum.status t ≡ 0) e z) in
       let unrefused = sym (ap sum.refusals (h.outcome ∙ a.outcome)) ∙ none.0 in
-      let (y, same, empty, spelled) = none_told s.options xs reading.tree reading.faults.items decides unrefused (sym (h.faults ∙ a.faults) ∙ none.1) in
+      let (y, same, empty, spelled) = none_told s.options xs reading.tree reading.faults.items decides.spelled unrefused (sym (h.faults ∙ a.faults) ∙ none.1) in
       let clean : it.0 ≡ outcome.Clean = h.outcome ∙ a.outcome ∙ ap (λ t. outcome_of t reading.faults.items) same ∙ ap (outcome_of (Ok y)) empty in
       let all : total ≡ one = e ∙ sum_of_one it.0 it.1 clean none.1 in
       let printed = subst (λ es. IsPrinted s.format s.options h.frame (codes "-") xs (Ok y) es h.checked.printed.out.items h.checked.printed.notes.items) empty
@@ -130,5 +130,5 @@ module _ (s : Settings) (before mid : Option (List ℕ)) where
   spelled_input total (Some xs) (Err f) h e u = λ x p. inr (ap sum.status u)
   spelled_input total (Some xs) (Ok it) h e u = λ x p.
       let (reading, decides, a) = h.is_checked in
-      let (clean, none) = spelled_none_told s.options xs reading.tree reading.faults.items decides x p in
+      let (clean, none) = spelled_none_told s.options xs reading.tree reading.faults.items decides.spelled x p in
       inl (ap sum.status (e ∙ sum_of_one it.0 it.1 (h.outcome ∙ a.outcome ∙ clean) (h.faults ∙ a.faults ∙ none)))

@@ -1,5 +1,5 @@
 -- How a call ends, by what it came to.
-use Rattle.std.proofs.Common.{◌≡◌, ◌∙◌, ◌≤◌, ◌<◌, ℕ, List, Err, None, Ok, Some, ap, arith, inl, inr, length, refl, subst, sym, take}
+use Rattle.std.proofs.Common.{◌≡◌, ◌∙◌, ◌≤◌, ◌<◌, ℕ, List, ◌++◌, Err, None, Ok, Some, ap, arith, drop, inl, inr, length, refl, subst, sym}
 use Rattle.std.specs.Prelude.{IsUtf8}
 use Rattle.ecma_answers.specs.declared.options.Options.{Options}
 use Rattle.ecma_answers.specs.declared.parsing.Outcome.{Outcome}
@@ -40,13 +40,12 @@ pub called : (w : Wanted) (given : EcmaOptions) (text chars : List ℕ) (o : Opt
 called w given text chars o r outcome bytes e f utf8 decides out written =
     (utf8, (o, e, (r, subst (λ it. Decides o it r) f decides, out, subst (λ it. IsWritten w o it r bytes) f written)))
 
-pub unanswered : (w : Wanted) (given : EcmaOptions) (text : List ℕ) (f : Failure) (old : List ℕ) (needed : ℕ) → IsReason given text f
-    → Ends w given text (Err f) old old needed
-unanswered w given text failure.TooShort old needed h = absurd h
-unanswered w given text failure.OutOfMemory old needed h = (refl, h)
-unanswered w given text failure.NotUtf8 old needed h = (refl, h)
-unanswered w given text failure.TooLong old needed h = (refl, h)
-unanswered w given text failure.UnknownOption old needed h = (refl, h)
+pub unanswered : (w : Wanted) (given : EcmaOptions) (text : List ℕ) (f : Failure) (old : List ℕ) → IsReason given text f → Ends w given text (Err f) old old 0
+unanswered w given text failure.TooShort old h = absurd h
+unanswered w given text failure.OutOfMemory old h = (refl, refl, h)
+unanswered w given text failure.NotUtf8 old h = (refl, refl, h)
+unanswered w given text failure.TooLong old h = (refl, refl, h)
+unanswered w given text failure.UnknownOption old h = (refl, refl, h)
 
 pub too_short : (w : Wanted) (given : EcmaOptions) (text : List ℕ) (f : Failure) (outcome : Outcome) (bytes items old new : List ℕ) (needed : ℕ)
     → f ≡ failure.TooShort → new ≡ old → length old < length items → IsCall w given text outcome bytes → items ≡ bytes → needed ≡ length items
@@ -57,11 +56,11 @@ too_short w given text f outcome bytes items old new needed e kept short h same 
     subst (λ it. Ends w given text (Err it) old new needed) (sym e) (kept, is_too_short, sized)
 
 pub answered : (w : Wanted) (given : EcmaOptions) (text : List ℕ) (outcome : Outcome) (bytes items old new : List ℕ) (needed : ℕ)
-    → IsCall w given text outcome bytes → items ≡ bytes → needed ≡ length items → length items ≤ length new → take (length items) new ≡ items
+    → IsCall w given text outcome bytes → items ≡ bytes → needed ≡ length items → length items ≤ length old → new ≡ items ++ drop (length items) old
     → Ends w given text (Ok outcome) old new needed
 answered w given text outcome bytes items old new needed h same e fits front =
-    let whole = subst (λ it. IsCall w given text outcome it) (sym (front ∙ same)) h in
-    subst (λ n. Ends w given text (Ok outcome) old new n) (sym e) (fits, whole)
+    let whole = subst (λ it. IsCall w given text outcome it) (sym same) h in
+    (items, whole, e, subst (λ n. n ≤ length old) (sym e) fits, front ∙ ap (λ n. items ++ drop n old) (sym e))
 
 -- ---- a room of faults and one of bytes
 
@@ -84,13 +83,13 @@ called_faults given text chars o r outcome told slice its words more e f utf8 de
   ),
 )
 
-pub unanswered_faults : (given : EcmaOptions) (text : List ℕ) (f : Failure) (room : List EcmaFault) (words : List ℕ) (needed : EcmaNeeded)
-    → IsReason given text f → faults.Ends given text (Err f) room room words words needed
-unanswered_faults given text failure.TooShort room words needed h = absurd h
-unanswered_faults given text failure.OutOfMemory room words needed h = (refl, refl, h)
-unanswered_faults given text failure.NotUtf8 room words needed h = (refl, refl, h)
-unanswered_faults given text failure.TooLong room words needed h = (refl, refl, h)
-unanswered_faults given text failure.UnknownOption room words needed h = (refl, refl, h)
+pub unanswered_faults : (given : EcmaOptions) (text : List ℕ) (f : Failure) (room : List EcmaFault) (words : List ℕ) → IsReason given text f
+    → faults.Ends given text (Err f) room room words words faults.nothing
+unanswered_faults given text failure.TooShort room words h = absurd h
+unanswered_faults given text failure.OutOfMemory room words h = (refl, refl, refl, h)
+unanswered_faults given text failure.NotUtf8 room words h = (refl, refl, refl, h)
+unanswered_faults given text failure.TooLong room words h = (refl, refl, refl, h)
+unanswered_faults given text failure.UnknownOption room words h = (refl, refl, refl, h)
 
 sized : (given : EcmaOptions) (text : List ℕ) (outcome : Outcome) (its items : List EcmaFault) (words bytes : List ℕ) (more : ℕ) (needed : EcmaNeeded)
     → faults.IsCall given text outcome its words more → items ≡ its → bytes ≡ words → needed ≡ record { faults = length items; words = length bytes; more = more }
@@ -117,12 +116,13 @@ too_short_for_words given text f outcome its items room words bytes old new more
 pub answered_faults : (given : EcmaOptions) (text : List ℕ) (outcome : Outcome) (its items : List EcmaFault) (words bytes : List ℕ)
     → (old_faults new_faults : List EcmaFault) (old_words new_words : List ℕ) (more : ℕ) (needed : EcmaNeeded)
     → faults.IsCall given text outcome its words more → items ≡ its → bytes ≡ words → needed ≡ record { faults = length items; words = length bytes; more = more }
-    → length items ≤ length new_faults → length bytes ≤ length new_words → take (length items) new_faults ≡ items
-    → take (length bytes) new_words ≡ bytes → faults.Ends given text (Ok outcome) old_faults new_faults old_words new_words needed
+    → length items ≤ length old_faults → length bytes ≤ length old_words → new_faults ≡ items ++ drop (length items) old_faults
+    → new_words ≡ bytes ++ drop (length bytes) old_words → faults.Ends given text (Ok outcome) old_faults new_faults old_words new_words needed
 answered_faults given text outcome its items words bytes old_faults new_faults old_words new_words more needed h same_faults same_words e fits_faults fits_words f g =
-    let first = subst (λ it. faults.IsCall given text outcome it words more) (sym (f ∙ same_faults)) h in
-    let whole = subst (λ it. faults.IsCall given text outcome (take (length items) new_faults) it more) (sym (g ∙ same_words)) first in
-    subst (λ n. faults.Ends given text (Ok outcome) old_faults new_faults old_words new_words n) (sym e) (fits_faults, fits_words, whole)
+    let first = subst (λ it. faults.IsCall given text outcome it words more) (sym same_faults) h in
+    let whole = subst (λ it. faults.IsCall given text outcome items it more) (sym same_words) first in
+    subst (λ n. faults.Ends given text (Ok outcome) old_faults new_faults old_words new_words n) (sym e)
+    (items, bytes, whole, refl, fits_faults, f, refl, fits_words, g)
 
 -- a room that was long enough is not too short
 pub no_room : (given : EcmaOptions) (text : List ℕ) (f : Failure) (old_faults new_faults : List EcmaFault) (old_words new_words : List ℕ)

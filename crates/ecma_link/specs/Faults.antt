@@ -56,14 +56,19 @@ HasSize given text needed =
     (outcome : Outcome) × (its : List EcmaFault) × (words : List ℕ) × (length its ≡ needed.faults) × (length words ≡ needed.words)
     × IsCall given text outcome its words needed.more
 
--- How a call ends that has a room of faults and one of bytes: their fronts are the answer; or both stay as they were, where one is too short for
--- an answer or for another reason.
+-- what an answer takes that has nothing
+abbrev pub nothing : EcmaNeeded
+nothing = record { faults = 0; words = 0; more = 0 }
+
+-- How a call ends that has a room of faults and one of bytes. Their fronts are the answer, as much as is needed, and what stands behind stays; or
+-- both stay as they were: where one is too short for an answer, of which the size is told, or for another reason, where nothing is needed.
 abbrev pub Ends : EcmaOptions → List ℕ → Result Outcome Failure → (old_faults new_faults : List EcmaFault) → (old_words new_words : List ℕ) → EcmaNeeded → Type 0
 Ends given text (Ok outcome) old_faults new_faults old_words new_words needed =
-    (needed.faults ≤ length new_faults) × (needed.words ≤ length new_words)
-    × IsCall given text outcome (take needed.faults new_faults) (take needed.words new_words) needed.more
+    (its : List EcmaFault) × (words : List ℕ) × IsCall given text outcome its words needed.more
+    × (needed.faults ≡ length its) × (needed.faults ≤ length old_faults) × (new_faults ≡ its ++ drop needed.faults old_faults)
+    × (needed.words ≡ length words) × (needed.words ≤ length old_words) × (new_words ≡ words ++ drop needed.words old_words)
 Ends given text (Err failure.TooShort) old_faults new_faults old_words new_words needed =
     (new_faults ≡ old_faults) × (new_words ≡ old_words) × ((length old_faults < needed.faults) ⊎ (length old_words < needed.words))
     × HasSize given text needed
 Ends given text (Err f) old_faults new_faults old_words new_words needed =
-    (new_faults ≡ old_faults) × (new_words ≡ old_words) × IsReason given text f
+    (new_faults ≡ old_faults) × (new_words ≡ old_words) × (needed ≡ nothing) × IsReason given text f
