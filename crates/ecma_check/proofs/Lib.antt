@@ -1,2 +1,4 @@
 mod Clean
+mod Files
 mod Results
+mod Sums

@@ -3,7 +3,7 @@ use Rattle.std.specs.Prelude.{◌≡◌, ◌≤◌, ℕ, Bool, true, false, List
 use Rattle.std.specs.List.{flat_map, slice_split}
 use Rattle.std.specs.Str.{bytes_eq}
 use Rattle.std.specs.Str.Parse.{IsNumeral, digits_value, without_leading_plus}
-use Rattle.clap.specs.Matches.{matched_of, one_text, raw_values}
+use Rattle.clap.specs.Matches.{first_value, matched_of, one_text, raw_values}
 use Rattle.clap.specs.declared.parser.matches.Found.{Found}
 use Rattle.swc_ecma_parser_input.specs.declared.syntax.EsSyntax.{EsSyntax}
 use Rattle.swc_ecma_parser_input.specs.declared.syntax.Syntax.{Syntax}
@@ -14,6 +14,7 @@ use Rattle.ecma_answers.specs.declared.options.Goal.TheVariants as goal
 use Rattle.ecma_answers.specs.declared.options.Options.{Options}
 use Rattle.ecma_check.specs.declared.command.Format.{Format}
 use Rattle.ecma_check.specs.declared.command.Format.TheVariants as format
+use Rattle.ecma_check.specs.declared.command.Settings.{Settings}
 
 -- whether a word stands there that has no value
 abbrev pub IsSet : Found → (name : List ℕ) → Type 0
@@ -104,3 +105,16 @@ pub record AreOptions (f : Found) (o : Options) : Type 0 where
   pub comments : IsFlag f (codes "comments") o.comments
   pub tokens : IsFlag f (codes "tokens") o.tokens
   pub max_faults : IsMost f o.max_faults
+
+-- the files that words name; standard input, where they name none
+abbrev pub files_named : Option (List (List ℕ)) → List (List ℕ)
+files_named None = codes "-" ∷ []
+files_named (Some []) = codes "-" ∷ []
+files_named (Some (f ∷ fs)) = f ∷ fs
+
+-- what words ask for that name what to check
+pub record IsCheck (f : Found) (s : Settings) (named : List (List ℕ)) : Type 0 where
+  pub format : s.format ≡ format_named (first_value f (codes "format"))
+  pub options : AreOptions f s.options
+  pub goals : IsOneGoal f
+  pub files : named ≡ files_named (option_map raw_values (matched_of f (codes "FILE")))

@@ -1,5 +1,5 @@
 -- Why a file or a run comes to no answer, as a line on standard error.
-use Rattle.std.specs.Prelude.{ℕ, List, ◌++◌, codes}
+use Rattle.std.specs.Prelude.{◌≡◌, ◌≢◌, ◌⊎◌, ℕ, List, ◌∷◌, ◌++◌, codes}
 use Rattle.ecma_faults.specs.Shown.{name_text}
 use Rattle.ecma_check.specs.declared.fault.Fault.{Fault}
 use Rattle.ecma_check.specs.declared.fault.Fault.TheVariants as fault
@@ -23,3 +23,7 @@ sentence fault.OutOfMemory = codes "out of memory"
 -- a name, of which nothing is shown that a terminal might take for an order, and what is told
 unfoldable pub fault_line : (name : List ℕ) → Fault → List ℕ
 fault_line name f = name_text name ++ (codes ": " ++ (sentence f ++ codes "\n"))
+
+-- a word as it is told: of one that is not UTF-8 the escaped bytes, which stand behind NUL
+abbrev pub IsShown : (word name : List ℕ) → Type 0
+IsShown word name = (word ≡ 0 ∷ name) ⊎ (((rest : List ℕ) → word ≢ 0 ∷ rest) × (name ≡ word))

@@ -4,3 +4,4 @@ pub mod Told
 pub mod Printed
 pub mod Sum
 pub mod Answered
+pub mod Runs

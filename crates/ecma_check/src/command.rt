@@ -1,6 +1,6 @@
 //! The words that a run is called with.
 
-ghost use Rattle.std.specs.Prelude.{◌≡◌, IfOk, OnOk, codes, map, option_map, true};
+ghost use Rattle.std.specs.Prelude.{◌≡◌, IfErr, IfOk, OnOk, codes, map, option_map, true};
 ghost use Rattle.clap.specs.Words.{first_value, found_of, matched_of, raw_values};
 ghost use Rattle.ecma_check.specs.Command as spec;
 ghost use Rattle.ecma_check.specs.Command.{AreOptions, IsGoal, IsLimit, IsMost, IsOneGoal, names_in, syntax_named};
@@ -238,7 +238,6 @@ fn enabled(settings: EsSyntax, name: &str) -> EsSyntax
 fn all_enabled(settings: EsSyntax, names: &[&str]) -> Result<EsSyntax, Fault>
     ensures enabled { IfOk result
         (λ it. it ≡ spec.all_enabled settings (map (λ name. name.now) names.now)) }
-    ensures known { OnOk result (All (λ name. spec.is_flag name.now ≡ true) names.now) }
     ensures unknown { IfErr result (λ fault. fault ≡ Fault.UnknownFlag) }
 {
     let mut settings = settings;

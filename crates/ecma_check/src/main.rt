@@ -1,6 +1,7 @@
 //! The program `ecma-check`: it tells the faults of JavaScript files in sentences, or writes their trees as ESTree.
 #![tactic(auto)]
 
+mod call;
 mod check;
 mod command;
 mod fault;
@@ -17,9 +18,10 @@ mod words;
 use std::process::ExitCode;
 
 fn main(rt: HostRuntime) -> ExitCode {
+    let words = words::words(&rt);
     let status = run::run(
         &rt,
-        &words::words(&rt),
+        &call::asked(rt.alloc(), &words),
         &mut rt.stdin(),
         &mut rt.stdout(),
         &mut rt.stderr(),

@@ -23,7 +23,7 @@ fn fault_of(kind: ErrorKind) -> Fault {
 }
 
 /// All that standard input has left.
-pub fn input_text<I: Read>(alloc: Global, input: &mut I) -> Result<String, Fault>
+fn input_text<I: Read>(alloc: Global, input: &mut I) -> Result<String, Fault>
     ensures whole { IfOk result
         (λ text. IfSome (I.remaining input.old) (λ xs. string_bytes text ≡ xs)) }
     ensures end { OnOk result (IsAtEnd (I.remaining input.new)) }

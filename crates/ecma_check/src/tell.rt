@@ -58,12 +58,6 @@ fn fault_line(alloc: Global, name: &str, fault: Fault) -> Result<Vec<u8>, AllocE
     Ok(line)
 }
 
-/// Tells that memory ran out, which takes none.
-pub fn tell_no_memory<E: Write>(errors: &mut E) {
-    // There is no place left to say that this fails.
-    let _ = errors.write_all(NO_MEMORY);
-}
-
 /// Tells in a line why a file, or the program, comes to no answer. Where there is no memory for the line, it tells that.
 pub fn tell<E: Write>(alloc: Global, errors: &mut E, name: &str, fault: Fault) -> Result<(), Fault>
     ensures ok { OnOk result
@@ -73,7 +67,8 @@ pub fn tell<E: Write>(alloc: Global, errors: &mut E, name: &str, fault: Fault) -
     match fault_line(alloc, name, fault) {
         Ok(line) => write_notes(errors, line.as_slice()),
         Err(_) => {
-            tell_no_memory(errors);
+            // There is no place left to say that this fails.
+            let _ = errors.write_all(NO_MEMORY);
             Err(Fault::CannotTell)
         }
     }

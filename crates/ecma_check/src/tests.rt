@@ -1,5 +1,6 @@
 //! Runs over readers and writers in memory.
 
+use crate::call::asked;
 use crate::run::run;
 use std::alloc::{AllocError, Global};
 use std::io::{Read, Write};
@@ -105,7 +106,8 @@ fn ended(
         room: given.note_room,
         failure: given.failure,
     };
-    let status = run(rt, &words, &mut input, &mut output, &mut errors);
+    let call = asked(alloc, &words);
+    let status = run(rt, &call, &mut input, &mut output, &mut errors);
     let output = str::from_utf8(output.taken.as_slice())?;
     let errors = str::from_utf8(errors.taken.as_slice())?;
     Ok(format!(in alloc; "{output}|{errors}|{status}")?)

@@ -1,6 +1,7 @@
 //! The words that the program is called with.
 
 ghost use Rattle.std.specs.Prelude.{◌≡◌, IfOk, IsUtf8, string_bytes};
+ghost use Rattle.ecma_check.specs.Faults.{IsShown};
 
 use std::alloc::{AllocError, Global};
 use std::env::FillError;
@@ -15,8 +16,14 @@ pub fn is_marked(word: &str) -> bool {
 }
 
 /// A word as it is told: of one that is not UTF-8 the escaped bytes.
-pub fn shown(word: &str) -> &str {
-    word.strip_prefix(MARK).unwrap_or(word)
+#[tactic(auto, using(std::proofs::lemmas::Str::strip_prefix_char))]
+pub fn shown(word: &str) -> &str
+    ensures { IsShown word.now result.now }
+{
+    match word.strip_prefix(MARK) {
+        Some(escaped) => escaped,
+        None => word,
+    }
 }
 
 /// Writes bytes with `\xNN` in the place of each that is no character of ASCII.
