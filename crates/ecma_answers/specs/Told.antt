@@ -22,7 +22,7 @@ point_at text n = record {
 pub record IsTold (text : List ℕ) (is_refusal : Bool) (e : Error) (it : Told) : Type 0 where
   pub refusal : it.is_refusal ≡ is_refusal
   pub kind : it.kind.now ≡ name_of (kind_of e.kind)
-  pub message : string_bytes it.message ≡ message_of e.kind
+  pub message : string_bytes it.message ≡ message_of text e
   pub start : it.start ≡ point_at text e.span.lo.0
   pub end : it.end ≡ point_at text e.span.hi.0
 
