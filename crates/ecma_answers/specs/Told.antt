@@ -5,7 +5,7 @@ use Rattle.swc_ecma_parser_error.specs.declared.error.Error.{Error}
 use Rattle.swc_ecma_parser_error.specs.Kind.{kind_of, name_of}
 use Rattle.ecma_estree_text.specs.Places.{offset}
 use Rattle.ecma_estree_text.specs.Spots.{spot_at}
-use Rattle.ecma_faults.specs.Message.{message_of}
+use Rattle.ecma_sentences.specs.Message.{message_of}
 use Rattle.ecma_answers.specs.declared.told.Point.{Point}
 use Rattle.ecma_answers.specs.declared.told.Told.{Told}
 

@@ -2,7 +2,8 @@
 use Rattle.std.proofs.Common.{◌≡◌, ℕ, zero, suc, ◌-◌, ◌<◌, true, false, cond, refl, ap, sym, ◌∙◌, arith}
 use Rattle.std.proofs.lemmas.Bool.Decides.{nat_tests}
 use Rattle.ecma_estree_text.specs.Places.{Placed}
-use Rattle.ecma_faults.specs.Excerpt.{back, is_boundary, is_far, left_of}
+use Rattle.ecma_faults.specs.Excerpt.{back, is_far, left_of}
+use Rattle.ecma_outline.specs.Piece.{is_boundary}
 
 abbrev at_start : Placed → (edge left n : ℕ) → ℕ
 at_start p edge left n = cond (is_far p (left_of p edge left (suc n)) (suc n)) (suc n) (back p (suc n) (left_of p edge left (suc n)) n)

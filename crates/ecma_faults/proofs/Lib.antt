@@ -1,7 +1,4 @@
 mod Back
 mod Chars
 pub mod Columns
-mod Outlines
-mod Payloads
 mod Safe
-mod Said

@@ -1,10 +1,10 @@
 -- The line of a place, and carets under the place. A long line is cut around it. Offsets are in bytes.
-use Rattle.std.specs.Prelude.{ℕ, zero, suc, List, [], ◌∷◌, ◌++◌, ◌+◌, ◌-◌, ◌==◌, ◌&&◌, ◌||◌, Bool, true, false, cond, if◌then◌else◌, min, max, nat_le, nat_lt, length, replicate, slice_index, slice_range, codes, chars}
+use Rattle.std.specs.Prelude.{ℕ, zero, suc, List, [], ◌∷◌, ◌++◌, ◌+◌, ◌-◌, ◌==◌, ◌&&◌, ◌||◌, Bool, true, false, cond, if◌then◌else◌, min, max, nat_lt, length, replicate, codes, chars}
 use Rattle.ecma_estree_text.specs.Places.{Placed}
 use Rattle.ecma_estree_text.specs.Spots.{spot_at}
 use Rattle.ecma_estree_text.specs.declared.spot.Spot.{Spot}
 use Rattle.ecma_faults.specs.Shown.{columns, shown_bytes, shown_text, blank_text}
-use Rattle.ecma_faults.specs.Texts.{byte_at}
+use Rattle.ecma_outline.specs.Piece.{byte_at, is_boundary, piece}
 
 -- a text that begins with the three bytes of a byte order mark, U+FEFF
 abbrev pub has_mark : List ℕ → Bool
@@ -17,14 +17,6 @@ column_in text s = if s.line == 1 && has_mark text then s.column - 1 else s.colu
 -- the column of an offset, from 0, in code units of UTF-16; 0 where no columns are known
 abbrev pub column_of : Placed → ℕ → ℕ
 column_of p n = cond p.has_locations (column_in p.text (spot_at p.text n)) 0
-
--- no character of UTF-8 has its middle there
-abbrev pub is_boundary : List ℕ → ℕ → Bool
-is_boundary text n = nat_le n (length text) && (nat_lt (slice_index text n) 128 || nat_le 192 (slice_index text n))
-
--- a part of a text; nothing where it is cut in the midst of a character
-unfoldable pub piece : List ℕ → (from to : ℕ) → List ℕ
-piece text from to = if nat_le from to && is_boundary text from && is_boundary text to then slice_range text from to else []
 
 -- a character that ends a line: ECMA-262, "Line Terminators" (section 12.3)
 abbrev pub is_line_end : ℕ → Bool

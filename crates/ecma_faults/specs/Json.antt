@@ -7,8 +7,8 @@ use Rattle.ecma_estree_text.specs.Places.{Placed, offset}
 use Rattle.ecma_estree_text.specs.Quoted.{quoted}
 use Rattle.ecma_estree_text.specs.Spots.{spot_at}
 use Rattle.ecma_estree_text.specs.declared.spot.Spot.{Spot}
-use Rattle.ecma_faults.specs.Message.{message_of}
-use Rattle.ecma_faults.specs.Note.{note_of}
+use Rattle.ecma_sentences.specs.Message.{message_of}
+use Rattle.ecma_sentences.specs.Note.{note_of}
 
 -- how a further field begins
 unfoldable pub key : List ℕ → List ℕ

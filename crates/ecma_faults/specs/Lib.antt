@@ -1,15 +1,4 @@
-pub mod Bytes
-pub mod Decided
 pub mod Excerpt
 pub mod Json
-pub mod Look
-pub mod Message
-pub mod Note
-pub mod Number
-pub mod Outline
-pub mod Payload
-pub mod Sentence
 pub mod Shown
-pub mod Situation
 pub mod Text
-pub mod Texts

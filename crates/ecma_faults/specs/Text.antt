@@ -7,8 +7,8 @@ use Rattle.ecma_estree_text.specs.Places.{Placed}
 use Rattle.ecma_estree_text.specs.Spots.{spot_at}
 use Rattle.ecma_estree_text.specs.declared.spot.Spot.{Spot}
 use Rattle.ecma_faults.specs.Excerpt.{column_in, excerpt_text}
-use Rattle.ecma_faults.specs.Message.{message_of}
-use Rattle.ecma_faults.specs.Note.{note_of}
+use Rattle.ecma_sentences.specs.Message.{message_of}
+use Rattle.ecma_sentences.specs.Note.{note_of}
 use Rattle.ecma_faults.specs.Shown.{name_text}
 
 abbrev pub spot_text : (file text : List ℕ) → Spot → List ℕ

@@ -3,10 +3,11 @@
 ghost use Rattle.std.specs.Prelude.{◌≡◌, ◌++◌, ◌≤◌, OnOk, chars};
 ghost use Rattle.ecma_faults.specs.Excerpt.{caret_text, dots, excerpt_text, is_line_end, line_rest, line_text, rest_columns};
 
-use crate::place::{column, piece, room, start};
+use crate::place::{column, room, start};
 use crate::room::room_taken;
 use crate::shown::{push_blanks, push_char, push_shown, push_times, width};
 use ecma_estree_text::Places;
+use ecma_outline::piece;
 use std::alloc::AllocError;
 
 /// Whether a character ends a line: ECMA-262, "Line Terminators" (section 12.3).

@@ -2,13 +2,12 @@
 
 ghost use Rattle.std.specs.Prelude.{◌≡◌, ◌++◌, ◌<◌, ◌^◌, OnOk, length};
 ghost use Rattle.ecma_faults.specs.Json as json;
-ghost use Rattle.ecma_faults.specs.Note.{noted};
+ghost use Rattle.ecma_sentences.specs.Note.{noted};
 ghost use Rattle.ecma_faults.specs.Json.{fault_json, first, head_json, key, note_json, offsets_json, place_json, span_json, spot_json};
 
-use crate::messages::message;
-use crate::note::{Note, note_of};
-use crate::source::Source;
 use ecma_estree_text::{Places, Spot, push_count, push_quoted};
+use ecma_outline::Source;
+use ecma_sentences::{Note, message, note_of};
 use std::alloc::AllocError;
 use swc_ecma_parser_common::Span;
 use swc_ecma_parser_error::Error;

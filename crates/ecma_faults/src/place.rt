@@ -2,11 +2,11 @@
 
 ghost use Rattle.std.specs.Prelude.{◌≡◌, ◌≤◌};
 ghost use Rattle.ecma_faults.specs.Excerpt as show;
-ghost use Rattle.ecma_faults.specs.Excerpt.{column_of, is_boundary, room_of, start_of};
+ghost use Rattle.ecma_faults.specs.Excerpt.{column_of, room_of, start_of};
 
 use crate::room::room_left;
-use crate::texts::byte_at;
 use ecma_estree_text::{Places, Spot};
+use ecma_outline::{byte_at, is_start, piece};
 
 /// How many columns are shown before what is wrong.
 const BEFORE: usize = 40;
@@ -77,28 +77,4 @@ pub(crate) fn room(places: &Places<'_>, from: usize, low: usize) -> usize
     ensures bound { result ≤ 74 }
 {
     room_left(MOST, piece(places.text(), from, low))
-}
-
-/// Whether a text may be cut at an offset.
-pub(crate) fn is_start(text: &str, position: usize) -> bool
-    ensures { result ≡ is_boundary text.now position }
-{
-    let bytes = text.as_bytes();
-    if position < bytes.len() {
-        bytes[position] < 128 || 192 <= bytes[position]
-    } else {
-        position == bytes.len()
-    }
-}
-
-/// A part of a text; nothing where it is cut in the midst of a character.
-#[tactic(auto, unfolding(crate::specs::Excerpt::piece))]
-pub(crate) fn piece(text: &str, from: usize, to: usize) -> &str
-    ensures { result.now ≡ show.piece text.now from to }
-{
-    if from <= to && is_start(text, from) && is_start(text, to) {
-        &text[from..to]
-    } else {
-        ""
-    }
 }

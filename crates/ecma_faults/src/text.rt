@@ -1,16 +1,15 @@
 //! Faults as text: a line with the place and a sentence, the line of the text, and carets under what is wrong.
 
 ghost use Rattle.std.specs.Prelude.{◌≡◌, ◌++◌, ◌<◌, ◌^◌, OnOk, length};
-ghost use Rattle.ecma_faults.specs.Note.{noted};
+ghost use Rattle.ecma_sentences.specs.Note.{noted};
 ghost use Rattle.ecma_faults.specs.Text.{fault_text, note_text, place_text, spot_text, told_text};
 
 use crate::excerpt::push_excerpt;
-use crate::messages::message;
-use crate::note::{Note, note_of};
 use crate::place::column_in;
 use crate::shown::push_name;
-use crate::source::Source;
 use ecma_estree_text::{Places, Spot, push_count};
+use ecma_outline::Source;
+use ecma_sentences::{Note, message, note_of};
 use std::alloc::AllocError;
 use swc_ecma_parser_common::Span;
 use swc_ecma_parser_error::Error;
