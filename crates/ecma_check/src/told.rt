@@ -5,8 +5,8 @@ ghost use Rattle.ecma_check.specs.Told.{counted_in, fault_in, faults_in, lined, 
 
 use crate::command::{Format, Settings};
 use ecma_answers::{Reading, Tree, front, left_out};
-use ecma_estree_text::{Extras, Places, push_count, push_quoted};
-use ecma_faults::{note_of, push_json, push_name, push_text};
+use ecma_estree_text::{push_count, push_quoted};
+use ecma_faults::{Source, push_json, push_name, push_text};
 use std::alloc::{AllocError, Global};
 use swc_ecma_parser::error::{Error, PResult};
 
@@ -15,18 +15,17 @@ fn push_fault(
     out: &mut Vec<u8>,
     format: Format,
     file: &str,
-    places: &Places<'_>,
+    source: &Source<'_>,
     word: &str,
     error: &Error,
 ) -> Result<(), AllocError>
-    requires { length places.now.text < 2 ^ 32 }
+    requires { length source.now.text < 2 ^ 32 }
     ensures { OnOk result (out.new.items
-        ≡ out.old.items ++ fault_in format places.now file.now word.now error.now) }
+        ≡ out.old.items ++ fault_in format source.now file.now word.now error.now) }
 {
-    let note = note_of(&error.kind);
     match format {
-        Format::Json | Format::Html => push_json(out, file, places, word, error, note),
-        Format::Text | Format::Estree => push_text(out, file, places, word, error, note),
+        Format::Json | Format::Html => push_json(out, file, source, word, error),
+        Format::Text | Format::Estree => push_text(out, file, source, word, error),
     }
 }
 
@@ -35,15 +34,15 @@ fn push_faults(
     out: &mut Vec<u8>,
     format: Format,
     file: &str,
-    places: &Places<'_>,
+    source: &Source<'_>,
     faults: &[Error],
 ) -> Result<(), AllocError>
-    requires { length places.now.text < 2 ^ 32 }
+    requires { length source.now.text < 2 ^ 32 }
     ensures { OnOk result (out.new.items
-        ≡ out.old.items ++ faults_in format places.now file.now faults.now) }
+        ≡ out.old.items ++ faults_in format source.now file.now faults.now) }
 {
     for fault in faults {
-        push_fault(out, format, file, places, "fault", fault)?;
+        push_fault(out, format, file, source, "fault", fault)?;
     }
     Ok(())
 }
@@ -101,16 +100,16 @@ fn push_refusal(
     out: &mut Vec<u8>,
     format: Format,
     file: &str,
-    places: &Places<'_>,
+    source: &Source<'_>,
     tree: &PResult<Tree>,
 ) -> Result<(), AllocError>
-    requires { length places.now.text < 2 ^ 32 }
+    requires { length source.now.text < 2 ^ 32 }
     ensures { OnOk result (out.new.items
-        ≡ out.old.items ++ refusal_in format places.now file.now tree.now) }
+        ≡ out.old.items ++ refusal_in format source.now file.now tree.now) }
 {
     match tree {
         Ok(_) => Ok(()),
-        Err(error) => push_fault(out, format, file, places, "refused", error),
+        Err(error) => push_fault(out, format, file, source, "refused", error),
     }
 }
 
@@ -132,17 +131,13 @@ pub fn told(
     if reading.tree.is_ok() && reading.faults.is_empty() {
         return Ok(out);
     }
-    let extras = Extras {
-        locations: true,
-        ranges: false,
-    };
-    let places = Places::new(alloc, text, extras)?;
+    let source = Source::new(alloc, text)?;
     let Settings { format, options } = settings;
     let faults = reading.faults.as_slice();
     let told = front(faults, options.max_faults);
-    push_faults(&mut out, format, file, &places, told)?;
+    push_faults(&mut out, format, file, &source, told)?;
     let more = left_out(faults, options.max_faults);
     push_more(&mut out, format, file, more)?;
-    push_refusal(&mut out, format, file, &places, &reading.tree)?;
+    push_refusal(&mut out, format, file, &source, &reading.tree)?;
     Ok(out)
 }
