@@ -1,5 +1,5 @@
 -- A sum is clean where each of its files is.
-use Rattle.std.proofs.Common.{◌≡◌, ℕ, ◌+◌, ◌-◌, ◌^◌, ◌==◌, min, Bool, true, false, if◌then◌else◌, List, [], ◌∷◌, ◌++◌, Result, Ok, Err, suc, refl, arith}
+use Rattle.std.proofs.Common.{◌≡◌, ◌∙◌, ap, ℕ, ◌+◌, ◌-◌, ◌^◌, ◌==◌, min, Bool, true, false, if◌then◌else◌, List, [], ◌∷◌, ◌++◌, Result, Ok, Err, suc, refl, arith}
 use Rattle.std.proofs.lemmas.Bool.Decides.{nat_tests}
 use Rattle.ecma_answers.specs.declared.parsing.Outcome.{Outcome}
 use Rattle.ecma_check.specs.declared.fault.Fault.{Fault}
@@ -37,16 +37,19 @@ zero_of z h =
     let (a, b, c) = three (z.unread == 0) (z.refused == 0) (z.faults == 0) h in
     record { faults = is_none z.faults c; refused = is_none z.refused b; unread = is_none z.unread a }
 
+abbrev status_by : ℕ → ℕ → ℕ → ℕ
+status_by u r f = if u == 0 then (if r == 0 then (if f == 0 then 0 else 1) else 2) else 3
+
 pub status_of : (z : Sum) → IsZero z → sum.status z ≡ 0
-status_of z h = rw (h.unread, h.refused, h.faults) refl
+status_of z h = ap (λ u. status_by u z.refused z.faults) h.unread ∙ (ap (λ r. status_by 0 r z.faults) h.refused ∙ ap (status_by 0 0) h.faults)
 
 -- ---- a file more
 
 less : (m n : ℕ) → sum.more m n ≡ 0 → (m ≡ 0) × (n ≡ 0)
-less m n h = grind arith
+less m n h = (grind arith, grind arith)
 
 none_more : (m n : ℕ) → m ≡ 0 → n ≡ 0 → sum.more m n ≡ 0
-none_more m n e f = rw (e, f) refl
+none_more m n e f = ap (λ k. sum.more k n) e ∙ ap (sum.more 0) f
 
 added_of : (z : Sum) (a : Result (Outcome × ℕ) Fault) → IsZero (added z a) → IsZero z × IsCleanAnswer a
 added_of z (Ok it) h =
