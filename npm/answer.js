@@ -106,9 +106,10 @@ function faultOf(told) {
 }
 
 /** Why there is no tree, or the first fault, as acorn throws it. */
-function errorOf({ kind, message, start, end, loc }, faults) {
+function errorOf({ kind, message, start, end, byteStart, byteEnd, loc, note }, faults) {
   const error = new SyntaxError(`${message} (${loc.start.line}:${loc.start.column})`);
-  return Object.assign(error, { kind, pos: start, end, loc: loc.start, raisedAt: end, faults });
+  const fields = { kind, pos: start, end, byteStart, byteEnd, loc: loc.start, endLoc: loc.end, raisedAt: end, faults };
+  return Object.assign(error, note ? { ...fields, note } : fields);
 }
 
 /** Calls a function with each node of a tree, from the root on. */
@@ -168,6 +169,6 @@ function hand(tree, name, sink, options, wordsOf) {
   if (!options[name]) delete tree[name];
 }
 
-const answers = { numbersOf, guessOf, faultOf, failureOf, restore, resultOf, finished };
+const answers = { FLAGS, numbersOf, guessOf, faultOf, failureOf, restore, resultOf, finished };
 
 if (typeof module !== 'undefined') module.exports = answers;

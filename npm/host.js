@@ -24,10 +24,10 @@ class StackOverflowError extends RangeError {
  * @param {WebAssembly.Module} module
  * @param {(length: number, bits: number) => number} guessOf how many bytes of answer are guessed
  * @param {number} [memory] how many bytes the module's memory may grow to
+ * @param {(bytes: Uint8Array) => string} [decode] makes a string of UTF-8
  */
-function host(module, guessOf, memory) {
+function host(module, guessOf, memory, decode = bytes => new TextDecoder().decode(bytes)) {
   const encoder = new TextEncoder();
-  const decoder = new TextDecoder();
   let instance = null;
 
   const started = () => {
@@ -72,16 +72,8 @@ function host(module, guessOf, memory) {
     let found = guarded(it, text, numbers, guessOf(text.length, numbers.bits));
     if (found.status === STATUS_TOO_SHORT) found = guarded(it, text, numbers, found.needed);
     if (it.memory.buffer.byteLength <= KEPT_BYTES) instance = it;
-    // What is written of a text of ASCII is ASCII, and a string of one byte a character is made sooner.
-    const isAscii = text.length === source.length;
-    return { status: found.status, bytes: found.bytes, get json() { return stringOf(found.bytes, isAscii ? null : decoder); } };
+    return { status: found.status, bytes: found.bytes, get json() { return decode(found.bytes); } };
   };
-}
-
-/** A string of the bytes that were written. */
-function stringOf(bytes, decoder) {
-  if (decoder === null && typeof Buffer !== 'undefined') return Buffer.from(bytes.buffer, bytes.byteOffset, bytes.length).latin1Slice();
-  return (decoder ?? new TextDecoder()).decode(bytes);
 }
 
 host.StackOverflowError = StackOverflowError;

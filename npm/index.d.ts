@@ -81,7 +81,11 @@ export interface Refusal extends SyntaxError {
   pos: number;
   end: number;
   raisedAt: number;
+  byteStart: number;
+  byteEnd: number;
   loc: Position;
+  endLoc: Position;
+  note?: Fault['note'];
   /** The faults that were recorded before. */
   faults: Fault[];
 }

@@ -1,11 +1,10 @@
 'use strict';
 // A proved ECMAScript parser, as a WebAssembly module. Nothing is read or compiled before the first call.
 
-const fs = require('node:fs');
-const path = require('node:path');
+const { moduleOf, decode } = require('./load.js');
 const { version } = require('./package.json');
 const parserOf = require('./parser.js');
 
-const parser = parserOf(() => new WebAssembly.Module(fs.readFileSync(path.join(__dirname, 'ecma.wasm'))));
+const { parse, visitorKeys, walk, StackOverflowError } = parserOf(moduleOf, decode);
 
-module.exports = { ...parser, version };
+module.exports = { parse, visitorKeys, walk, StackOverflowError, version };

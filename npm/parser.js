@@ -7,20 +7,27 @@ const { visitorKeys, walk } = require('./walk.js');
 
 /**
  * @param {() => WebAssembly.Module} moduleOf the module, asked for at the first call
+ * @param {(bytes: Uint8Array) => string} [decode] makes a string of UTF-8
  */
-function parserOf(moduleOf) {
+function parserOf(moduleOf, decode) {
   let caller;
 
-  function parse(text, options) {
+  /** The status of a text, and its tree and faults as JSON. */
+  function answer(text, options) {
     if (typeof text !== 'string') throw new TypeError(`the text is a string, not ${text === null ? 'null' : typeof text}`);
     const numbers = answers.numbersOf(options);
     if (options?.allowHashBang === false && text.startsWith('#!')) throw hashBang();
-    caller ??= host(moduleOf(), answers.guessOf);
+    caller ??= host(moduleOf(), answers.guessOf, undefined, decode);
     const { status, json } = caller(text, numbers);
+    return { status, json };
+  }
+
+  function parse(text, options) {
+    const { status, json } = answer(text, options);
     return answers.finished(answers.resultOf(status, json), options);
   }
 
-  return { parse, visitorKeys, walk, StackOverflowError: host.StackOverflowError };
+  return { answer, parse, visitorKeys, walk, StackOverflowError: host.StackOverflowError };
 }
 
 function hashBang() {

@@ -172,3 +172,30 @@ test('a stack that ends is an error of its own', () => {
   }
   assert.strictEqual(parse('a').tree.type, 'Program');
 });
+
+test('a text of ASCII can have values that are not', () => {
+  const { tree } = parse("'\\u00e4\\u{1f600}'", { sourceType: 'script' });
+  assert.strictEqual(tree.body[0].expression.value, '\u00e4\u{1f600}');
+});
+
+test('the command reports faults, trees and what it cannot read, each with its status', () => {
+  const { spawnSync } = require('node:child_process');
+  const run = (input, ...words) => spawnSync(process.execPath, [path.join(__dirname, 'bin/pofashere.js'), ...words], { input, encoding: 'utf8', maxBuffer: 1 << 30 });
+  const clean = run('a', '--script');
+  assert.deepStrictEqual([clean.status, clean.stdout, clean.stderr], [0, 'files: 1, faults: 0, refused: 0, unread: 0\n', '']);
+  const faulty = run('\tbreak', '--script');
+  assert.strictEqual(faulty.status, 1);
+  assert.match(faulty.stdout, /^-:1:2: fault: .*\n\tbreak\n\t\^\^\^\^\^\n/);
+  const refused = run('a b', '--format', 'json');
+  assert.strictEqual(refused.status, 2);
+  assert.strictEqual(JSON.parse(refused.stdout).severity, 'refused');
+  const tree = run(`a${' + a'.repeat(100000)}`, '--format', 'estree', '--script');
+  assert.strictEqual(tree.status, 0);
+  assert.ok(tree.stdout.startsWith('{"type":"Program","start":0,'));
+  assert.strictEqual(run('break; break; break', '--script', '--max-faults', '1').stdout.match(/fault:/g).length, 1);
+  for (const words of [['--format', 'no'], ['--limit', 'x'], ['--enable', 'no'], ['--script', '--module'], ['--no'], ['nowhere/nofile.js']]) {
+    const failed = run('', ...words);
+    assert.strictEqual(failed.status, 3);
+    assert.ok(failed.stderr.startsWith('pofashere: '));
+  }
+});
