@@ -18,7 +18,7 @@ use Rattle.swc_ecma_parser_exactness.specs.Decides.{Lasts}
 use Rattle.swc_ecma_parser_state.specs.Opened.{opened}
 use Rattle.swc_ecma_parser.specs.Headline.{IsNew, IsClean, Headline, code_of, start_of}
 use Rattle.swc_ecma_parser.specs.Reading.{IsReading}
-use Rattle.swc_ecma_parser.specs.Same.{IsSame, IsPlain}
+use Rattle.swc_ecma_parser.specs.Same.{IsSame, IsSettled}
 use Rattle.swc_ecma_parser.proofs.Answered.{none_held}
 
 -- a tree is answered with nothing recorded exactly where the tokens spell it up to some place
@@ -100,8 +100,8 @@ module _ {X : Type 0} (view : X → Tree) (limit : ℕ) (s : State) (none : s.no
 
 -- ---- two readings of one source
 
-module _ {X : Type 0} (view : X → Tree) (limit : ℕ) (s : TokenSource) (new : IsNew s) (r q : Result X Error) (fs gs : List Fault) (d e : Place) where
-  pub same_reading : (entry : Entry) → IsPlain entry → Headline view entry limit s r fs d → Headline view entry limit s q gs e → Lasts r → Lasts q → IsSame view r fs q gs
+module _ {X : Type 0} (view : X → Tree) (limit : ℕ) (s : TokenSource) (new : IsNew s) (plain : s.context.«module» ≡ false) (r q : Result X Error) (fs gs : List Fault) (d e : Place) where
+  pub same_reading : (entry : Entry) → IsSettled entry limit (opened s) → Headline view entry limit s r fs d → Headline view entry limit s q gs e → Lasts r → Lasts q → IsSame view r fs q gs
   same_reading programs.script p h k l m =
       let (t, a, f, x) = h.reads l in let (v, b, g, y) = k.reads m in same_script view limit (opened s) fs gs t v f g r q a b l m
   same_reading programs.«module» p h k l m =
