@@ -44,7 +44,6 @@ look_at text e = record {
   head = spelled text (lexeme_before (outlined text) (opener_of text e).lexeme 1);
   owner = spelled text (lexeme_before (outlined text) (opener_of text e).closed 1);
   callee = spelled text (lexeme_before (outlined text) (found text e).closed 1);
-  is_first = (found text e).is_first;
   wanted = wanted_of e.kind;
   token = cut text e.span;
   is_end = is_at_end e.kind;

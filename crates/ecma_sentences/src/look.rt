@@ -16,7 +16,11 @@ use swc_ecma_parser_error::Error;
 fn cut<'a>(source: &Source<'a>, span: Span) -> &'a str
     ensures { result.now ≡ spec.cut source.now.text span }
 {
-    piece(source.places().text(), span.lo.0 as usize, span.hi.0 as usize)
+    piece(
+        source.places().text(),
+        span.lo.0 as usize,
+        span.hi.0 as usize,
+    )
 }
 
 /// Where a fault is looked at: where it begins, or the end where the text ends there.
@@ -69,7 +73,6 @@ pub(crate) fn look<'a>(source: &'a Source<'_>, error: &'a Error) -> Look<'a>
         head: source.spelled(source.lexeme_before(around.lexeme, 1)),
         owner: source.spelled(source.lexeme_before(around.closed, 1)),
         callee: source.spelled(source.lexeme_before(found.closed, 1)),
-        is_first: found.is_first,
         wanted: wanted_of(&error.kind),
         token: cut(source, error.span),
         is_end,

@@ -6,14 +6,20 @@ ghost use Rattle.ecma_situations.specs.Looked.{looked};
 
 use crate::look::Look;
 use crate::situation::Situation;
-use crate::texts::{is_closer, is_dash, is_declaring, is_else_if, is_function_word, is_invisible, is_modifier, is_name, is_slash, is_smart_apostrophe, is_smart_quote, is_type_word, is_typed_head, is_value};
+use crate::texts::{
+    is_closer, is_dash, is_declaring, is_else_if, is_function_word, is_invisible, is_modifier,
+    is_name, is_slash, is_smart_apostrophe, is_smart_quote, is_type_word, is_typed_head, is_value,
+};
 
 /// A type stands behind a parameter, or behind parameters.
 #[tactic(auto, unfolding(crate::specs::Decided::is_annotated))]
 fn is_annotated(l: &Look<'_>) -> bool
     ensures { result ≡ spec.is_annotated (looked l.now) }
 {
-    l.found == ":" && (l.wanted == ")" || l.wanted == "," && l.opener == "(" || l.wanted == "{" && l.before == ")")
+    l.found == ":"
+        && (l.wanted == ")"
+            || l.wanted == "," && l.opener == "("
+            || l.wanted == "{" && l.before == ")")
 }
 
 /// A parameter that may be missing, as TypeScript writes it.
@@ -29,7 +35,10 @@ fn is_optional(l: &Look<'_>) -> bool
 fn is_cast(l: &Look<'_>) -> bool
     ensures { result ≡ spec.is_cast (looked l.now) }
 {
-    l.found == "satisfies" || l.found == "implements" || l.found == "as" && l.wanted != "as" || l.before == "type" && l.wanted == "from"
+    l.found == "satisfies"
+        || l.found == "implements"
+        || l.found == "as" && l.wanted != "as"
+        || l.before == "type" && l.wanted == "from"
 }
 
 /// A comma behind `...` and a name.
@@ -109,7 +118,8 @@ fn is_empty_list(l: &Look<'_>) -> bool
 fn is_second_equals(l: &Look<'_>) -> bool
     ensures { result ≡ spec.is_second_equals (looked l.now) }
 {
-    l.token == "=" && (l.before == "=" || l.before == "==" || l.before == "===" || l.found == "====")
+    l.token == "="
+        && (l.before == "=" || l.before == "==" || l.before == "===" || l.found == "====")
 }
 
 /// A key that is no name, without a value.
@@ -117,7 +127,10 @@ fn is_second_equals(l: &Look<'_>) -> bool
 fn is_lone_key(l: &Look<'_>) -> bool
     ensures { result ≡ spec.is_lone_key (looked l.now) }
 {
-    l.opener == "{" && (l.earlier == "{" || l.earlier == ",") && (l.found == "}" || l.found == ",") && is_value(l.before)
+    l.opener == "{"
+        && (l.earlier == "{" || l.earlier == ",")
+        && (l.found == "}" || l.found == ",")
+        && is_value(l.before)
 }
 
 /// What stands before it ends a statement, or nothing does.
@@ -173,7 +186,9 @@ fn is_open_try(l: &Look<'_>) -> bool
 fn fits(l: &Look<'_>) -> bool
     ensures { result ≡ spec.fits (looked l.now) }
 {
-    l.found == ")" && l.opener == "(" || l.found == "]" && l.opener == "[" || l.found == "}" && l.opener == "{"
+    l.found == ")" && l.opener == "("
+        || l.found == "]" && l.opener == "["
+        || l.found == "}" && l.opener == "{"
 }
 
 /// A key in a block.

@@ -7,7 +7,9 @@ mod number;
 mod situation;
 mod texts;
 
-pub use decided::{character, declaration_end, expected, module_item, name, statement_end, unexpected};
+pub use decided::{
+    character, declaration_end, expected, module_item, name, statement_end, unexpected,
+};
 pub use look::Look;
 pub use number::number;
 pub use situation::{Beside, Situation, beside, words};

@@ -19,8 +19,6 @@ pub struct Look<'a> {
     pub owner: &'a str,
     /// The token before the brackets that end before the place.
     pub callee: &'a str,
-    /// Whether the token at the place is the first of its line.
-    pub is_first: bool,
     /// What was expected, as the fault holds it.
     pub wanted: &'a str,
     /// The bytes that the fault belongs to.
