@@ -5,7 +5,7 @@ ghost use Rattle.ecma_outline.specs.Outline.{outlined};
 ghost use Rattle.ecma_outline.specs.Source as spec;
 
 use crate::outline::{Lexeme, Open, Outline, count_at, lexeme_at, no_lexeme, open_at, outline_of};
-use crate::piece::piece;
+use crate::parts::piece;
 use ecma_estree_text::{Extras, Places};
 use std::alloc::{AllocError, Global};
 use std::marker::Model;

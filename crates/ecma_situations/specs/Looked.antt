@@ -12,10 +12,11 @@ pub record Looked : Type 0 where
   pub head : List ℕ
   pub owner : List ℕ
   pub callee : List ℕ
-  -- what was expected, the bytes that the fault belongs to, and whether the text ends there
+  -- what was expected, the bytes that the fault belongs to, whether the text ends there, and whether the place is within a token
   pub wanted : List ℕ
   pub token : List ℕ
   pub is_end : Bool
+  pub is_within : Bool
 
 abbrev pub looked : Look → Looked
 looked l = record {
@@ -30,4 +31,5 @@ looked l = record {
   wanted = l.wanted.now;
   token = l.token.now;
   is_end = l.is_end;
+  is_within = l.is_within;
 }

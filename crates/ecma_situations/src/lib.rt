@@ -3,7 +3,7 @@
 
 mod decided;
 mod look;
-mod number;
+mod numbers;
 mod situation;
 mod texts;
 
@@ -11,5 +11,5 @@ pub use decided::{
     character, declaration_end, expected, module_item, name, statement_end, unexpected,
 };
 pub use look::Look;
-pub use number::number;
+pub use numbers::number;
 pub use situation::{Beside, Situation, beside, words};

@@ -5,7 +5,7 @@
 pub struct Look<'a> {
     /// The token before that before the place.
     pub earlier: &'a str,
-    /// The token before the place.
+    /// The token before the place, or what of a token stands before it.
     pub before: &'a str,
     /// The token at the place, or that behind it where none is there.
     pub found: &'a str,
@@ -25,4 +25,6 @@ pub struct Look<'a> {
     pub token: &'a str,
     /// Whether the text ends there.
     pub is_end: bool,
+    /// Whether the place is within a token, as between signs that touch.
+    pub is_within: bool,
 }
