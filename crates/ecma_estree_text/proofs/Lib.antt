@@ -1,3 +1,4 @@
 mod Counts
+mod Digits
 mod Spots
 mod Value
