@@ -7,7 +7,7 @@ use Rattle.std.specs.Int.Digits.{digits_of, AllBelowBase}
 use Rattle.std.proofs.lemmas.Int.Digits.{all_below_base_digits_of}
 use Rattle.ecma_estree_text.specs.Number.{is_numeral, is_mark, is_between, point_byte, is_point_next, point_behind, starts_with_point, bare_byte, bare_text, whole_text, double_text, value_behind, radix_of, number_by, digits_by, number_text, digits_text}
 use Rattle.ecma_estree_text.specs.Quoted.{hex_digit, escaped, wrapped}
-use Rattle.ecma_estree_text.specs.Strings.{alone_text, four_digits, is_high, is_low, is_read, paired, point_text, points, points_text, string_text, text_at, waiting_behind}
+use Rattle.ecma_estree_text.specs.Strings.{alone_text, character, character_text, four_digits, is_high, is_low, is_read, paired, point_text, points, points_text, string_text, text_at, waiting_behind}
 use Rattle.ecma_estree_nodes.specs.Reading.{outside, inside, found, read_from, read}
 
 -- a byte that is no quote, no backslash and no brace
@@ -204,9 +204,12 @@ four_inside : (c : ℕ) (rest : List ℕ) → Inside (four_digits c) rest
 four_inside c rest =
     rw (hex_quote (c / 4096 % 16), hex_backslash (c / 4096 % 16), hex_quote (c / 256 % 16), hex_backslash (c / 256 % 16), hex_quote (c / 16 % 16), hex_backslash (c / 16 % 16), hex_quote (c % 16), hex_backslash (c % 16)) refl
 
+character_inside : (k : Option ℕ) (c : ℕ) (rest : List ℕ) → Inside (character_text k c) rest
+character_inside None c rest = four_inside c rest
+character_inside (Some k) c rest = text_inside (encode_utf8 k) rest
+
 point_inside : (c : ℕ) (rest : List ℕ) → Inside (point_text c) rest
-point_inside c rest =
-    if_inside (nat_lt c 0xd800 || is_between 0xe000 0x10ffff c) (flat_map escaped (encode_utf8 c)) (four_digits c) rest (text_inside (encode_utf8 c) rest) (four_inside c rest)
+point_inside c rest = character_inside (character c) c rest
 
 alone_inside : (c : ℕ) (rest : List ℕ) → Inside (alone_text c) rest
 alone_inside c rest = if_inside (is_high c) [] (point_text c) rest refl (point_inside c rest)

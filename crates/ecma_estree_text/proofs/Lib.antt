@@ -1,4 +1,5 @@
 mod Counts
 mod Digits
+mod Points
 mod Spots
 mod Value

@@ -1,6 +1,6 @@
 -- The value of a string literal: ECMA-262, "Static Semantics: SV" (section 12.9.4.2). A tree holds it as UTF-8, with U+FFFD in the place of a
 -- surrogate without its half. So where it holds U+FFFD the value is read from what was written.
-use Rattle.std.specs.Prelude.{ℕ, List, [], ◌∷◌, ◌++◌, ◌+◌, ◌-◌, ◌*◌, ◌/◌, ◌%◌, Bool, true, false, ◌==◌, ◌&&◌, ◌||◌, nat_lt, ◌≤◌, ◌<◌, if◌then◌else◌, Option, Some, None, min, codes, chars, encode_utf8}
+use Rattle.std.specs.Prelude.{ℕ, List, [], ◌∷◌, ◌++◌, ◌+◌, ◌-◌, ◌*◌, ◌/◌, ◌%◌, Bool, true, false, ◌==◌, ◌&&◌, ◌||◌, nat_lt, ◌≤◌, ◌<◌, if◌then◌else◌, Option, Some, None, codes, chars, encode_utf8}
 use Rattle.std.specs.Char.Escape.{encode_utf16}
 use Rattle.std.specs.List.{flat_map}
 use Rattle.ecma_estree_text.specs.Number.{digit_value, is_between}
@@ -10,34 +10,36 @@ use Rattle.ecma_estree_text.specs.declared.strings.Escape.TheVariants as escape
 
 -- What a literal says is a list of code points. A surrogate is one too, and stands alone where it is written by an escape of its own.
 
-abbrev pub is_line_break : ℕ → Bool
-is_line_break c = c == 10 || c == 13 || c == 0x2028 || c == 0x2029
+unfoldable pub is_line_break : ℕ → Bool
+is_line_break c = (c == 10) || (c == 13) || (c == 0x2028) || (c == 0x2029)
 
 -- what a backslash and one character stand for: 48 is `0`, and behind it are `b`, `t`, `n`, `v`, `f`, `r`
-abbrev pub single : ℕ → ℕ
+unfoldable pub single : ℕ → ℕ
 single c =
-    if c == 48 then 0
-    else if c == 98 then 8
-    else if c == 116 then 9
-    else if c == 110 then 10
-    else if c == 118 then 11
-    else if c == 102 then 12
-    else if c == 114 then 13
-    else c
+    if c == 48 then 0 else
+    if c == 98 then 8 else
+    if c == 116 then 9 else
+    if c == 110 then 10 else
+    if c == 118 then 11 else
+    if c == 102 then 12 else
+    if c == 114 then 13 else c
 
 -- a number with one more hexadecimal digit, up to the greatest code point
-abbrev pub longer : (value : ℕ) → ℕ → ℕ
-longer value c = min 0x10ffff (value * 16 + digit_value c)
+abbrev pub bounded : ℕ → ℕ
+bounded n = if nat_lt 0x10ffff n then 0x10ffff else n
 
-abbrev behind_backslash : ℕ → Escape
+unfoldable pub longer : (value : ℕ) → ℕ → ℕ
+longer value c = bounded (value * 16 + digit_value c)
+
+-- where a literal is behind a backslash and one character: 120 is `x`, 117 `u`
+unfoldable pub behind_backslash : ℕ → Escape
 behind_backslash c =
-    if c == 120 then escape.Hex 2 0
-    else if c == 117 then escape.Unicode
-    else if c == 13 then escape.Return
-    else escape.Text
+    if c == 120 then escape.Hex 2 0 else
+    if c == 117 then escape.Unicode else
+    if c == 13 then escape.Return else escape.Text
 
--- where a literal is behind one more character: 92 is a backslash, 120 `x`, 117 `u`, 123 and 125 are braces
-abbrev pub escape_behind : Escape → ℕ → Escape
+-- where it is behind one more character: 92 is a backslash, 123 and 125 are braces
+unfoldable pub escape_behind : Escape → ℕ → Escape
 escape_behind escape.Text c = if c == 92 then escape.Backslash else escape.Text
 escape_behind escape.Return c = if c == 92 then escape.Backslash else escape.Text
 escape_behind escape.Backslash c = behind_backslash c
@@ -45,20 +47,23 @@ escape_behind (escape.Hex left value) c = if nat_lt 1 left then escape.Hex (left
 escape_behind escape.Unicode c = if c == 123 then escape.Braces 0 else escape.Hex 3 (longer 0 c)
 escape_behind (escape.Braces value) c = if c == 125 then escape.Text else escape.Braces (longer value c)
 
-abbrev pub said_in_text : (quote : ℕ) → ℕ → Option ℕ
-said_in_text quote c = if c == quote || c == 92 then None else Some c
+unfoldable pub said_in_text : (quote : ℕ) → ℕ → Option ℕ
+said_in_text quote c = if (c == quote) || (c == 92) then None else Some c
+
+unfoldable pub said_behind_backslash : ℕ → Option ℕ
+said_behind_backslash c = if (c == 120) || (c == 117) || is_line_break c then None else Some (single c)
 
 -- the code point that is complete with one more character
-abbrev pub said : (quote : ℕ) → Escape → ℕ → Option ℕ
+unfoldable pub said : (quote : ℕ) → Escape → ℕ → Option ℕ
 said quote escape.Text c = said_in_text quote c
 said quote escape.Return c = if c == 10 then None else said_in_text quote c
-said quote escape.Backslash c = if c == 120 || c == 117 || is_line_break c then None else Some (single c)
+said quote escape.Backslash c = said_behind_backslash c
 said quote (escape.Hex left value) c = if nat_lt 1 left then None else Some (longer value c)
 said quote escape.Unicode c = None
 said quote (escape.Braces value) c = if c == 125 then Some value else None
 
 -- with what else is said
-abbrev also_said : Option ℕ → List ℕ → List ℕ
+abbrev pub also_said : Option ℕ → List ℕ → List ℕ
 also_said None rest = rest
 also_said (Some c) rest = c ∷ rest
 
@@ -79,14 +84,14 @@ points raw = points_behind (first_byte raw) escape.Text (chars raw)
 -- ---- as JSON
 
 -- the two halves of a pair, and the character that they make: section 6.1.4
-abbrev pub is_high : ℕ → Bool
+unfoldable pub is_high : ℕ → Bool
 is_high c = is_between 0xd800 0xdbff c
 
-abbrev pub is_low : ℕ → Bool
+unfoldable pub is_low : ℕ → Bool
 is_low c = is_between 0xdc00 0xdfff c
 
-abbrev pub IsHalf : ℕ → Type 0
-IsHalf c = (0xd800 ≤ c) × (c < 0xdc00)
+abbrev pub IsHigh : ℕ → Type 0
+IsHigh c = (0xd800 ≤ c) × (c < 0xdc00)
 
 abbrev pub paired : (high low : ℕ) → ℕ
 paired high low = (high - 0xd800) * 0x400 + (low - 0xdc00) + 0x10000
@@ -95,9 +100,17 @@ paired high low = (high - 0xd800) * 0x400 + (low - 0xdc00) + 0x10000
 abbrev pub four_digits : ℕ → List ℕ
 four_digits c = codes "\\u" ++ (hex_digit (c / 4096 % 16) ∷ hex_digit (c / 256 % 16) ∷ hex_digit (c / 16 % 16) ∷ hex_digit (c % 16) ∷ [])
 
+-- a code point, if it is a character and no surrogate
+unfoldable pub character : ℕ → Option ℕ
+character c = if nat_lt c 0xd800 || is_between 0xe000 0x10ffff c then Some c else None
+
 -- a character as it stands in a JSON string, and a surrogate as an escape
+abbrev pub character_text : Option ℕ → ℕ → List ℕ
+character_text (Some k) c = flat_map escaped (encode_utf8 k)
+character_text None c = four_digits c
+
 abbrev pub point_text : ℕ → List ℕ
-point_text c = if nat_lt c 0xd800 || is_between 0xe000 0x10ffff c then flat_map escaped (encode_utf8 c) else four_digits c
+point_text c = character_text (character c) c
 
 -- a code point, but of a first half nothing, since it waits for its second
 abbrev pub alone_text : ℕ → List ℕ
@@ -147,7 +160,7 @@ has_mark (b ∷ bs) = begins_mark (b ∷ bs) || has_mark bs
 
 -- Whether the value is read from what was written: a tree that is made by hand may hold nothing there.
 abbrev pub is_read : (value raw : List ℕ) → Bool
-is_read value raw = (first_byte raw == 34 || first_byte raw == 39) && has_mark value
+is_read value raw = ((first_byte raw == 34) || (first_byte raw == 39)) && has_mark value
 
 -- the value as JSON
 unfoldable pub string_text : (value raw : List ℕ) → List ℕ

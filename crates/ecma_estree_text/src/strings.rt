@@ -1,9 +1,9 @@
 //! The value of a string literal: ECMA-262, "Static Semantics: SV" (section 12.9.4.2).
 
-ghost use Rattle.std.specs.Prelude.{◌≡◌, ◌++◌, ◌<◌, ◌≤◌, OnOk, IfOk, IfSome, chars};
-ghost use Rattle.ecma_estree_text.specs.Strings as literal;
-ghost use Rattle.ecma_estree_text.specs.Strings.{four_digits, point_text, points, points_text, string_text, IsHalf};
+ghost use Rattle.std.specs.Prelude.{◌≡◌, ◌++◌, ◌<◌, ◌≤◌, OnOk, IfOk, IfSome, IsTrue};
 ghost use Rattle.ecma_estree_text.specs.Number.{digit_value};
+ghost use Rattle.ecma_estree_text.specs.Strings as literal;
+ghost use Rattle.ecma_estree_text.specs.Strings.{IsHigh, four_digits, point_text, points, points_text, string_text};
 
 use crate::quoted::{digit_of, push_escaped_bytes, push_quoted_bytes};
 use std::alloc::AllocError;
@@ -30,30 +30,40 @@ fn hex_value(c: char) -> u32
     ensures value { result ≡ digit_value c }
     ensures bound { result < 16 }
 {
-    match c {
-        '0'..='9' => c as u32 - 48,
-        'a'..='f' => c as u32 - 87,
-        'A'..='F' => c as u32 - 55,
-        _ => 0,
+    let code = c as u32;
+    if 48 <= code && code <= 57 {
+        code - 48
+    } else if 97 <= code && code <= 102 {
+        code - 97 + 10
+    } else if 65 <= code && code <= 70 {
+        code - 65 + 10
+    } else {
+        0
     }
 }
 
 /// A value with one more hexadecimal digit, up to the greatest code point.
+#[tactic(auto, unfolding(crate::specs::Strings::longer))]
 fn longer(value: u32, c: char) -> u32
     ensures { result ≡ literal.longer value c }
 {
     let longer = value as u64 * 16 + hex_value(c) as u64;
-    longer.min(0x10_ffff) as u32
+    if longer > 0x10_ffff {
+        return 0x10_ffff;
+    }
+    longer as u32
 }
 
 /// Whether a character ends a line.
+#[tactic(auto, unfolding(crate::specs::Strings::is_line_break))]
 fn is_line_break(c: char) -> bool
     ensures { result ≡ literal.is_line_break c }
 {
-    matches!(c, '\n' | '\r' | '\u{2028}' | '\u{2029}')
+    (c == '\n') | (c == '\r') | (c == '\u{2028}') | (c == '\u{2029}')
 }
 
 /// What a backslash and one character stand for.
+#[tactic(auto, unfolding(crate::specs::Strings::single))]
 fn single(c: char) -> u32
     ensures { result ≡ literal.single c }
 {
@@ -69,50 +79,128 @@ fn single(c: char) -> u32
     }
 }
 
+/// Where a literal is behind a backslash and one character.
+#[tactic(auto, unfolding(crate::specs::Strings::behind_backslash))]
+fn behind_backslash(c: char) -> Escape
+    ensures { result ≡ literal.behind_backslash c }
+{
+    if c == 'x' {
+        Escape::Hex(2, 0)
+    } else if c == 'u' {
+        Escape::Unicode
+    } else if c == '\r' {
+        Escape::Return
+    } else {
+        Escape::Text
+    }
+}
+
 /// Where a literal is behind one more character.
+#[tactic(auto, unfolding(crate::specs::Strings::escape_behind))]
 fn escape_behind(state: Escape, c: char) -> Escape
     ensures { result ≡ literal.escape_behind state c }
 {
     match state {
-        Escape::Text | Escape::Return if c == '\\' => Escape::Backslash,
-        Escape::Backslash => match c {
-            'x' => Escape::Hex(2, 0),
-            'u' => Escape::Unicode,
-            '\r' => Escape::Return,
-            _ => Escape::Text,
+        Escape::Text => if c == '\\' {
+            Escape::Backslash
+        } else {
+            Escape::Text
         },
-        Escape::Hex(left, value) if left > 1 => Escape::Hex(left - 1, longer(value, c)),
-        Escape::Unicode if c == '{' => Escape::Braces(0),
-        Escape::Unicode => Escape::Hex(3, longer(0, c)),
-        Escape::Braces(value) if c != '}' => Escape::Braces(longer(value, c)),
-        _ => Escape::Text,
+        Escape::Return => if c == '\\' {
+            Escape::Backslash
+        } else {
+            Escape::Text
+        },
+        Escape::Backslash => behind_backslash(c),
+        Escape::Hex(left, value) => if left > 1 {
+            Escape::Hex(left - 1, longer(value, c))
+        } else {
+            Escape::Text
+        },
+        Escape::Unicode => if c == '{' {
+            Escape::Braces(0)
+        } else {
+            Escape::Hex(3, longer(0, c))
+        },
+        Escape::Braces(value) => if c == '}' {
+            Escape::Text
+        } else {
+            Escape::Braces(longer(value, c))
+        },
     }
 }
 
-/// What a character outside of escapes says: of a quote or a backslash nothing.
+/// What a character outside of escapes says: a quote or a backslash nothing.
+#[tactic(auto, unfolding(crate::specs::Strings::said_in_text))]
 fn said_in_text(quote: u8, c: char) -> Option<u32>
     ensures { result ≡ literal.said_in_text quote c }
 {
-    if c as u32 == quote as u32 || c == '\\' {
-        return None;
+    if (c as u32 == quote as u32) | (c == '\\') {
+        None
+    } else {
+        Some(c as u32)
     }
-    Some(c as u32)
+}
+
+/// What a backslash and one character say: nothing where more of the escape follows, and where a line goes on.
+#[tactic(auto, unfolding(crate::specs::Strings::said_behind_backslash))]
+fn said_behind_backslash(c: char) -> Option<u32>
+    ensures { result ≡ literal.said_behind_backslash c }
+{
+    if (c == 'x') | (c == 'u') | is_line_break(c) {
+        None
+    } else {
+        Some(single(c))
+    }
 }
 
 /// The code point that is complete with one more character.
+#[tactic(auto, unfolding(crate::specs::Strings::said))]
 fn said(quote: u8, state: Escape, c: char) -> Option<u32>
     ensures { result ≡ literal.said quote state c }
 {
     match state {
         Escape::Text => said_in_text(quote, c),
-        Escape::Return if c == '\n' => None,
-        Escape::Return => said_in_text(quote, c),
-        Escape::Backslash if c == 'x' || c == 'u' || is_line_break(c) => None,
-        Escape::Backslash => Some(single(c)),
-        Escape::Hex(left, value) if left <= 1 => Some(longer(value, c)),
-        Escape::Braces(value) if c == '}' => Some(value),
-        _ => None,
+        Escape::Return => if c == '\n' {
+            None
+        } else {
+            said_in_text(quote, c)
+        },
+        Escape::Backslash => said_behind_backslash(c),
+        Escape::Hex(left, value) => if left > 1 {
+            None
+        } else {
+            Some(longer(value, c))
+        },
+        Escape::Unicode => None,
+        Escape::Braces(value) => if c == '}' { Some(value) } else { None },
     }
+}
+
+/// Whether a code point is the first half of a pair.
+#[tactic(auto, unfolding(crate::specs::Strings::is_high))]
+fn is_high(point: u32) -> bool
+    ensures value { result ≡ literal.is_high point }
+    ensures range { IsTrue result → IsHigh point }
+{
+    matches!(point, 0xd800..=0xdbff)
+}
+
+/// Whether it is the second half.
+#[tactic(auto, unfolding(crate::specs::Strings::is_low))]
+fn is_low(point: u32) -> bool
+    ensures value { result ≡ literal.is_low point }
+    ensures range { IsTrue result → (0xdc00 ≤ point) × (point < 0xe000) }
+{
+    matches!(point, 0xdc00..=0xdfff)
+}
+
+/// A code point as a character; none of a surrogate.
+#[tactic(auto, unfolding(crate::specs::Strings::character))]
+fn character(point: u32) -> Option<char>
+    ensures { result ≡ literal.character point }
+{
+    char::from_u32(point)
 }
 
 /// Writes a surrogate as an escape of four digits.
@@ -127,38 +215,47 @@ fn push_four_digits(out: &mut Vec<u8>, unit: u32) -> Result<(), AllocError>
     Ok(())
 }
 
-/// Writes a character as it stands in a JSON string, and a surrogate as an escape.
-fn push_point(out: &mut Vec<u8>, point: u32) -> Result<(), AllocError>
-    ensures { OnOk result (out.new.items ≡ out.old.items ++ point_text point) }
+/// Writes a character as it stands in a JSON string.
+fn push_character(out: &mut Vec<u8>, c: char) -> Result<(), AllocError>
+    ensures { OnOk result
+        (out.new.items ≡ out.old.items ++ literal.character_text (Some c) c) }
 {
-    let Some(c) = char::from_u32(point) else {
-        return push_four_digits(out, point);
-    };
     let mut buffer = [0; 4];
     push_escaped_bytes(out, c.encode_utf8(&mut buffer).as_bytes())
 }
 
-/// Writes a code point, but of a first half of a pair nothing; what waits behind it.
+/// Writes a character, and a surrogate as an escape.
+fn push_point(out: &mut Vec<u8>, point: u32) -> Result<(), AllocError>
+    ensures { OnOk result (out.new.items ≡ out.old.items ++ point_text point) }
+{
+    match character(point) {
+        Some(c) => push_character(out, c),
+        None => push_four_digits(out, point),
+    }
+}
+
+/// Writes a code point, but of a first half nothing; what waits behind it.
 fn push_alone(out: &mut Vec<u8>, point: u32) -> Result<Option<u32>, AllocError>
+    ensures high { IfOk result (λ waiting. IfSome waiting IsHigh) }
     ensures waiting { IfOk result (λ waiting. waiting ≡ literal.alone_waiting point) }
-    ensures half { IfOk result (λ waiting. IfSome waiting IsHalf) }
     ensures bytes { OnOk result (out.new.items ≡ out.old.items ++ literal.alone_text point) }
 {
-    if 0xd800 <= point && point <= 0xdbff {
+    if is_high(point) {
         return Ok(Some(point));
     }
     push_point(out, point)?;
     Ok(None)
 }
 
-/// Writes a code point behind a first half of a pair; what waits behind it.
+/// Writes a code point behind a first half; what waits behind it.
 fn push_behind(out: &mut Vec<u8>, high: u32, point: u32) -> Result<Option<u32>, AllocError>
-    requires { IsHalf high }
+    requires { IsHigh high }
+    ensures high { IfOk result (λ waiting. IfSome waiting IsHigh) }
     ensures waiting { IfOk result (λ waiting. waiting ≡ literal.waiting_behind (Some high) point) }
-    ensures half { IfOk result (λ waiting. IfSome waiting IsHalf) }
-    ensures bytes { OnOk result (out.new.items ≡ out.old.items ++ literal.text_at (Some high) point) }
+    ensures bytes { OnOk result
+        (out.new.items ≡ out.old.items ++ literal.text_at (Some high) point) }
 {
-    if 0xdc00 <= point && point <= 0xdfff {
+    if is_low(point) {
         push_point(out, (high - 0xd800) * 0x400 + (point - 0xdc00) + 0x1_0000)?;
         return Ok(None);
     }
@@ -166,21 +263,23 @@ fn push_behind(out: &mut Vec<u8>, high: u32, point: u32) -> Result<Option<u32>, 
     push_alone(out, point)
 }
 
-/// Writes what is said with one more character; what waits behind it.
+/// Writes what one more character says; what waits behind it.
 fn push_said(
     out: &mut Vec<u8>,
     waiting: Option<u32>,
     said: Option<u32>,
 ) -> Result<Option<u32>, AllocError>
-    requires { IfSome waiting IsHalf }
-    ensures half { IfOk result (λ after. IfSome after IsHalf) }
+    requires { IfSome waiting IsHigh }
+    ensures high { IfOk result (λ after. IfSome after IsHigh) }
     ensures waiting { IfOk result (λ after. after ≡ literal.waiting_with waiting said) }
     ensures bytes { OnOk result (out.new.items ≡ out.old.items ++ literal.text_with waiting said) }
 {
-    match (said, waiting) {
-        (None, _) => Ok(waiting),
-        (Some(point), None) => push_alone(out, point),
-        (Some(point), Some(high)) => push_behind(out, high, point),
+    match said {
+        None => Ok(waiting),
+        Some(point) => match waiting {
+            None => push_alone(out, point),
+            Some(high) => push_behind(out, high, point),
+        },
     }
 }
 
@@ -200,7 +299,7 @@ fn first_byte(raw: &[u8]) -> u8
 {
     match raw {
         [first, ..] => *first,
-        [] => 0,
+        _ => 0,
     }
 }
 
@@ -212,17 +311,22 @@ fn push_points(out: &mut Vec<u8>, raw: &str) -> Result<(), AllocError>
     let mut state = Escape::Text;
     let mut waiting = None;
     for c in raw.chars() {
-        waiting = push_said(out, waiting, said(quote, state, c))?;
+        let point = said(quote, state, c);
+        waiting = push_said(out, waiting, point)?;
         state = escape_behind(state, c);
     }
-    push_last(out, waiting)
+    push_last(out, waiting)?;
+    Ok(())
 }
 
 /// Whether bytes begin with U+FFFD.
 fn begins_mark(bytes: &[u8]) -> bool
     ensures { result ≡ literal.begins_mark bytes.now }
 {
-    matches!(bytes, [239, 191, 189, ..])
+    match bytes {
+        [a, b, c, ..] => *a == 239 && (*b == 191 && *c == 189),
+        _ => false,
+    }
 }
 
 /// Whether U+FFFD stands in bytes.
@@ -243,7 +347,8 @@ fn has_mark(bytes: &[u8]) -> bool
 fn is_read(value: &[u8], raw: &[u8]) -> bool
     ensures { result ≡ literal.is_read value.now raw.now }
 {
-    matches!(first_byte(raw), b'"' | b'\'') && has_mark(value)
+    let first = first_byte(raw);
+    (first == b'"' || first == b'\'') && has_mark(value)
 }
 
 /// Writes the value of a string literal as a JSON string, with its lone surrogates as escapes. It is given as the tree holds it and as it was

@@ -11,7 +11,9 @@ ghost use Rattle.ecma_estree_writer.specs.Writing.{Appends, Pushes};
 
 use crate::words::bool_word;
 use crate::work::Work;
-use ecma_estree_text::{Places, find, push_digits, push_inner, push_number, push_quoted, push_string};
+use ecma_estree_text::{
+    Places, find, push_digits, push_inner, push_number, push_quoted, push_string,
+};
 use std::alloc::{AllocError, Global};
 use std::marker::Model;
 use swc_ecma_parser_ast::Span;
