@@ -5,7 +5,7 @@ use Rattle.std.proofs.lemmas.Bool.Decides.{nat_tests, eqb_tells}
 use Rattle.std.specs.List.{flat_map}
 use Rattle.std.specs.Int.Digits.{digits_of, AllBelowBase}
 use Rattle.std.proofs.lemmas.Int.Digits.{all_below_base_digits_of}
-use Rattle.ecma_estree_text.specs.Number.{is_numeral, is_mark, is_between, point_byte, is_point_next, point_behind, starts_with_point, bare_byte, bare_text, whole_text, double_text, value_behind, radix_of, number_by, digits_by, number_text, digits_text}
+use Rattle.ecma_estree_text.specs.Number.{is_numeral, is_mark, is_between, point_byte, is_point_next, point_behind, starts_with_point, bare_byte, bare_text, whole_text, double_text, least_short, value_behind, radix_of, number_by, digits_by, number_text, digits_text}
 use Rattle.ecma_estree_text.specs.Quoted.{hex_digit, escaped, wrapped}
 use Rattle.ecma_estree_text.specs.Strings.{alone_text, character, character_text, four_digits, is_high, is_low, is_read, paired, point_text, points, points_text, string_text, text_at, waiting_behind}
 use Rattle.ecma_estree_nodes.specs.Reading.{outside, inside, found, read_from, read}
@@ -120,7 +120,7 @@ whole_calm n =
     (λ _. calm_glyphs (digits_of 10 n) (all_below_base_digits_of 10 n (omega arith)))
 
 double_calm : (n : ℕ) → all_calm (double_text n) ≡ true
-double_calm n = if_calm (nat_lt n (10 ^ 400)) (whole_text n) (codes "1e400") (λ _. whole_calm n) (λ _. refl)
+double_calm n = if_calm (nat_lt n least_short) (whole_text n) (codes "1e400") (λ _. whole_calm n) (λ _. refl)
 
 number_calm_by : (raw : List ℕ) (o : Option ℕ) → all_calm (number_by raw o) ≡ true
 number_calm_by raw None =
