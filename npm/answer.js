@@ -126,7 +126,6 @@ function each(root, visit) {
 function restore(tree) {
   each(tree, node => {
     if (node.bigint !== undefined) node.value = BigInt(node.bigint);
-    else if (node.type === 'Literal' && node.value === null && node.raw !== 'null') node.value = Number(node.raw.replaceAll('_', ''));
   });
 }
 
@@ -143,7 +142,7 @@ function resultOf(status, json) {
   const { tree, faults: told } = JSON.parse(json);
   const faults = told.map(faultOf);
   if (tree === null) throw errorOf(faults.pop(), faults);
-  if (json.includes('"value":null,"raw":"0') || json.includes('"bigint":"')) restore(tree);
+  if (json.includes('"bigint":"')) restore(tree);
   return { tree, faults };
 }
 
