@@ -62,15 +62,12 @@ function errorOf({ kind, message, start, end, loc }, faults) {
   return Object.assign(error, { kind, pos: start, end, loc: loc.start, raisedAt: end, faults });
 }
 
-/** Gives literals the values that JSON has no form for. */
+/** Gives big integers their values, for which JSON has no form. */
 function restore(node) {
   const waiting = [node];
   while (waiting.length > 0) {
     const it = waiting.pop();
-    if (it.type === 'Literal' && it.value === null) {
-      if (it.bigint !== undefined) it.value = BigInt(it.bigint);
-      else if (it.raw !== 'null') it.value = Number(it.raw.replaceAll('_', ''));
-    }
+    if (it.type === 'Literal' && it.bigint !== undefined) it.value = BigInt(it.bigint);
     for (const part of Object.values(it)) if (typeof part === 'object' && part !== null) waiting.push(part);
   }
 }
@@ -88,7 +85,7 @@ function resultOf(status, json) {
   const { tree, faults: told } = JSON.parse(json);
   const faults = told.map(faultOf);
   if (tree === null) throw errorOf(faults.pop(), faults);
-  if (json.includes('"value":null,"raw":"0') || json.includes('"bigint":"')) restore(tree);
+  if (json.includes('"bigint":"')) restore(tree);
   return { tree, faults };
 }
 

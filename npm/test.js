@@ -59,6 +59,12 @@ test('a literal has its value where JSON has no form for it', () => {
   assert.deepStrictEqual(tree.body.map(it => it.expression.value), [10n, 2 ** 64, null]);
 });
 
+test('values are those of JavaScript', () => {
+  const literals = ["'\\ud83d'", "'\\ud83d\\ude00'", "'a\\ude00\\ud83d'", "'\\ufffd\\u{d83d}'", '0x20000000000001', '0b1' + '0'.repeat(1024), '0xffffffffffffffffffn'];
+  const { tree } = parse(`[${literals}]`);
+  assert.deepStrictEqual(tree.body[0].expression.elements.map(it => it.value), eval(`[${literals}]`));
+});
+
 test('a flag turns a proposal on', () => {
   assert.ok(parse('return', { flags: ['allowReturnOutsideFunction'] }).faults.length === 0);
   assert.throws(() => parse('a', { flags: ['none'] }), TypeError);
