@@ -178,6 +178,46 @@ fn a_tree_with_all_its_extras(rt: HostRuntime) -> Result<(), Fail> {
 }
 
 #[test]
+fn values_of_literals(rt: HostRuntime) -> Result<(), Fail> {
+    let rows = [
+        ("'\\ud83d'", "\"value\":\"\\ud83d\",\"raw\":"),
+        ("'\\ud83d\\ude00'", "\"value\":\"\u{1f600}\",\"raw\":"),
+        (
+            "'\\uDE00\\u{d83d}a'",
+            "\"value\":\"\\ude00\\ud83da\",\"raw\":",
+        ),
+        (
+            "'\\ud83d\\\n\\ude00\\ufffd'",
+            "\"value\":\"\u{1f600}\u{fffd}\",\"raw\":",
+        ),
+        (
+            "'\\0\\x41\\n\\\"\\ud800'",
+            "\"value\":\"\\u0000A\\n\\\"\\ud800\",\"raw\":",
+        ),
+        (
+            "({'\\udfff': 1})",
+            "\"end\":10,\"value\":\"\\udfff\",\"raw\":",
+        ),
+        ("0x20000000000001", "\"value\":9007199254740993,\"raw\":"),
+        (
+            "0o2000000000000000000000",
+            "\"value\":18446744073709551616,\"raw\":",
+        ),
+        ("0x0000000000000000000001", "\"value\":1,\"raw\":"),
+        (
+            "0xffff_ffff_ffff_ffff_ffn",
+            "\"bigint\":\"4722366482869645213695\"}",
+        ),
+        ("0b1010n", "\"bigint\":\"10\"}"),
+    ];
+    for (text, value) in rows {
+        let found = printed(&rt, plain(&["--format", "estree"], text.as_bytes()))?;
+        assert!(rt; found.as_str().contains(value), "{text:?}");
+    }
+    Ok(())
+}
+
+#[test]
 fn a_page(rt: HostRuntime) -> Result<(), Fail> {
     let rows = [
         (

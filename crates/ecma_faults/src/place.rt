@@ -59,12 +59,14 @@ pub(crate) fn start(places: &Places<'_>, low: usize) -> usize
     let mut edge = low;
     let mut left = BEFORE;
     while 0 < at {
-        if is_start(places.text(), at) {
-            left = room_left(left, piece(places.text(), at, edge));
-            edge = at;
-            if is_far(places, left, at) {
-                return at;
-            }
+        if !is_start(places.text(), at) {
+            at -= 1;
+            continue;
+        }
+        left = room_left(left, piece(places.text(), at, edge));
+        edge = at;
+        if is_far(places, left, at) {
+            return at;
         }
         at -= 1;
     }

@@ -1,5 +1,5 @@
 -- The tokens of a text, and which brackets are open at each, told by single bytes.
-use Rattle.std.specs.Prelude.{ℕ, List, [], ◌∷◌, ◌++◌, ◌+◌, ◌==◌, ◌&&◌, ◌||◌, Bool, true, false, not, cond, nat_lt, if◌then◌else◌, length, get_or}
+use Rattle.std.specs.Prelude.{◌≡◌, ℕ, List, [], ◌∷◌, ◌++◌, ◌+◌, ◌==◌, ◌&&◌, ◌||◌, Bool, true, false, not, cond, nat_lt, if◌then◌else◌, length, get_or}
 use Rattle.ecma_outline.specs.Bytes.{begun, ends_before, is_blank, is_newline, is_token, next_mode}
 use Rattle.ecma_outline.specs.declared.bytes.Mode.{Mode}
 use Rattle.ecma_outline.specs.declared.bytes.Mode.TheVariants as mode
@@ -12,14 +12,14 @@ abbrev pub no_open : Open
 no_open = record { at = 0; indent = 0; parent = 0; lexeme = 0; closed = 0 }
 
 abbrev pub no_lexeme : Lexeme
-no_lexeme = record { start = 0; end = 0; is_first = false; top = 0; misfit = 0; closed = 0 }
+no_lexeme = record { start = 0; end = 0; top = 0; misfit = 0; closed = 0 }
 
 -- a token that begins here, and one that ends here
 abbrev pub empty_at : State → Lexeme
-empty_at s = record { start = s.at; end = s.at; is_first = s.is_fresh; top = s.top; misfit = s.misfit; closed = s.closed }
+empty_at s = record { start = s.at; end = s.at; top = s.top; misfit = s.misfit; closed = s.closed }
 
 abbrev pub ended : State → Lexeme
-ended s = record { start = s.pending.start; end = s.at; is_first = s.pending.is_first; top = s.pending.top; misfit = s.pending.misfit; closed = s.pending.closed }
+ended s = record { start = s.pending.start; end = s.at; top = s.pending.top; misfit = s.pending.misfit; closed = s.pending.closed }
 
 abbrev pub outset : State
 outset = record { at = 0; mode = mode.Blank; last = 0; is_fresh = true; indent = 0; hold = 0; top = 0; misfit = 0; closed = 0; pending = no_lexeme }
@@ -53,14 +53,30 @@ misfit_behind s o =
 
 abbrev with_top : State → ℕ → State
 with_top s n = record {
-  at = s.at; mode = s.mode; last = s.last; is_fresh = s.is_fresh; indent = s.indent; hold = s.hold; top = n; misfit = s.misfit; closed = s.closed;
+  at = s.at;
+  mode = s.mode;
+  last = s.last;
+  is_fresh = s.is_fresh;
+  indent = s.indent;
+  hold = s.hold;
+  top = n;
+  misfit = s.misfit;
+  closed = s.closed;
   pending = s.pending;
 }
 
 abbrev with_closed : (before behind : State) → Open → State
 with_closed r s o = record {
-  at = s.at; mode = s.mode; last = s.last; is_fresh = s.is_fresh; indent = s.indent; hold = o.indent; top = o.parent; misfit = misfit_behind r o;
-  closed = o.lexeme; pending = s.pending;
+  at = s.at;
+  mode = s.mode;
+  last = s.last;
+  is_fresh = s.is_fresh;
+  indent = s.indent;
+  hold = o.indent;
+  top = o.parent;
+  misfit = misfit_behind r o;
+  closed = o.lexeme;
+  pending = s.pending;
 }
 
 -- the state behind a byte with its brackets, by that before the byte and the innermost bracket that was open there
@@ -80,16 +96,22 @@ along s b = record {
   last = last_behind s (next_mode s.mode s.last b) b;
   is_fresh = is_newline b || (s.is_fresh && not (begins s b));
   indent = indent_behind s b;
-  hold = s.hold; top = s.top; misfit = s.misfit; closed = s.closed;
+  hold = s.hold;
+  top = s.top;
+  misfit = s.misfit;
+  closed = s.closed;
   pending = if begins s b then empty_at s else s.pending;
 }
 
 -- a bracket and a token by their numbers
 abbrev pub open_at : List Open → ℕ → Open
-open_at xs n = if nat_lt n (length xs) then get_or xs n no_open else no_open
+open_at xs n = get_or xs n no_open
 
 abbrev pub lexeme_at : List Lexeme → ℕ → Lexeme
-lexeme_at xs n = if nat_lt n (length xs) then get_or xs n no_lexeme else no_lexeme
+lexeme_at xs n = get_or xs n no_lexeme
+
+abbrev pub count_at : List ℕ → ℕ → ℕ
+count_at xs n = get_or xs n 0
 
 -- a text read so far
 pub record Scanned : Type 0 where
@@ -128,12 +150,15 @@ pub record Outlined : Type 0 where
   pub opens : List Open
   pub counts : List ℕ
 
-abbrev pub seen : Outline → Outlined
-seen o = record { lexemes = o.lexemes.items; opens = o.opens.items; counts = o.counts.items }
-
-abbrev finish : Scanned → Outlined
+abbrev pub finish : Scanned → Outlined
 finish r = record { lexemes = r.lexemes ++ empty_at r.state ∷ []; opens = r.opens; counts = r.counts }
 
 -- the end is read as a line's end
 unfoldable pub outlined : List ℕ → Outlined
 outlined text = finish (step (scan start text) 10)
+
+-- what is kept of a text
+pub record IsOutline (text : List ℕ) (o : Outline) : Type 0 where
+  pub lexemes : o.lexemes.items ≡ (outlined text).lexemes
+  pub opens : o.opens.items ≡ (outlined text).opens
+  pub counts : o.counts.items ≡ (outlined text).counts

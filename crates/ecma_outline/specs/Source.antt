@@ -1,13 +1,13 @@
 -- Tokens and brackets of a text by their numbers.
-use Rattle.std.specs.Prelude.{ℕ, List, [], ◌+◌, ◌-◌, ◌==◌, ◌||◌, nat_le, nat_lt, if◌then◌else◌, min, length, get_or}
-use Rattle.ecma_outline.specs.Outline.{Outlined, lexeme_at, no_lexeme, open_at, outlined}
+use Rattle.std.specs.Prelude.{ℕ, List, [], ◌+◌, ◌-◌, ◌==◌, ◌||◌, nat_le, nat_lt, if◌then◌else◌, min, length}
+use Rattle.ecma_outline.specs.Outline.{Outlined, count_at, lexeme_at, no_lexeme, open_at, outlined}
 use Rattle.ecma_outline.specs.Piece.{piece}
 use Rattle.ecma_outline.specs.declared.outline.Lexeme.{Lexeme}
 use Rattle.ecma_outline.specs.declared.outline.Open.{Open}
 
 -- which token stands at an offset in bytes, or behind it
 abbrev pub index : Outlined → List ℕ → ℕ → ℕ
-index o text place = get_or o.counts (min place (length text)) 0
+index o text place = count_at o.counts (min place (length text))
 
 abbrev pub lexeme : Outlined → ℕ → Lexeme
 lexeme o n = lexeme_at o.lexemes n

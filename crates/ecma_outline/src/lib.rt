@@ -3,10 +3,10 @@
 
 mod bytes;
 mod outline;
-mod piece;
+mod parts;
 mod source;
 
 pub use bytes::is_word;
 pub use outline::{Lexeme, Open};
-pub use piece::{byte_at, is_start, piece};
+pub use parts::{byte_at, is_start, piece};
 pub use source::Source;

@@ -2,7 +2,7 @@
 
 ghost use Rattle.std.specs.Prelude.{◌≡◌, ◌++◌, ◌+◌, ◌<◌, ◌≤◌, ◌^◌, IfOk, OnOk, length};
 ghost use Rattle.ecma_outline.specs.Outline as outline;
-ghost use Rattle.ecma_outline.specs.Outline.{outlined, scanned, seen, start, step};
+ghost use Rattle.ecma_outline.specs.Outline.{IsOutline, scanned, start, step};
 
 use crate::bytes::{Mode, ends_before, is_blank, is_newline, is_token, next_mode};
 use std::alloc::{AllocError, Global};
@@ -13,8 +13,6 @@ pub struct Lexeme {
     /// In bytes.
     pub start: usize,
     pub end: usize,
-    /// Whether it is the first of its line.
-    pub is_first: bool,
     /// Which of the brackets is the innermost open one; 0 is none.
     pub top: usize,
     /// Where the first bracket is that is closed inside of it by one of another indentation; 0 is none.
@@ -79,7 +77,6 @@ fn empty_at(state: State) -> Lexeme
     Lexeme {
         start: state.at,
         end: state.at,
-        is_first: state.is_fresh,
         top: state.top,
         misfit: state.misfit,
         closed: state.closed,
@@ -94,7 +91,6 @@ fn ended(state: State) -> Lexeme
     Lexeme {
         start: begun.start,
         end: state.at,
-        is_first: begun.is_first,
         top: begun.top,
         misfit: begun.misfit,
         closed: begun.closed,
@@ -108,7 +104,6 @@ pub(crate) fn no_lexeme() -> Lexeme
     Lexeme {
         start: 0,
         end: 0,
-        is_first: false,
         top: 0,
         misfit: 0,
         closed: 0,
@@ -209,7 +204,9 @@ fn misfit_behind(state: State, around: Open) -> usize
 /// The same with the brackets that are open behind a byte; `around` is the innermost one before it, and `count` how many have opened before.
 #[tactic(auto, unfolding(crate::specs::Outline::with_brackets))]
 fn with_brackets(state: State, next: State, around: Open, count: usize, byte: u8) -> State
-    ensures { result ≡ outline.with_brackets state next around count byte }
+    ensures value { result ≡ outline.with_brackets state next around count byte }
+    ensures at { result.at ≡ next.at }
+    ensures indent { result.indent ≡ next.indent }
 {
     let mut next = next;
     if opens(state, byte) {
@@ -226,7 +223,8 @@ fn with_brackets(state: State, next: State, around: Open, count: usize, byte: u8
 /// The indentation of a line with a byte more.
 fn indent_behind(state: State, byte: u8) -> usize
     requires { state.indent < 2 ^ 33 }
-    ensures { result ≡ outline.indent_behind state byte }
+    ensures value { result ≡ outline.indent_behind state byte }
+    ensures bound { result ≤ state.indent + 1 }
 {
     if is_newline(byte) {
         0
@@ -253,7 +251,9 @@ fn last_behind(state: State, mode: Mode, byte: u8) -> u8
 fn along(state: State, byte: u8) -> State
     requires at { state.at < 2 ^ 33 }
     requires indent { state.indent < 2 ^ 33 }
-    ensures { result ≡ outline.along state byte }
+    ensures value { result ≡ outline.along state byte }
+    ensures at { result.at ≡ state.at + 1 }
+    ensures indent { result.indent ≤ state.indent + 1 }
 {
     let mode = next_mode(state.mode, state.last, byte);
     let begins = begins(state, byte);
@@ -270,17 +270,15 @@ fn along(state: State, byte: u8) -> State
 }
 
 /// A bracket by its number; 0 is none.
+#[tactic(auto, using(crate::proofs::Outlines::open_in, crate::proofs::Outlines::open_past))]
 pub(crate) fn open_at(opens: &[Open], n: usize) -> Open
     ensures { result ≡ outline.open_at opens.now n }
 {
-    if n < opens.len() {
-        opens[n]
-    } else {
-        no_open()
-    }
+    if n < opens.len() { opens[n] } else { no_open() }
 }
 
 /// A token by its number.
+#[tactic(auto, using(crate::proofs::Outlines::lexeme_in, crate::proofs::Outlines::lexeme_past))]
 pub(crate) fn lexeme_at(lexemes: &[Lexeme], n: usize) -> Lexeme
     ensures { result ≡ outline.lexeme_at lexemes.now n }
 {
@@ -289,6 +287,14 @@ pub(crate) fn lexeme_at(lexemes: &[Lexeme], n: usize) -> Lexeme
     } else {
         no_lexeme()
     }
+}
+
+/// A number of a list; 0 where there is none.
+#[tactic(auto, using(crate::proofs::Outlines::count_in, crate::proofs::Outlines::count_past))]
+pub(crate) fn count_at(counts: &[usize], n: usize) -> usize
+    ensures { result ≡ outline.count_at counts.now n }
+{
+    if n < counts.len() { counts[n] } else { 0 }
 }
 
 /// The tokens of a text in order and one at its end, its brackets, and for each byte and the end the number of the token there or behind.
@@ -329,7 +335,6 @@ fn push_opened(
 
 impl Outline {
     /// Takes a byte in.
-    #[tactic(auto, unfolding(crate::specs::Outline::along, crate::specs::Outline::with_brackets))]
     fn step(&mut self, state: State, byte: u8) -> Result<State, AllocError>
         requires at { state.at < 2 ^ 33 }
         requires indent { state.indent < 2 ^ 33 }
@@ -361,10 +366,10 @@ impl Outline {
 }
 
 /// The tokens of a text.
-#[tactic(auto, using(crate::proofs::Outlines::scan_more, crate::proofs::Outlines::scan_all), unfolding(crate::specs::Outline::outlined))]
+#[tactic(auto, using(crate::proofs::Outlines::scan_more, crate::proofs::Outlines::scan_all, crate::proofs::Outlines::finished))]
 pub(crate) fn outline_of(alloc: Global, text: &str) -> Result<Outline, AllocError>
     requires { length text.now < 2 ^ 32 }
-    ensures { IfOk result (λ it. seen it ≡ outlined text.now) }
+    ensures { IfOk result (IsOutline text.now) }
 {
     let mut it = Outline::empty(alloc)?;
     let mut state = outset();

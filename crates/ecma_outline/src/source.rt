@@ -1,11 +1,11 @@
 //! A text whose faults are told: its places and what stands in it.
 
 ghost use Rattle.std.specs.Prelude.{◌≡◌, ◌<◌, ◌^◌, true, false, IfOk, length};
-ghost use Rattle.ecma_outline.specs.Outline.{outlined, seen};
+ghost use Rattle.ecma_outline.specs.Outline.{outlined};
 ghost use Rattle.ecma_outline.specs.Source as spec;
 
-use crate::outline::{Lexeme, Open, Outline, lexeme_at, no_lexeme, open_at, outline_of};
-use crate::piece::piece;
+use crate::outline::{Lexeme, Open, Outline, count_at, lexeme_at, no_lexeme, open_at, outline_of};
+use crate::parts::piece;
 use ecma_estree_text::{Extras, Places};
 use std::alloc::{AllocError, Global};
 use std::marker::Model;
@@ -18,15 +18,14 @@ pub struct Source<'a> {
 }
 
 impl<'a> Model for Source<'a> {
-    ghost use Rattle.std.specs.Prelude.{◌≡◌};
     ghost use Rattle.ecma_estree_text.specs.Places.{Placed};
-    ghost use Rattle.ecma_outline.specs.Outline.{outlined, seen};
+    ghost use Rattle.ecma_outline.specs.Outline.{IsOutline};
 
     ghost Value = { Placed };
 
     ghost view = { λ s. s.places };
 
-    ghost invariant = { λ s. seen s.outline ≡ outlined s.places.text };
+    ghost invariant = { λ s. IsOutline s.places.text s.outline };
 }
 
 impl<'a> Source<'a> {
@@ -58,7 +57,7 @@ impl<'a> Source<'a> {
         ensures { result ≡ spec.index (outlined self.now.text) self.now.text place }
     {
         let last = self.places.text().len();
-        self.outline.counts[place.min(last)]
+        count_at(self.outline.counts.as_slice(), place.min(last))
     }
 
     /// A token by its number.

@@ -1,5 +1,5 @@
 -- What stands around a fault of a text.
-use Rattle.std.specs.Prelude.{ℕ, List, Bool, if◌then◌else◌, codes, length}
+use Rattle.std.specs.Prelude.{ℕ, List, ◌-◌, ◌==◌, Bool, not, nat_lt, if◌then◌else◌, codes, length}
 use Rattle.std.specs.Str.{bytes_eq}
 use Rattle.swc_ecma_parser_common.specs.declared.span.Span.{Span}
 use Rattle.swc_ecma_parser_error.specs.declared.error.Error.{Error}
@@ -33,19 +33,34 @@ found text e = lexeme (outlined text) (found_at text e)
 abbrev pub opener_of : List ℕ → Error → Open
 opener_of text e = bracket_at (outlined text) (found text e).top
 
+-- whether a fault is within a token, as between signs that touch
+abbrev pub is_within : List ℕ → Error → Bool
+is_within text e = nat_lt (found text e).start (place_of text e)
+
+-- the token so many before a fault; within a token what of that stands before it is the first of them
+abbrev pub before : List ℕ → Error → ℕ → List ℕ
+before text e by =
+    if not (is_within text e) then spelled text (lexeme_before (outlined text) (found_at text e) by)
+    else if by == 1 then piece text (found text e).start (place_of text e)
+    else spelled text (lexeme_before (outlined text) (found_at text e) (by - 1))
+
+-- the token at a fault, or what of it stands behind
+abbrev pub found_text : List ℕ → Error → List ℕ
+found_text text e = if is_within text e then piece text (place_of text e) (found text e).end else spelled text (found text e)
+
 -- the tokens before, at and behind a fault, the bracket that is open there, what stands before it, and what before brackets that end
 unfoldable pub look_at : (text : List ℕ) → Error → Looked
 look_at text e = record {
-  earlier = spelled text (lexeme_before (outlined text) (found_at text e) 2);
-  before = spelled text (lexeme_before (outlined text) (found_at text e) 1);
-  found = spelled text (found text e);
+  earlier = before text e 2;
+  before = before text e 1;
+  found = found_text text e;
   after = spelled text (lexeme_behind (outlined text) (found_at text e));
   opener = bracket text (found text e).top;
   head = spelled text (lexeme_before (outlined text) (opener_of text e).lexeme 1);
   owner = spelled text (lexeme_before (outlined text) (opener_of text e).closed 1);
   callee = spelled text (lexeme_before (outlined text) (found text e).closed 1);
-  is_first = (found text e).is_first;
   wanted = wanted_of e.kind;
   token = cut text e.span;
   is_end = is_at_end e.kind;
+  is_within = is_within text e;
 }

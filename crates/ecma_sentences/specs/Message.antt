@@ -1,5 +1,5 @@
 -- What is said of a fault: the words for its situation, with what was found and what stands around it.
-use Rattle.std.specs.Prelude.{ℕ, List, [], ◌++◌, ◌==◌, ◌&&◌, ◌||◌, nat_le, codes, chars, encode_utf8, flat_map, if◌then◌else◌, length}
+use Rattle.std.specs.Prelude.{ℕ, List, [], ◌++◌, ◌==◌, ◌||◌, nat_le, codes, chars, encode_utf8, flat_map, if◌then◌else◌, length}
 use Rattle.swc_ecma_parser_error.specs.declared.error.Error.{Error}
 use Rattle.swc_ecma_parser_error.specs.Kind.{Kind, kind_of, TS1107, TS1116, TS1005, DeclNotAllowed, Eof, Expected, Unexpected, ExpectedIdent, ExpectedSemiForExprStmt, ImportExportInScript, UnexpectedChar, InvalidNumber}
 use Rattle.ecma_situations.specs.Decided.{character, declaration_end, expected, module_item, name, statement_end, unexpected}
@@ -41,10 +41,13 @@ abbrev pub shortened : List ℕ → List ℕ
 shortened text = if nat_le (length text) 40 then text else piece text 0 (cut_at text) ++ codes "..."
 
 -- what was found: what the fault belongs to, or what stands at its place
+abbrev pub named : Looked → List ℕ
+named l = if length l.token == 0 then l.found else l.token
+
 abbrev pub found_text : Looked → List ℕ
 found_text l =
-    if l.is_end || (length l.token == 0 && length l.found == 0) then codes "the end of the text"
-    else codes "`" ++ (shortened (if length l.token == 0 then l.found else l.token) ++ codes "`")
+    if l.is_end || length (named l) == 0 then codes "the end of the text"
+    else codes "`" ++ (shortened (named l) ++ codes "`")
 
 -- what a character of the words stands for: 126 is `~`, 37 `%`, 94 `^`, 36 `$`
 abbrev pub part : Looked → ℕ → List ℕ

@@ -57,7 +57,7 @@ at_misfit text e low =
     if nat_le (found text e).misfit low then None
     else at_bracket text (found text e).misfit (codes "the bracket that closes this has another indentation")
 
-abbrev or_else : Option (Span × List ℕ) → Option (Span × List ℕ) → Option (Span × List ℕ)
+unfoldable pub or_else : Option (Span × List ℕ) → Option (Span × List ℕ) → Option (Span × List ℕ)
 or_else (Some note) other = Some note
 or_else None other = other
 
@@ -70,7 +70,7 @@ abbrev pub at_before : (text : List ℕ) → Error → (by : ℕ) → (sentence 
 at_before text e by sentence =
     between text (lexeme_before (outlined text) (found_at text e) by).start (lexeme_before (outlined text) (found_at text e) 1).end sentence
 
-abbrev note_beside : (text : List ℕ) → Error → Looked → Beside → Option (Span × List ℕ)
+unfoldable pub note_beside : (text : List ℕ) → Error → Looked → Beside → Option (Span × List ℕ)
 note_beside text e l places.Nothing = None
 note_beside text e l places.Kind = kind_note e.kind
 note_beside text e l places.Opener = at_opener text e l (codes "opened here")

@@ -1,6 +1,6 @@
 //! What stands around a fault of a text.
 
-ghost use Rattle.std.specs.Prelude.{◌≡◌};
+ghost use Rattle.std.specs.Prelude.{◌≡◌, ◌≤◌};
 ghost use Rattle.ecma_outline.specs.Outline.{outlined};
 ghost use Rattle.ecma_sentences.specs.Look as spec;
 ghost use Rattle.ecma_sentences.specs.Look.{look_at};
@@ -16,7 +16,11 @@ use swc_ecma_parser_error::Error;
 fn cut<'a>(source: &Source<'a>, span: Span) -> &'a str
     ensures { result.now ≡ spec.cut source.now.text span }
 {
-    piece(source.places().text(), span.lo.0 as usize, span.hi.0 as usize)
+    piece(
+        source.places().text(),
+        span.lo.0 as usize,
+        span.hi.0 as usize,
+    )
 }
 
 /// Where a fault is looked at: where it begins, or the end where the text ends there.
@@ -51,6 +55,40 @@ pub(crate) fn opener_of(source: &Source<'_>, error: &Error) -> Open
     source.bracket_at(lexeme_of(source, error).top)
 }
 
+/// Whether a fault is within a token, as between signs that touch.
+fn is_within(source: &Source<'_>, error: &Error) -> bool
+    ensures { result ≡ spec.is_within source.now.text error.now }
+{
+    lexeme_of(source, error).start < place_of(source, error)
+}
+
+/// The token so many before a fault; where the fault is within a token what of that stands before it is the first of them.
+fn before<'a>(source: &Source<'a>, error: &Error, by: usize) -> &'a str
+    requires { 1 ≤ by }
+    ensures { result.now ≡ spec.before source.now.text error.now by }
+{
+    let n = index_of(source, error);
+    if !is_within(source, error) {
+        return source.spelled(source.lexeme_before(n, by));
+    }
+    if by == 1 {
+        let start = lexeme_of(source, error).start;
+        return piece(source.places().text(), start, place_of(source, error));
+    }
+    source.spelled(source.lexeme_before(n, by - 1))
+}
+
+/// The token at a fault, or what of it stands behind.
+fn found<'a>(source: &Source<'a>, error: &Error) -> &'a str
+    ensures { result.now ≡ spec.found_text source.now.text error.now }
+{
+    let it = lexeme_of(source, error);
+    if is_within(source, error) {
+        return piece(source.places().text(), place_of(source, error), it.end);
+    }
+    source.spelled(it)
+}
+
 /// What stands around a fault.
 #[tactic(auto, unfolding(crate::specs::Look::look_at))]
 pub(crate) fn look<'a>(source: &'a Source<'_>, error: &'a Error) -> Look<'a>
@@ -58,20 +96,20 @@ pub(crate) fn look<'a>(source: &'a Source<'_>, error: &'a Error) -> Look<'a>
 {
     let is_end = found_of(&error.kind) == "<eof>";
     let n = index_of(source, error);
-    let found = lexeme_of(source, error);
+    let it = lexeme_of(source, error);
     let around = opener_of(source, error);
     Look {
-        earlier: source.spelled(source.lexeme_before(n, 2)),
-        before: source.spelled(source.lexeme_before(n, 1)),
-        found: source.spelled(found),
+        earlier: before(source, error, 2),
+        before: before(source, error, 1),
+        found: found(source, error),
         after: source.spelled(source.lexeme_behind(n)),
-        opener: source.bracket(found.top),
+        opener: source.bracket(it.top),
         head: source.spelled(source.lexeme_before(around.lexeme, 1)),
         owner: source.spelled(source.lexeme_before(around.closed, 1)),
-        callee: source.spelled(source.lexeme_before(found.closed, 1)),
-        is_first: found.is_first,
+        callee: source.spelled(source.lexeme_before(it.closed, 1)),
         wanted: wanted_of(&error.kind),
         token: cut(source, error.span),
         is_end,
+        is_within: is_within(source, error),
     }
 }

@@ -103,17 +103,23 @@ fn push_token(out: &mut String, text: &str) -> Result<(), AllocError>
     out.push_str("...")
 }
 
+/// What was found: what the fault belongs to, or what stands at its place.
+fn named<'a>(l: &Look<'a>) -> &'a str
+    ensures { result.now ≡ spec.named (looked l.now) }
+{
+    if l.token.is_empty() { l.found } else { l.token }
+}
+
 /// Writes what was found.
 fn push_found(out: &mut String, l: &Look<'_>) -> Result<(), AllocError>
     ensures { OnOk result
         (string_bytes out.new ≡ string_bytes out.old ++ spec.found_text (looked l.now)) }
 {
-    let is_empty = l.token.is_empty() && l.found.is_empty();
-    if l.is_end || is_empty {
+    if l.is_end || named(l).is_empty() {
         return out.push_str("the end of the text");
     }
     out.push_str("`")?;
-    push_token(out, if l.token.is_empty() { l.found } else { l.token })?;
+    push_token(out, named(l))?;
     out.push_str("`")
 }
 

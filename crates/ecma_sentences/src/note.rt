@@ -81,6 +81,17 @@ fn label_note(kind: &SyntaxError) -> Option<Note>
     }
 }
 
+/// A note, or another where there is none.
+#[tactic(auto, unfolding(crate::specs::Note::or_else))]
+fn or_else(first: Option<Note>, second: Option<Note>) -> Option<Note>
+    ensures { noted result ≡ spec.or_else (noted first) (noted second) }
+{
+    match first {
+        Some(note) => Some(note),
+        None => second,
+    }
+}
+
 /// A note between two offsets in bytes, if they lie in the text.
 fn between(source: &Source<'_>, start: usize, end: usize, sentence: &'static str) -> Option<Note>
     requires { length source.now.text < 2 ^ 32 }
@@ -147,19 +158,14 @@ fn at_block(source: &Source<'_>, error: &Error, l: &Look<'_>) -> Option<Note>
     requires { length source.now.text < 2 ^ 32 }
     ensures { noted result ≡ spec.at_block source.now.text error.now (looked l.now) }
 {
-    match at_misfit(source, error, opener_of(source, error).at) {
-        Some(note) => Some(note),
-        None => at_opener(source, error, l, "`{` opened here is never closed"),
-    }
+    or_else(
+        at_misfit(source, error, opener_of(source, error).at),
+        at_opener(source, error, l, "`{` opened here is never closed"),
+    )
 }
 
 /// A note at the tokens before a fault, from the one so many before it.
-fn at_before(
-    source: &Source<'_>,
-    error: &Error,
-    by: usize,
-    sentence: &'static str,
-) -> Option<Note>
+fn at_before(source: &Source<'_>, error: &Error, by: usize, sentence: &'static str) -> Option<Note>
     requires { length source.now.text < 2 ^ 32 }
     ensures { noted result ≡ spec.at_before source.now.text error.now by sentence.now }
 {
@@ -169,23 +175,32 @@ fn at_before(
     between(source, start, end, sentence)
 }
 
+/// The note at a place where to look.
+#[tactic(auto, unfolding(crate::specs::Note::note_beside))]
+fn note_beside(source: &Source<'_>, error: &Error, l: &Look<'_>, place: Beside) -> Option<Note>
+    requires { length source.now.text < 2 ^ 32 }
+    ensures { noted result ≡ spec.note_beside source.now.text error.now (looked l.now) place }
+{
+    match place {
+        Beside::Nothing => None,
+        Beside::Kind => kind_note(&error.kind),
+        Beside::Opener => at_opener(source, error, l, "opened here"),
+        Beside::Block => at_opener(source, error, l, "this `{` begins a block"),
+        Beside::Unclosed => at_block(source, error, l),
+        Beside::Misfit => at_misfit(source, error, 0),
+        Beside::Declaration => at_before(source, error, 1, "the declaration begins here"),
+        Beside::End => at_before(source, error, 1, "the block of this `try` ends here"),
+        Beside::Pair => at_before(source, error, 2, "nothing stands between these"),
+    }
+}
+
 /// The note on a fault, by what stands around it.
 fn situation_note(source: &Source<'_>, error: &Error) -> Option<Note>
     requires { length source.now.text < 2 ^ 32 }
     ensures { noted result ≡ spec.situation_note source.now.text error.now }
 {
     let l = look(source, error);
-    match beside(situation_of(&error.kind, &l)) {
-        Beside::Nothing => None,
-        Beside::Kind => kind_note(&error.kind),
-        Beside::Opener => at_opener(source, error, &l, "opened here"),
-        Beside::Block => at_opener(source, error, &l, "this `{` begins a block"),
-        Beside::Unclosed => at_block(source, error, &l),
-        Beside::Misfit => at_misfit(source, error, 0),
-        Beside::Declaration => at_before(source, error, 1, "the declaration begins here"),
-        Beside::End => at_before(source, error, 1, "the block of this `try` ends here"),
-        Beside::Pair => at_before(source, error, 2, "nothing stands between these"),
-    }
+    note_beside(source, error, &l, beside(situation_of(&error.kind, &l)))
 }
 
 /// The other place of a fault, if it has one: a bracket that is open or was closed too early, an earlier `default`, or where an expression or a
@@ -194,8 +209,8 @@ pub fn note_of(source: &Source<'_>, error: &Error) -> Option<Note>
     requires { length source.now.text < 2 ^ 32 }
     ensures { noted result ≡ spec.note_of source.now.text error.now }
 {
-    match situation_note(source, inner_of(error)) {
-        Some(note) => Some(note),
-        None => label_note(&error.kind),
-    }
+    or_else(
+        situation_note(source, inner_of(error)),
+        label_note(&error.kind),
+    )
 }

@@ -8,7 +8,7 @@ use Rattle.ecma_situations.specs.declared.situation.Situation.TheVariants as sit
 
 -- A type stands behind a parameter, or behind parameters
 unfoldable pub is_annotated : Looked → Bool
-is_annotated l = bytes_eq l.found (codes ":") && (bytes_eq l.wanted (codes ")") || (bytes_eq l.wanted (codes ",") && bytes_eq l.opener (codes "(")) || (bytes_eq l.wanted (codes "{") && bytes_eq l.before (codes ")")))
+is_annotated l = bytes_eq l.found (codes ":") && (bytes_eq l.wanted (codes ")") || (bytes_eq l.wanted (codes ",") && bytes_eq l.opener (codes "(")) || (bytes_eq l.wanted (codes "{") && bytes_eq l.before (codes ")")) || (bytes_eq l.wanted (codes ";") && bytes_eq l.head (codes "for")))
 
 -- A parameter that may be missing, as TypeScript writes it
 unfoldable pub is_optional : Looked → Bool
@@ -16,7 +16,15 @@ is_optional l = bytes_eq l.found (codes "?") && (bytes_eq l.wanted (codes ")") |
 
 -- A type behind an expression, a class or `import`
 unfoldable pub is_cast : Looked → Bool
-is_cast l = bytes_eq l.found (codes "satisfies") || bytes_eq l.found (codes "implements") || (bytes_eq l.found (codes "as") && not (bytes_eq l.wanted (codes "as"))) || (bytes_eq l.before (codes "type") && bytes_eq l.wanted (codes "from"))
+is_cast l = bytes_eq l.found (codes "satisfies") || bytes_eq l.found (codes "implements") || (bytes_eq l.found (codes "as") && not (bytes_eq l.wanted (codes "as"))) || (bytes_eq l.before (codes "type") && bytes_eq l.wanted (codes "from")) || (bytes_eq l.found (codes "=") && bytes_eq l.wanted (codes "from"))
+
+-- parameters of types
+unfoldable pub is_generic : Looked → Bool
+is_generic l = bytes_eq l.found (codes "<") && (bytes_eq l.wanted (codes "(") || bytes_eq l.wanted (codes "{"))
+
+-- A declaration of TypeScript that is exported
+unfoldable pub is_typed_export : Looked → Bool
+is_typed_export l = bytes_eq l.before (codes "export") && (is_typed_head l.found || bytes_eq l.found (codes "enum"))
 
 -- A comma behind `...` and a name
 unfoldable pub is_behind_rest : Looked → Bool
@@ -44,11 +52,11 @@ is_bare_key l = bytes_eq l.opener (codes "{") && bytes_eq l.wanted (codes ",") &
 
 -- an element of JSX
 unfoldable pub is_element : Looked → Bool
-is_element l = bytes_eq l.token (codes "<") && (bytes_eq l.found (codes "<>") || is_name l.after)
+is_element l = bytes_eq l.token (codes "<") && (bytes_eq l.after (codes ">") || bytes_eq l.found (codes "<>") || is_name l.after)
 
 -- HTML that is no element
 unfoldable pub is_markup : Looked → Bool
-is_markup l = bytes_eq l.found (codes "<!") || bytes_eq l.found (codes "<!--")
+is_markup l = bytes_eq l.found (codes "<!") || bytes_eq l.found (codes "<!--") || bytes_eq l.found (codes "<?") || (bytes_eq l.before (codes "--") && bytes_eq l.token (codes ">"))
 
 -- parentheses with nothing in them
 unfoldable pub is_empty_list : Looked → Bool
@@ -56,7 +64,7 @@ is_empty_list l = bytes_eq l.before (codes ")") && bytes_eq l.earlier (codes "("
 
 -- A `=` behind another
 unfoldable pub is_second_equals : Looked → Bool
-is_second_equals l = bytes_eq l.token (codes "=") && (bytes_eq l.before (codes "=") || bytes_eq l.before (codes "==") || bytes_eq l.before (codes "===") || bytes_eq l.found (codes "===="))
+is_second_equals l = bytes_eq l.token (codes "=") && (bytes_eq l.before (codes "=") || bytes_eq l.before (codes "==") || bytes_eq l.before (codes "==="))
 
 -- A key that is no name, without a value
 unfoldable pub is_lone_key : Looked → Bool
@@ -76,7 +84,7 @@ is_nameless l = bytes_eq l.found (codes "(") && (bytes_eq l.before (codes "funct
 
 -- A declaration of TypeScript
 unfoldable pub is_typed_declaration : Looked → Bool
-is_typed_declaration l = (is_name l.found && (is_typed_head l.before || is_modifier l.before)) || bytes_eq l.found (codes "!.")
+is_typed_declaration l = (is_name l.found && is_typed_head l.before) || bytes_eq l.found (codes "!.") || (bytes_eq l.found (codes "!") && bytes_eq l.after (codes "["))
 
 -- braces behind parentheses
 unfoldable pub is_body : Looked → Bool
@@ -100,7 +108,7 @@ is_operator_word l = bytes_eq l.found (codes "and") || bytes_eq l.found (codes "
 
 -- whether this is TypeScript
 unfoldable pub is_type : Looked → Bool
-is_type l = is_annotated l || is_optional l || is_cast l
+is_type l = is_annotated l || is_optional l || is_cast l || is_generic l || is_typed_export l
 
 -- A bracket that closes
 unfoldable pub closer : Looked → Situation
@@ -151,6 +159,9 @@ listed l =
 -- where another token is missing
 unfoldable pub behind : Looked → Situation
 behind l =
+    if bytes_eq l.wanted (codes ";") && (bytes_eq l.found (codes "with") || bytes_eq l.found (codes "assert")) then situation.ImportAttributes else
+    if bytes_eq l.wanted (codes ";") && not (bytes_eq l.head (codes "for")) then situation.SemicolonBehind else
+    if bytes_eq l.wanted (codes "{") && bytes_eq l.found (codes "=>") then situation.MethodArrow else
     if bytes_eq l.before (codes "export") then situation.ExportWhat else
     if bytes_eq l.before (codes "catch") then situation.CatchWhat else
     if bytes_eq l.wanted (codes ")") || bytes_eq l.wanted (codes "]") || bytes_eq l.before (codes "") then situation.Expected else
@@ -167,6 +178,7 @@ in_braces l =
 unfoldable pub missing : Looked → Situation
 missing l =
     if is_short_head l then situation.ForHead else
+    if is_name l.found && is_type_word l.before then situation.TypeWord else
     if is_other_head l then situation.ForWhat else
     if is_long_head l then situation.ForOf else
     if bytes_eq l.wanted (codes "}") then in_braces l else
@@ -186,18 +198,27 @@ expected l =
 unfoldable pub member : Looked → Situation
 member l =
     if bytes_eq l.before (codes "function") then situation.MethodFunction else
-    if is_declaring l.before then situation.FieldKeyword else
+    if is_declaring l.before || is_type_word l.before then situation.FieldKeyword else
     if is_modifier l.before || is_typed_field l then situation.TypeScript else
     situation.MemberBehind
+
+-- at a sign that touches another before it
+unfoldable pub touching : Looked → Situation
+touching l =
+    if bytes_eq l.before (codes "?") && bytes_eq l.token (codes ".") then situation.OptionalChain else
+    if bytes_eq l.before (codes "<") && bytes_eq l.token (codes ">") then situation.NotEqual else
+    if bytes_eq l.before (codes "=") && bytes_eq l.token (codes "<") then situation.AtMost else
+    if bytes_eq l.before (codes "-") && bytes_eq l.token (codes ">") then situation.ThinArrow else
+    if is_markup l then situation.Html else
+    if is_second_equals l then situation.Equals else
+    situation.ExpressionBehind
 
 -- at a sign that no rule reads
 unfoldable pub sign : Looked → Situation
 sign l =
-    if bytes_eq l.found (codes "?.") then situation.OptionalChain else
+    if l.is_within then touching l else
     if is_markup l then situation.Html else
-    if bytes_eq l.found (codes "<>") && bytes_eq l.token (codes ">") then situation.NotEqual else
-    if bytes_eq l.found (codes "=<") then situation.AtMost else
-    if bytes_eq l.found (codes "->") then situation.ThinArrow else
+    if bytes_eq l.before (codes "}") && bytes_eq l.token (codes "=") then situation.AssignBlock else
     if is_element l then situation.Jsx else
     if is_second_equals l then situation.Equals else
     if bytes_eq l.before (codes "new") && bytes_eq l.token (codes ".") then situation.NewTarget else
@@ -208,7 +229,15 @@ sign l =
 unfoldable pub hash : Looked → Situation
 hash l =
     if bytes_eq l.after (codes "!") then situation.Shebang else
-    situation.Hash
+    if bytes_eq l.found (codes "#") || is_at_start l then situation.Hash else
+    situation.PrivateIn
+
+-- behind `()`
+unfoldable pub empty : Looked → Situation
+empty l =
+    if bytes_eq l.found (codes ":") then situation.TypeScript else
+    if bytes_eq l.found (codes "{") || bytes_eq l.found (codes "=") || bytes_eq l.found (codes ">=") then situation.ArrowExpected else
+    situation.EmptyParentheses
 
 -- at a word or a bracket that no rule reads
 unfoldable pub word : Looked → Situation
@@ -216,7 +245,7 @@ word l =
     if bytes_eq l.found (codes "else") then situation.ElseAlone else
     if bytes_eq l.found (codes "case") || bytes_eq l.found (codes "default") then situation.CaseAlone else
     if bytes_eq l.found (codes "enum") then situation.TypeScript else
-    if is_empty_list l then situation.EmptyParentheses else
+    if is_empty_list l then empty l else
     if is_lone_key l then situation.KeyAlone else
     if is_closer l.found && not (fits l) then closer l else
     sign l
@@ -241,11 +270,12 @@ unexpected l =
 -- A fault of kind `ExpectedIdent`
 unfoldable pub name : Looked → Situation
 name l =
-    if is_modifier l.found && bytes_eq l.opener (codes "(") then situation.TypeScript else
+    if bytes_eq l.opener (codes "(") && (is_modifier l.found || bytes_eq l.after (codes ":")) then situation.TypeScript else
     if is_nameless l then situation.FunctionName else
     if bytes_eq l.before (codes "class") then situation.ClassName else
     if bytes_eq l.found (codes ",") && bytes_eq l.before (codes "}") then situation.ClassComma else
     if is_name l.found then situation.ReservedName else
+    if bytes_eq l.before (codes ".") || bytes_eq l.before (codes "#") then situation.NameBehind else
     situation.Name
 
 -- where any statement must end
@@ -263,6 +293,9 @@ any_end l =
 unfoldable pub foreign : Looked → Situation
 foreign l =
     if is_typed_declaration l then situation.TypeScript else
+    if is_name l.found && is_modifier l.before then situation.Modifier else
+    if is_name l.found && is_type_word l.before && bytes_eq l.after (codes "(") then situation.FunctionWord else
+    if bytes_eq l.before (codes ")") && bytes_eq l.callee (codes "else") then situation.ElseCondition else
     if bytes_eq l.before (codes ")") && is_else_if l.callee then situation.ElseIf else
     if bytes_eq l.before (codes ")") && bytes_eq l.callee (codes "foreach") then situation.ForEach else
     if is_body l then situation.BodyAlone else

@@ -6,14 +6,21 @@ ghost use Rattle.ecma_situations.specs.Looked.{looked};
 
 use crate::look::Look;
 use crate::situation::Situation;
-use crate::texts::{is_closer, is_dash, is_declaring, is_else_if, is_function_word, is_invisible, is_modifier, is_name, is_slash, is_smart_apostrophe, is_smart_quote, is_type_word, is_typed_head, is_value};
+use crate::texts::{
+    is_closer, is_dash, is_declaring, is_else_if, is_function_word, is_invisible, is_modifier,
+    is_name, is_slash, is_smart_apostrophe, is_smart_quote, is_type_word, is_typed_head, is_value,
+};
 
 /// A type stands behind a parameter, or behind parameters.
 #[tactic(auto, unfolding(crate::specs::Decided::is_annotated))]
 fn is_annotated(l: &Look<'_>) -> bool
     ensures { result ≡ spec.is_annotated (looked l.now) }
 {
-    l.found == ":" && (l.wanted == ")" || l.wanted == "," && l.opener == "(" || l.wanted == "{" && l.before == ")")
+    l.found == ":"
+        && (l.wanted == ")"
+            || l.wanted == "," && l.opener == "("
+            || l.wanted == "{" && l.before == ")"
+            || l.wanted == ";" && l.head == "for")
 }
 
 /// A parameter that may be missing, as TypeScript writes it.
@@ -29,7 +36,27 @@ fn is_optional(l: &Look<'_>) -> bool
 fn is_cast(l: &Look<'_>) -> bool
     ensures { result ≡ spec.is_cast (looked l.now) }
 {
-    l.found == "satisfies" || l.found == "implements" || l.found == "as" && l.wanted != "as" || l.before == "type" && l.wanted == "from"
+    l.found == "satisfies"
+        || l.found == "implements"
+        || l.found == "as" && l.wanted != "as"
+        || l.before == "type" && l.wanted == "from"
+        || l.found == "=" && l.wanted == "from"
+}
+
+/// Parameters of types.
+#[tactic(auto, unfolding(crate::specs::Decided::is_generic))]
+fn is_generic(l: &Look<'_>) -> bool
+    ensures { result ≡ spec.is_generic (looked l.now) }
+{
+    l.found == "<" && (l.wanted == "(" || l.wanted == "{")
+}
+
+/// A declaration of TypeScript that is exported.
+#[tactic(auto, unfolding(crate::specs::Decided::is_typed_export))]
+fn is_typed_export(l: &Look<'_>) -> bool
+    ensures { result ≡ spec.is_typed_export (looked l.now) }
+{
+    l.before == "export" && (is_typed_head(l.found) || l.found == "enum")
 }
 
 /// A comma behind `...` and a name.
@@ -85,7 +112,7 @@ fn is_bare_key(l: &Look<'_>) -> bool
 fn is_element(l: &Look<'_>) -> bool
     ensures { result ≡ spec.is_element (looked l.now) }
 {
-    l.token == "<" && (l.found == "<>" || is_name(l.after))
+    l.token == "<" && (l.after == ">" || l.found == "<>" || is_name(l.after))
 }
 
 /// HTML that is no element.
@@ -93,7 +120,7 @@ fn is_element(l: &Look<'_>) -> bool
 fn is_markup(l: &Look<'_>) -> bool
     ensures { result ≡ spec.is_markup (looked l.now) }
 {
-    l.found == "<!" || l.found == "<!--"
+    l.found == "<!" || l.found == "<!--" || l.found == "<?" || l.before == "--" && l.token == ">"
 }
 
 /// Parentheses with nothing in them.
@@ -109,7 +136,7 @@ fn is_empty_list(l: &Look<'_>) -> bool
 fn is_second_equals(l: &Look<'_>) -> bool
     ensures { result ≡ spec.is_second_equals (looked l.now) }
 {
-    l.token == "=" && (l.before == "=" || l.before == "==" || l.before == "===" || l.found == "====")
+    l.token == "=" && (l.before == "=" || l.before == "==" || l.before == "===")
 }
 
 /// A key that is no name, without a value.
@@ -117,7 +144,10 @@ fn is_second_equals(l: &Look<'_>) -> bool
 fn is_lone_key(l: &Look<'_>) -> bool
     ensures { result ≡ spec.is_lone_key (looked l.now) }
 {
-    l.opener == "{" && (l.earlier == "{" || l.earlier == ",") && (l.found == "}" || l.found == ",") && is_value(l.before)
+    l.opener == "{"
+        && (l.earlier == "{" || l.earlier == ",")
+        && (l.found == "}" || l.found == ",")
+        && is_value(l.before)
 }
 
 /// What stands before it ends a statement, or nothing does.
@@ -149,7 +179,9 @@ fn is_nameless(l: &Look<'_>) -> bool
 fn is_typed_declaration(l: &Look<'_>) -> bool
     ensures { result ≡ spec.is_typed_declaration (looked l.now) }
 {
-    is_name(l.found) && (is_typed_head(l.before) || is_modifier(l.before)) || l.found == "!."
+    is_name(l.found) && is_typed_head(l.before)
+        || l.found == "!."
+        || l.found == "!" && l.after == "["
 }
 
 /// Braces behind parentheses.
@@ -173,7 +205,9 @@ fn is_open_try(l: &Look<'_>) -> bool
 fn fits(l: &Look<'_>) -> bool
     ensures { result ≡ spec.fits (looked l.now) }
 {
-    l.found == ")" && l.opener == "(" || l.found == "]" && l.opener == "[" || l.found == "}" && l.opener == "{"
+    l.found == ")" && l.opener == "("
+        || l.found == "]" && l.opener == "["
+        || l.found == "}" && l.opener == "{"
 }
 
 /// A key in a block.
@@ -197,7 +231,7 @@ fn is_operator_word(l: &Look<'_>) -> bool
 fn is_type(l: &Look<'_>) -> bool
     ensures { result ≡ spec.is_type (looked l.now) }
 {
-    is_annotated(l) || is_optional(l) || is_cast(l)
+    is_annotated(l) || is_optional(l) || is_cast(l) || is_generic(l) || is_typed_export(l)
 }
 
 /// A bracket that closes.
@@ -297,7 +331,13 @@ fn listed(l: &Look<'_>) -> Situation
 fn behind(l: &Look<'_>) -> Situation
     ensures { result ≡ spec.behind (looked l.now) }
 {
-    if l.before == "export" {
+    if l.wanted == ";" && (l.found == "with" || l.found == "assert") {
+        Situation::ImportAttributes
+    } else if l.wanted == ";" && l.head != "for" {
+        Situation::SemicolonBehind
+    } else if l.wanted == "{" && l.found == "=>" {
+        Situation::MethodArrow
+    } else if l.before == "export" {
         Situation::ExportWhat
     } else if l.before == "catch" {
         Situation::CatchWhat
@@ -329,6 +369,8 @@ fn missing(l: &Look<'_>) -> Situation
 {
     if is_short_head(l) {
         Situation::ForHead
+    } else if is_name(l.found) && is_type_word(l.before) {
+        Situation::TypeWord
     } else if is_other_head(l) {
         Situation::ForWhat
     } else if is_long_head(l) {
@@ -367,7 +409,7 @@ fn member(l: &Look<'_>) -> Situation
 {
     if l.before == "function" {
         Situation::MethodFunction
-    } else if is_declaring(l.before) {
+    } else if is_declaring(l.before) || is_type_word(l.before) {
         Situation::FieldKeyword
     } else if is_modifier(l.before) || is_typed_field(l) {
         Situation::TypeScript
@@ -376,21 +418,39 @@ fn member(l: &Look<'_>) -> Situation
     }
 }
 
+/// At a sign that touches another before it.
+#[tactic(auto, unfolding(crate::specs::Decided::touching))]
+fn touching(l: &Look<'_>) -> Situation
+    ensures { result ≡ spec.touching (looked l.now) }
+{
+    if l.before == "?" && l.token == "." {
+        Situation::OptionalChain
+    } else if l.before == "<" && l.token == ">" {
+        Situation::NotEqual
+    } else if l.before == "=" && l.token == "<" {
+        Situation::AtMost
+    } else if l.before == "-" && l.token == ">" {
+        Situation::ThinArrow
+    } else if is_markup(l) {
+        Situation::Html
+    } else if is_second_equals(l) {
+        Situation::Equals
+    } else {
+        Situation::ExpressionBehind
+    }
+}
+
 /// At a sign that no rule reads.
 #[tactic(auto, unfolding(crate::specs::Decided::sign))]
 fn sign(l: &Look<'_>) -> Situation
     ensures { result ≡ spec.sign (looked l.now) }
 {
-    if l.found == "?." {
-        Situation::OptionalChain
+    if l.is_within {
+        touching(l)
     } else if is_markup(l) {
         Situation::Html
-    } else if l.found == "<>" && l.token == ">" {
-        Situation::NotEqual
-    } else if l.found == "=<" {
-        Situation::AtMost
-    } else if l.found == "->" {
-        Situation::ThinArrow
+    } else if l.before == "}" && l.token == "=" {
+        Situation::AssignBlock
     } else if is_element(l) {
         Situation::Jsx
     } else if is_second_equals(l) {
@@ -411,8 +471,24 @@ fn hash(l: &Look<'_>) -> Situation
 {
     if l.after == "!" {
         Situation::Shebang
-    } else {
+    } else if l.found == "#" || is_at_start(l) {
         Situation::Hash
+    } else {
+        Situation::PrivateIn
+    }
+}
+
+/// Behind `()`.
+#[tactic(auto, unfolding(crate::specs::Decided::empty))]
+fn empty(l: &Look<'_>) -> Situation
+    ensures { result ≡ spec.empty (looked l.now) }
+{
+    if l.found == ":" {
+        Situation::TypeScript
+    } else if l.found == "{" || l.found == "=" || l.found == ">=" {
+        Situation::ArrowExpected
+    } else {
+        Situation::EmptyParentheses
     }
 }
 
@@ -428,7 +504,7 @@ fn word(l: &Look<'_>) -> Situation
     } else if l.found == "enum" {
         Situation::TypeScript
     } else if is_empty_list(l) {
-        Situation::EmptyParentheses
+        empty(l)
     } else if is_lone_key(l) {
         Situation::KeyAlone
     } else if is_closer(l.found) && !fits(l) {
@@ -477,7 +553,7 @@ pub fn unexpected(l: &Look<'_>) -> Situation
 pub fn name(l: &Look<'_>) -> Situation
     ensures { result ≡ spec.name (looked l.now) }
 {
-    if is_modifier(l.found) && l.opener == "(" {
+    if l.opener == "(" && (is_modifier(l.found) || l.after == ":") {
         Situation::TypeScript
     } else if is_nameless(l) {
         Situation::FunctionName
@@ -487,6 +563,8 @@ pub fn name(l: &Look<'_>) -> Situation
         Situation::ClassComma
     } else if is_name(l.found) {
         Situation::ReservedName
+    } else if l.before == "." || l.before == "#" {
+        Situation::NameBehind
     } else {
         Situation::Name
     }
@@ -521,6 +599,12 @@ fn foreign(l: &Look<'_>) -> Situation
 {
     if is_typed_declaration(l) {
         Situation::TypeScript
+    } else if is_name(l.found) && is_modifier(l.before) {
+        Situation::Modifier
+    } else if is_name(l.found) && is_type_word(l.before) && l.after == "(" {
+        Situation::FunctionWord
+    } else if l.before == ")" && l.callee == "else" {
+        Situation::ElseCondition
     } else if l.before == ")" && is_else_if(l.callee) {
         Situation::ElseIf
     } else if l.before == ")" && l.callee == "foreach" {

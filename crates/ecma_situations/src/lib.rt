@@ -3,11 +3,13 @@
 
 mod decided;
 mod look;
-mod number;
+mod numbers;
 mod situation;
 mod texts;
 
-pub use decided::{character, declaration_end, expected, module_item, name, statement_end, unexpected};
+pub use decided::{
+    character, declaration_end, expected, module_item, name, statement_end, unexpected,
+};
 pub use look::Look;
-pub use number::number;
+pub use numbers::number;
 pub use situation::{Beside, Situation, beside, words};

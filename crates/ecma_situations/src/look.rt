@@ -5,7 +5,7 @@
 pub struct Look<'a> {
     /// The token before that before the place.
     pub earlier: &'a str,
-    /// The token before the place.
+    /// The token before the place, or what of a token stands before it.
     pub before: &'a str,
     /// The token at the place, or that behind it where none is there.
     pub found: &'a str,
@@ -19,12 +19,12 @@ pub struct Look<'a> {
     pub owner: &'a str,
     /// The token before the brackets that end before the place.
     pub callee: &'a str,
-    /// Whether the token at the place is the first of its line.
-    pub is_first: bool,
     /// What was expected, as the fault holds it.
     pub wanted: &'a str,
     /// The bytes that the fault belongs to.
     pub token: &'a str,
     /// Whether the text ends there.
     pub is_end: bool,
+    /// Whether the place is within a token, as between signs that touch.
+    pub is_within: bool,
 }

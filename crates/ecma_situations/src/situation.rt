@@ -48,6 +48,8 @@ pub enum Situation {
     Equals,
     /// Where a name must stand.
     Name,
+    /// Where one must stand behind another token.
+    NameBehind,
     /// At a word that is no name.
     ReservedName,
     /// Behind `function`.
@@ -66,6 +68,8 @@ pub enum Situation {
     StatementBehind,
     /// Behind a variable that is declared.
     VariableBehind,
+    /// Behind `()`.
+    ArrowExpected,
     /// At `{` behind parentheses.
     ArrowMissing,
     /// At `{` behind a call.
@@ -78,6 +82,14 @@ pub enum Situation {
     BlockNoObject,
     /// At `:` behind a string in a block.
     JsonText,
+    /// Where a statement must end with `;`.
+    SemicolonBehind,
+    /// At `=>` before a body.
+    MethodArrow,
+    /// At `=` behind a block.
+    AssignBlock,
+    /// Behind `else (..)`.
+    ElseCondition,
     /// At `else`.
     ElseAlone,
     /// At `case` or `default`.
@@ -114,6 +126,8 @@ pub enum Situation {
     ImportAlone,
     /// At `import` or `export` in brackets.
     ImportInBlock,
+    /// At a word that other languages have before a declaration.
+    Modifier,
     /// At what TypeScript has.
     TypeScript,
     /// At `<` before a name.
@@ -128,6 +142,10 @@ pub enum Situation {
     Template,
     /// At `\u` in a name.
     NameEscape,
+    /// Behind the module of an import.
+    ImportAttributes,
+    /// At `#` in an expression.
+    PrivateIn,
     /// Behind `new`.
     NewTarget,
     /// At `@`.
@@ -216,6 +234,7 @@ macro_rules! words {
             EmptyParentheses: "an expression is missing: the parentheses before this are empty",
             Equals: "expected an expression, found `=`; a comparison is written `==` or `===`",
             Name: "expected a name, found ~",
+            NameBehind: "expected a name behind `^`, found ~",
             ReservedName: "expected a name, found the reserved word ~",
             FunctionName: "expected a name behind `function`, found ~",
             ClassName: "expected a name behind `class`, found ~",
@@ -225,12 +244,17 @@ macro_rules! words {
             ClassComma: "members of a class have no `,` between them",
             StatementBehind: "expected an operator, `;` or a line break behind `^`, found ~",
             VariableBehind: "expected `=`, `,`, `;` or a line break behind `^`, found ~",
+            ArrowExpected: "expected `=>` behind `()`, found ~",
             ArrowMissing: "expected `;` or a line break, found `{`; an arrow function has `=>` before it",
-            BodyAlone: "expected `;` or a line break, found `{`; a function is declared with `function` before its name",
+            BodyAlone: "expected `;` or a line break, found `{`; a function has `function` before its name, and a method stands in a class alone",
             DeclarationAlone: "a declaration cannot stand here by itself; put it in braces",
             LoneDeclaration: "a declaration cannot stand here by itself; put it in braces",
             BlockNoObject: "unexpected `:`: the braces around it are a block and no object; put an object in parentheses",
             JsonText: "unexpected `:`: this looks like JSON, but in a program the braces around it are a block; put an object in parentheses",
+            SemicolonBehind: "expected `;` or a line break behind `^`, found ~",
+            MethodArrow: "expected `{`, found `=>`: only a function without `function` and without a name has `=>`",
+            AssignBlock: "unexpected `=`: the braces before it are a block; put an assignment to a pattern in parentheses",
+            ElseCondition: "`else` has no condition; write `else if`",
             ElseAlone: "`else` without `if`: no `if` statement ends just before it",
             CaseAlone: "~ stands outside of `switch`",
             CatchAlone: "~ has no `try` before it",
@@ -249,13 +273,16 @@ macro_rules! words {
             LabelOfContinue: "no label `$` stands around this `continue` (ECMA-262, 8.3.3)",
             ImportAlone: "~ stands outside of a module; read this text as a module",
             ImportInBlock: "~ stands at the top level of a module alone",
+            Modifier: "`^` is no modifier of JavaScript",
             TypeScript: "this looks like TypeScript, which is not read",
             Jsx: "this looks like JSX, which is not read",
-            Html: "this looks like HTML, which is not read",
+            Html: "this looks like HTML or XML, which is not read",
             OptionalChain: "optional chains such as `a?.b` are not read",
             RegularExpression: "regular expressions are not read",
             Template: "template literals are not read",
             NameEscape: "escapes in names are not read",
+            ImportAttributes: "import attributes are not read unless they are enabled",
+            PrivateIn: "`#a in b` is not read",
             NewTarget: "`new.target` is not read",
             Decorator: "decorators are not read unless they are enabled",
             Shebang: "`#!` is read only at the start of the text",
@@ -335,15 +362,16 @@ pub fn beside(situation: Situation) -> Beside
         situation,
         [
             ExpectedBehind KeyAlone ExportWhat CatchWhat ModuleName Expression ExpressionBehind
-            Equals Name ReservedName FunctionName ClassName MemberBehind MethodFunction
-            FieldKeyword ClassComma VariableBehind ArrowMissing BodyAlone DeclarationAlone
+            Equals Name NameBehind ReservedName FunctionName ClassName MemberBehind
+            MethodFunction FieldKeyword ClassComma VariableBehind ArrowExpected ArrowMissing
+            BodyAlone DeclarationAlone SemicolonBehind MethodArrow AssignBlock ElseCondition
             ElseAlone CaseAlone CatchAlone YieldOutside ArrowAlone RestParameter RestElement
-            RestDefault ForWhat LabelOfBreak LabelOfContinue ImportAlone ImportInBlock
-            TypeScript Jsx Html OptionalChain RegularExpression Template NameEscape NewTarget
-            Decorator Shebang Hash WordAnd WordOr WordNot NotEqual AtMost ThinArrow
-            FunctionWord TypeWord ElseIf ForEach SmartQuote SmartApostrophe Dash Invisible
-            Character NameBehindNumber OldOctal Separator Digits Exponent NumberForm
-            BigIntNumber
+            RestDefault ForWhat LabelOfBreak LabelOfContinue ImportAlone ImportInBlock Modifier
+            TypeScript Jsx Html OptionalChain RegularExpression Template NameEscape
+            ImportAttributes PrivateIn NewTarget Decorator Shebang Hash WordAnd WordOr WordNot
+            NotEqual AtMost ThinArrow FunctionWord TypeWord ElseIf ForEach SmartQuote
+            SmartApostrophe Dash Invisible Character NameBehindNumber OldOctal Separator Digits
+            Exponent NumberForm BigIntNumber
         ],
         {
             Kind => Kind,

@@ -11,7 +11,26 @@ pub(crate) fn is_type_word(word: &str) -> bool
     ensures { result ≡ spec.is_type_word word.now }
 {
     match word {
-        "int" | "float" | "double" | "long" | "short" | "char" | "byte" | "bool" | "boolean" | "string" | "String" | "str" | "auto" | "val" | "mut" | "final" | "dim" | "my" | "local" | "unsigned" => true,
+        "int"
+        | "float"
+        | "double"
+        | "long"
+        | "short"
+        | "char"
+        | "byte"
+        | "bool"
+        | "boolean"
+        | "string"
+        | "String"
+        | "str"
+        | "auto"
+        | "val"
+        | "mut"
+        | "final"
+        | "dim"
+        | "my"
+        | "local"
+        | "unsigned" => true,
         _ => false,
     }
 }
@@ -44,7 +63,8 @@ pub(crate) fn is_modifier(word: &str) -> bool
     ensures { result ≡ spec.is_modifier word.now }
 {
     match word {
-        "public" | "private" | "protected" | "readonly" | "override" | "abstract" | "declare" => true,
+        "public" | "private" | "protected" | "readonly" | "override" | "abstract" | "declare" =>
+            true,
         _ => false,
     }
 }

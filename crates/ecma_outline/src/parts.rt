@@ -9,11 +9,7 @@ pub fn byte_at(text: &str, n: usize) -> u8
     ensures { result ≡ spec.byte_at text.now n }
 {
     let bytes = text.as_bytes();
-    if n < bytes.len() {
-        bytes[n]
-    } else {
-        0
-    }
+    if n < bytes.len() { bytes[n] } else { 0 }
 }
 
 /// Whether a text may be cut at an offset in bytes.
