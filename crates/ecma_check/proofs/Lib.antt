@@ -1,4 +1,5 @@
 mod Clean
 mod Files
+mod Names
 mod Results
 mod Sums

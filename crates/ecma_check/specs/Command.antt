@@ -1,5 +1,5 @@
 -- The words that a run is called with.
-use Rattle.std.specs.Prelude.{◌≡◌, ◌≤◌, ℕ, Bool, true, false, List, [], ◌∷◌, ◌==◌, ◌||◌, Option, Some, None, option_map, if◌then◌else◌, min, codes}
+use Rattle.std.specs.Prelude.{◌≡◌, ◌≤◌, ℕ, Bool, true, false, List, [], ◌∷◌, ◌==◌, ◌&&◌, ◌||◌, not, Option, Some, None, option_map, if◌then◌else◌, min, codes}
 use Rattle.std.specs.List.{flat_map, slice_split}
 use Rattle.std.specs.Str.{bytes_eq}
 use Rattle.std.specs.Str.Parse.{IsNumeral, digits_value, without_leading_plus}
@@ -73,6 +73,10 @@ IsGoal f g =
     (IsSet f (codes "script") → g ≡ goal.Script)
     × (IsUnset f (codes "script") → IsSet f (codes "module") → g ≡ goal.Module)
     × (IsUnset f (codes "script") → IsUnset f (codes "module") → g ≡ goal.Program)
+
+-- one of three at most is so
+abbrev pub is_at_most_one : (first second third : Bool) → Bool
+is_at_most_one first second third = not (first && second || first && third || second && third)
 
 -- that is said by one word at most
 pub record IsOneGoal (f : Found) : Type 0 where

@@ -1,6 +1,7 @@
 //! The words that a run is called with.
 
-ghost use Rattle.std.specs.Prelude.{◌≡◌, IfErr, IfOk, OnOk, codes, map, option_map, true};
+ghost use Rattle.std.specs.Prelude.{◌≡◌, ◌==◌, IfErr, IfOk, OnOk, codes, map, option_map, true};
+ghost use Rattle.std.specs.List.{slice_split};
 ghost use Rattle.clap.specs.Words.{first_value, found_of, matched_of, raw_values};
 ghost use Rattle.ecma_check.specs.Command as spec;
 ghost use Rattle.ecma_check.specs.Command.{AreOptions, IsGoal, IsLimit, IsMost, IsOneGoal, names_in, syntax_named};
@@ -126,14 +127,22 @@ fn command<'a>(alloc: Global) -> Result<Command<'a>, AllocError> {
     with_extras(alloc, command)?.arg(files(alloc))
 }
 
+/// Whether one of three at most is so.
+fn is_at_most_one(first: bool, second: bool, third: bool) -> bool
+    ensures { result ≡ spec.is_at_most_one first second third }
+{
+    !(first && second || first && third || second && third)
+}
+
 /// Whether one word at most says what files are read as.
+#[tactic(auto, using(crate::proofs::Names::one_goal))]
 fn has_one_goal(matches: &ArgMatches<'_>) -> bool
     ensures { result ≡ true → IsOneGoal (found_of matches.now) }
 {
     let is_script = matches.get_flag("script");
     let is_module = matches.get_flag("module");
     let is_program = matches.get_flag("program");
-    !(is_script && is_module || is_script && is_program || is_module && is_program)
+    is_at_most_one(is_script, is_module, is_program)
 }
 
 /// What a file is read as.
@@ -184,14 +193,23 @@ fn is_flag(name: &str) -> bool
     )
 }
 
+/// The names between the commas of a word.
+fn parts_of(alloc: Global, word: &str) -> Result<Vec<&str>, AllocError>
+    ensures { IfOk result
+        (λ parts. map (λ part. part.now) parts.items ≡ slice_split (λ b. b == 44) word.now) }
+{
+    word.split(',').collect(alloc)
+}
+
 /// The names between the commas of some words.
+#[tactic(auto, using(crate::proofs::Names::names_more))]
 fn names_of<'a>(alloc: Global, words: &[&'a str]) -> Result<Vec<&'a str>, AllocError>
     ensures { IfOk result
         (λ names. map (λ name. name.now) names.items ≡ names_in (map (λ word. word.now) words.now)) }
 {
     let mut names = Vec::new(alloc);
     for word in words {
-        let parts: Vec<&'a str> = word.split(',').collect(alloc)?;
+        let parts = parts_of(alloc, word)?;
         names.extend_from_slice(parts.as_slice())?;
     }
     Ok(names)
@@ -250,7 +268,17 @@ fn all_enabled(settings: EsSyntax, names: &[&str]) -> Result<EsSyntax, Fault>
     Ok(settings)
 }
 
+/// Turns on what some words name, if all of it is known.
+fn with_named(alloc: Global, settings: EsSyntax, words: &[&str]) -> Result<EsSyntax, Fault>
+    ensures { IfOk result
+        (λ it. it ≡ spec.all_enabled settings (names_in (map (λ word. word.now) words.now))) }
+{
+    let names = names_of(alloc, words)?;
+    all_enabled(settings, names.as_slice())
+}
+
 /// What is read besides ECMA-262.
+#[tactic(auto, using(crate::proofs::Names::named))]
 fn syntax_of(alloc: Global, matches: &ArgMatches<'_>) -> Result<Syntax, Fault>
     ensures { IfOk result
         (λ it. it
@@ -258,10 +286,7 @@ fn syntax_of(alloc: Global, matches: &ArgMatches<'_>) -> Result<Syntax, Fault>
 {
     let plain = Syntax::default();
     match matches.get_strs("enable") {
-        Some(words) => {
-            let names = names_of(alloc, words)?;
-            Ok(Syntax::Es(all_enabled(plain.es(), names.as_slice())?))
-        }
+        Some(words) => Ok(Syntax::Es(with_named(alloc, plain.es(), words)?)),
         None => Ok(plain),
     }
 }
