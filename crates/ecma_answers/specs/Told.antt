@@ -36,7 +36,11 @@ abbrev pub IsRefusal : {X : Type 0} → List ℕ → Result X Error → List Tol
 IsRefusal text (Ok x) ts = ts ≡ []
 IsRefusal text (Err e) ts = (last : Told) × IsTold text true e last × (ts ≡ last ∷ [])
 
+-- some faults that were recorded, and why there is no tree
+abbrev pub AreAllTold : {X : Type 0} → List ℕ → Result X Error → List Error → List Told → Type 0
+AreAllTold text tree es ts =
+    (recorded : List Told) × (refusal : List Told) × AreTold text es recorded × IsRefusal text tree refusal × (ts ≡ recorded ++ refusal)
+
 -- the first faults that were recorded, as many as are asked for, and why there is no tree
 abbrev pub AllTold : {X : Type 0} → (most : ℕ) → List ℕ → Result X Error → List Error → List Told → Type 0
-AllTold most text tree es ts =
-    (recorded : List Told) × (refusal : List Told) × AreTold text (front most es) recorded × IsRefusal text tree refusal × (ts ≡ recorded ++ refusal)
+AllTold most text tree es ts = AreAllTold text tree (front most es) ts

@@ -3,7 +3,7 @@
 ghost use Rattle.std.specs.Prelude.{◌≡◌, ◌++◌, ◌<◌, ◌^◌, false, true, ℕ, List, IfOk, OnOk, length};
 ghost use Rattle.ecma_answers.specs.declared.told.Told.{Told};
 ghost use Rattle.ecma_answers.specs.Listed.{lined};
-ghost use Rattle.ecma_answers.specs.Told.{AllTold, AreTold, IsRefusal, IsTold, point_at};
+ghost use Rattle.ecma_answers.specs.Told.{AllTold, AreAllTold, AreTold, IsRefusal, IsTold, point_at};
 
 use crate::cap::front;
 use crate::parsing::{Reading, Tree};
@@ -110,15 +110,37 @@ fn push_refusal(
 }
 
 /// The faults of a text that has some, one by one.
-fn list_of(alloc: Global, most: u32, text: &str, reading: &Reading) -> Result<Vec<Told>, AllocError>
+fn list_of(
+    alloc: Global,
+    text: &str,
+    tree: &PResult<Tree>,
+    faults: &[Error],
+) -> Result<Vec<Told>, AllocError>
     requires { length text.now < 2 ^ 32 }
     ensures { IfOk result
-        (λ list. AllTold most text.now reading.now.tree reading.now.faults.items list.items) }
+        (λ list. AreAllTold text.now tree.now faults.now list.items) }
 {
     let source = Source::new(alloc, text)?;
-    let mut list = recorded(alloc, &source, front(reading.faults.as_slice(), most))?;
-    push_refusal(alloc, &mut list, &source, &reading.tree)?;
+    let mut list = recorded(alloc, &source, faults)?;
+    push_refusal(alloc, &mut list, &source, tree)?;
     Ok(list)
+}
+
+/// The same of a text that may have none. Lines are counted only where there is a fault.
+fn list_if_any(
+    alloc: Global,
+    text: &str,
+    tree: &PResult<Tree>,
+    faults: &[Error],
+) -> Result<Vec<Told>, AllocError>
+    requires { length text.now < 2 ^ 32 }
+    ensures { IfOk result
+        (λ list. AreAllTold text.now tree.now faults.now list.items) }
+{
+    if tree.is_ok() && faults.is_empty() {
+        return Ok(Vec::new(alloc));
+    }
+    list_of(alloc, text, tree, faults)
 }
 
 /// The faults of a text one by one: the first that were recorded, so many at most (all of them, where that is 0), and why there is no tree.
@@ -133,8 +155,6 @@ pub fn told_faults(
     ensures { IfOk result
         (λ list. AllTold most text.now reading.now.tree reading.now.faults.items list.items) }
 {
-    if reading.tree.is_ok() && reading.faults.is_empty() {
-        return Ok(Vec::new(alloc));
-    }
-    list_of(alloc, most, text, reading)
+    let told = front(reading.faults.as_slice(), most);
+    list_if_any(alloc, text, &reading.tree, told)
 }

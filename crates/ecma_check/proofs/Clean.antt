@@ -1,9 +1,9 @@
 -- What is told and written of a text that spells a tree.
-use Rattle.std.proofs.Common.{◌≡◌, ℕ, ◌+◌, ◌-◌, ◌^◌, ◌==◌, min, Bool, true, false, if◌then◌else◌, List, [], ◌∷◌, ◌++◌, Option, Some, None, Result, Ok, Err, refl, sym, ◌∙◌, ap, subst, codes, arith, ◌↔◌, ◌⊎◌, inl, inr, length, suc}
+use Rattle.std.proofs.Common.{◌≡◌, ℕ, ◌+◌, ◌-◌, ◌^◌, ◌==◌, min, Bool, true, false, if◌then◌else◌, List, [], ◌∷◌, ◌++◌, Option, Some, None, Result, Ok, Err, refl, sym, ◌∙◌, ap, subst, codes, arith, ◌↔◌, ◌⊎◌, inl, inr, length, take}
 use Rattle.std.specs.Prelude.{IfOk, IfErr, IfSome}
 use Rattle.std.specs.Io.KnownBytes.{Appends}
 use Rattle.std.proofs.lemmas.Bool.Decides.{nat_tests}
-use Rattle.std.proofs.lemmas.List.{append_assoc, append-nil}
+use Rattle.std.proofs.lemmas.List.{append_assoc, append-nil, take_all}
 use Rattle.swc_ecma_parser_error.specs.declared.error.Error.{Error}
 use Rattle.swc_ecma_parser_error.specs.Kind.{faults_of, kind_of}
 use Rattle.swc_ecma_parser_model.specs.Tree as model
@@ -14,6 +14,7 @@ use Rattle.ecma_answers.specs.declared.options.Options.{Options}
 use Rattle.ecma_answers.specs.declared.parsing.Outcome.{Outcome}
 use Rattle.ecma_answers.specs.declared.parsing.Outcome.TheVariants as outcome
 use Rattle.ecma_answers.specs.declared.parsing.Tree.{Tree}
+use Rattle.ecma_answers.specs.Capped.{left_out}
 use Rattle.ecma_answers.specs.Outcomes.{is_too_deep, outcome_of}
 use Rattle.ecma_answers.specs.Spelled.{Spells, view_tree}
 use Rattle.ecma_check.specs.declared.command.Format.{Format}
@@ -23,7 +24,7 @@ use Rattle.ecma_check.specs.declared.fault.Fault.{Fault}
 use Rattle.ecma_check.specs.declared.sum.Sum.{Sum}
 use Rattle.ecma_check.specs.Answered.{IsAnswered, Shows, ShowsIn, summed}
 use Rattle.ecma_check.specs.Printed.{IsPrinted}
-use Rattle.ecma_check.specs.Told.{lined, told_in}
+use Rattle.ecma_check.specs.Told.{faults_in, lined, more_in, told_in}
 use Rattle.ecma_check.specs.Sum as sum
 
 -- bytes that are written behind others
@@ -33,10 +34,19 @@ joined (Some p) None c xs ys h k = absurd h
 joined (Some p) (Some q) None xs ys h k = absurd k
 joined (Some p) (Some q) (Some r) xs ys h k = k ∙ ap (λ z. z ++ ys) h ∙ append_assoc p xs ys
 
+no_front : (most : ℕ) (b : Bool) → ◌≡◌ {A = List Error} (if b then [] else take most []) []
+no_front most true = refl
+no_front most false = take_all most [] (omega arith)
+
+none_left : (most : ℕ) (b : Bool) → ◌≡◌ {A = ℕ} (if b then 0 else 0 - most) 0
+none_left most true = refl
+none_left most false = omega arith
+
 -- of a tree without a fault nothing is told
 nothing_told : (f : Format) (most : ℕ) (p : Placed) (file : List ℕ) (x : Tree) → told_in f most p file (Ok x) [] ≡ []
-nothing_told f 0 p file x = refl
-nothing_told f (suc most) p file x = refl
+nothing_told f most p file x =
+    ap (λ (es : List Error). faults_in f p file es ++ (more_in f file (left_out most []) ++ [])) (no_front most (most == 0))
+    ∙ ap (λ (n : ℕ). more_in f file n ++ []) (none_left most (most == 0))
 
 -- one file, of which nothing is told
 abbrev pub one : Sum

@@ -48,6 +48,10 @@ counted_in format.Estree file n = more_text file n
 abbrev pub more_in : Format → (file : List ℕ) → ℕ → List ℕ
 more_in f file n = if n == 0 then [] else counted_in f file n
 
+-- some faults that were recorded, how many more there are, and why there is no tree
+abbrev pub listed_in : {X : Type 0} → Format → Placed → (file : List ℕ) → Result X Error → List Error → (more : ℕ) → List ℕ
+listed_in f p file tree es more = faults_in f p file es ++ (more_in f file more ++ refusal_in f p file tree)
+
 -- of the faults that were recorded the first, as many as are asked for; why there is no tree comes last, and in any case
 abbrev pub told_in : {X : Type 0} → Format → (most : ℕ) → Placed → (file : List ℕ) → Result X Error → List Error → List ℕ
-told_in f most p file tree es = faults_in f p file (front most es) ++ (more_in f file (left_out most es) ++ refusal_in f p file tree)
+told_in f most p file tree es = listed_in f p file tree (front most es) (left_out most es)

@@ -1,7 +1,7 @@
 //! What is told of a text: the first faults that were recorded, how many more there are, and why there is no tree.
 
 ghost use Rattle.std.specs.Prelude.{◌≡◌, ◌<◌, ◌++◌, ◌^◌, length, IfOk, OnOk};
-ghost use Rattle.ecma_check.specs.Told.{counted_in, fault_in, faults_in, lined, more_in, more_json, more_text, refusal_in, told_in};
+ghost use Rattle.ecma_check.specs.Told.{counted_in, fault_in, faults_in, lined, listed_in, more_in, more_json, more_text, refusal_in, told_in};
 
 use crate::command::{Format, Settings};
 use ecma_answers::{Reading, Tree, front, left_out};
@@ -113,7 +113,57 @@ fn push_refusal(
     }
 }
 
-/// What is told of a text. Lines are counted only where there is a fault.
+/// Faults of a text, how many more there are, and why there is no tree.
+#[derive(Clone, Copy)]
+struct Listing<'a> {
+    faults: &'a [Error],
+    more: usize,
+    tree: &'a PResult<Tree>,
+}
+
+/// Writes a listing of a text that has faults.
+fn listed_of(
+    alloc: Global,
+    format: Format,
+    file: &str,
+    text: &str,
+    listing: Listing<'_>,
+) -> Result<Vec<u8>, AllocError>
+    requires { length text.now < 2 ^ 32 }
+    ensures { IfOk result
+        (λ out. out.items
+        ≡ listed_in format (lined text.now) file.now listing.tree.now listing.faults.now
+        listing.more) }
+{
+    let mut out = Vec::new(alloc);
+    let source = Source::new(alloc, text)?;
+    push_faults(&mut out, format, file, &source, listing.faults)?;
+    push_more(&mut out, format, file, listing.more)?;
+    push_refusal(&mut out, format, file, &source, listing.tree)?;
+    Ok(out)
+}
+
+/// Writes a listing of a text. Lines are counted only where there is a fault.
+fn listed(
+    alloc: Global,
+    format: Format,
+    file: &str,
+    text: &str,
+    listing: Listing<'_>,
+) -> Result<Vec<u8>, AllocError>
+    requires { length text.now < 2 ^ 32 }
+    ensures { IfOk result
+        (λ out. out.items
+        ≡ listed_in format (lined text.now) file.now listing.tree.now listing.faults.now
+        listing.more) }
+{
+    if listing.tree.is_ok() && listing.faults.is_empty() && listing.more == 0 {
+        return Ok(Vec::new(alloc));
+    }
+    listed_of(alloc, format, file, text, listing)
+}
+
+/// What is told of a text.
 pub fn told(
     alloc: Global,
     settings: Settings,
@@ -127,17 +177,12 @@ pub fn told(
         ≡ told_in settings.format settings.options.max_faults (lined text.now) file.now
         reading.now.tree reading.now.faults.items) }
 {
-    let mut out = Vec::new(alloc);
-    if reading.tree.is_ok() && reading.faults.is_empty() {
-        return Ok(out);
-    }
-    let source = Source::new(alloc, text)?;
-    let Settings { format, options } = settings;
+    let most = settings.options.max_faults;
     let faults = reading.faults.as_slice();
-    let told = front(faults, options.max_faults);
-    push_faults(&mut out, format, file, &source, told)?;
-    let more = left_out(faults, options.max_faults);
-    push_more(&mut out, format, file, more)?;
-    push_refusal(&mut out, format, file, &source, &reading.tree)?;
-    Ok(out)
+    let listing = Listing {
+        faults: front(faults, most),
+        more: left_out(faults, most),
+        tree: &reading.tree,
+    };
+    listed(alloc, settings.format, file, text, listing)
 }
