@@ -26,16 +26,24 @@ pub fn shown(word: &str) -> &str
     }
 }
 
+/// A digit of base 16.
+fn digit(value: u8) -> char {
+    match value {
+        0..=9 => (b'0' + value) as char,
+        10..=15 => (b'a' + (value - 10)) as char,
+        _ => '?',
+    }
+}
+
 /// Writes bytes with `\xNN` in the place of each that is no character of ASCII.
 fn push_escaped(out: &mut String, bytes: &[u8]) -> Result<(), AllocError> {
-    let digits = *b"0123456789abcdef";
     for byte in bytes {
         if byte.is_ascii_graphic() {
             out.push(*byte as char)?;
         } else {
             out.push_str("\\x")?;
-            out.push(digits[(*byte / 16) as usize] as char)?;
-            out.push(digits[(*byte % 16) as usize] as char)?;
+            out.push(digit(*byte / 16))?;
+            out.push(digit(*byte % 16))?;
         }
     }
     Ok(())
