@@ -33,7 +33,7 @@ at line column m = record { line = line; column = column; mark = m }
 
 one_near : (p : Spot) (b : ℕ) (returns feeds returned ends : Bool) (l m n : Mark)
     → Near p (if feeds then (if returned then at p.line 0 mark.Plain else at (p.line + 1) 0 mark.Plain) else if returns then at (p.line + 1) 0 m
-        else if ends then at (p.line + 1) 0 l else at p.line (p.column + unit_count b) n)
+    else if ends then at (p.line + 1) 0 l else at p.line (p.column + unit_count b) n)
 one_near p b returns true true ends l m n = record { line = omega arith; column = omega arith }
 one_near p b returns true false ends l m n = record { line = omega arith; column = omega arith }
 one_near p b true false returned ends l m n = record { line = omega arith; column = omega arith }

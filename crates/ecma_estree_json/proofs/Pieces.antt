@@ -130,7 +130,7 @@ loc_layout p q ys = simp append_assoc
 
 loc_reads : (x : Placed) (a b : ℕ) {ys zs : List ℕ} {p : Option Fields} → length x.text < 2 ^ 63 → Leaves ys p zs
     → (is_there : Bool) → Leaves (cond is_there (loc_text x a b) [] ++ ys)
-        (cond is_there (field (codes "loc") (object (field (codes "start") (spot (spot_at x.text a)) (field (codes "end") (spot (spot_at x.text b)) done))) p) p) zs
+    (cond is_there (field (codes "loc") (object (field (codes "start") (spot (spot_at x.text a)) (field (codes "end") (spot (spot_at x.text b)) done))) p) p) zs
 loc_reads x a b {ys} h l false = l
 loc_reads x a b {ys} h l true =
     leaves_at (loc_layout (spot_at x.text a) (spot_at x.text b) ys)
@@ -143,7 +143,7 @@ range_layout x a b ys = simp (append_assoc, append-nil)
 
 range_reads : (x : Placed) (a b : ℕ) {ys zs : List ℕ} {p : Option Fields} → length x.text < 2 ^ 63 → Leaves ys p zs
     → (is_there : Bool) → Leaves (cond is_there (range_text x a b) [] ++ ys)
-        (cond is_there (field (codes "range") (list (item (count (offset x.text a)) (item (count (offset x.text b)) none))) p) p) zs
+    (cond is_there (field (codes "range") (list (item (count (offset x.text a)) (item (count (offset x.text b)) none))) p) p) zs
 range_reads x a b {ys} h l false = l
 range_reads x a b {ys} h l true =
     leaves_at (range_layout x a b ys)
@@ -286,8 +286,8 @@ stop_of (b ∷ bs) n fs more h = stop_if (is_numeral b) b bs n fs more refl h
 added_leaving : (xs ys zs : List ℕ) (fs gs : Fields) → AddsFields xs fs → Leaving ys gs zs → Leaving (xs ++ ys) (appended fs gs) zs
 added_leaving xs ys zs fs gs a l =
     let all : (n : ℕ) (rest : List ℕ) → 2 * length (xs ++ ys) ≤ n + 1 → more_fields (suc n) ((xs ++ ys) ++ rest) ≡ first (appended fs gs) (zs ++ rest)
-            = λ n rest h. ap (more_fields (suc n)) (append_assoc xs ys rest)
-            ∙ a.adds gs (ys ++ rest) (zs ++ rest) (2 * length ys) (λ m g. l.reads m rest g) n (omega (arith, length-append xs ys)) in
+    = λ n rest h. ap (more_fields (suc n)) (append_assoc xs ys rest)
+    ∙ a.adds gs (ys ++ rest) (zs ++ rest) (2 * length ys) (λ m g. l.reads m rest g) n (omega (arith, length-append xs ys)) in
     record {
       reads = all;
       stop = λ rest. stop_of ((xs ++ ys) ++ rest) (2 * length (xs ++ ys)) (appended fs gs) (zs ++ rest) (all (2 * length (xs ++ ys)) rest (omega arith));
