@@ -8,7 +8,7 @@ use crate::bytes::{Mode, ends_before, is_blank, is_newline, is_token, next_mode}
 use std::alloc::{AllocError, Global};
 
 /// A token, and what stood open where it begins.
-#[derive(Clone, Copy, Debug, PartialEq, Eq)]
+#[derive(Clone, Copy)]
 pub struct Lexeme {
     /// In bytes.
     pub start: usize,
@@ -22,7 +22,7 @@ pub struct Lexeme {
 }
 
 /// A bracket that opens.
-#[derive(Clone, Copy, Debug, PartialEq, Eq)]
+#[derive(Clone, Copy)]
 pub struct Open {
     /// In bytes.
     pub at: usize,
@@ -37,7 +37,7 @@ pub struct Open {
 }
 
 /// What is known before a byte.
-#[derive(Clone, Copy, Debug, PartialEq, Eq)]
+#[derive(Clone, Copy)]
 pub struct State {
     /// In bytes.
     pub at: usize,
