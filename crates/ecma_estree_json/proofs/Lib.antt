@@ -1,8 +1,10 @@
 mod Bounds
 mod Chars
+mod Lists
 mod Numbers
 mod Objects
 mod Pieces
+mod Strings
 mod Trees
 mod Values
 mod Words
