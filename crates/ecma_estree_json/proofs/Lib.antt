@@ -1,10 +1,10 @@
-mod Bounds
-mod Chars
+pub mod Bounds
+pub mod Chars
 mod Lists
-mod Numbers
-mod Objects
+pub mod Numbers
+pub mod Objects
 mod Pieces
 mod Strings
 mod Trees
-mod Values
+pub mod Values
 mod Words

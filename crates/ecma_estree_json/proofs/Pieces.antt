@@ -122,7 +122,7 @@ spot_spells : (p : Spot) → IsSmall p → Spells (spot_text p) (spot p)
 unfolding spot spot_text
 spot_spells p s =
     whole (object_starts (field_leaves (codes "line") refl (decimal_spells p.line s.line)
-    (field_leaves (codes "column") refl (decimal_spells p.column s.column) end_leaves)))
+    (field_leaves (codes "column") refl (decimal_spells p.column (omega (arith, s.column))) end_leaves)))
 
 loc_layout : (p q : Spot) (ys : List ℕ)
     → spots_text p q ++ ys ≡ codes ",\"loc\":{\"start\":" ++ (spot_text p ++ (codes ",\"end\":" ++ (spot_text q ++ (codes "}" ++ ys))))
