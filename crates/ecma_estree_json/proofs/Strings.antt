@@ -31,14 +31,29 @@ if_adds : (t : Bool) {xs ys bs cs : List ℕ} → Adds xs bs → Adds ys cs → 
 if_adds true a b = a
 if_adds false a b = b
 
+byte_adds : (b : ℕ) → Adds (escaped b) (b ∷ [])
+byte_adds b = record { adds = λ rest. escaped_adds b rest }
+
 text_adds : (bs : List ℕ) → Adds (flat_map escaped bs) bs
 text_adds [] = none_adds
-text_adds (b ∷ bs) = both_add (record { adds = λ rest. escaped_adds b rest }) (text_adds bs)
+text_adds (b ∷ bs) = both_add (byte_adds b) (text_adds bs)
+
+two_digits : (c : ℕ) → (c / 16 % 16) * 16 + c % 16 ≡ c % 256
+two_digits c = omega arith
+
+further_digits : (c : ℕ) → c / 4096 % 16 ≡ c / 256 / 16 % 16
+further_digits c = ap (λ n. n % 16) (omega arith)
+
+four_digits_sum : (c : ℕ) → (c / 256 % 256) * 256 + c % 256 ≡ c % 65536
+four_digits_sum c = omega arith
+
+four_digits_whole : (c : ℕ) → (((0 + c / 4096 % 16) * 16 + c / 256 % 16) * 16 + c / 16 % 16) * 16 + c % 16 ≡ c % 65536
+four_digits_whole c = omega (arith, two_digits c, two_digits (c / 256), further_digits c, four_digits_sum c)
 
 four_adds : (c : ℕ) → Adds (four_digits c) (unit_bytes (c % 65536))
 four_adds c = record {
   adds = λ rest.
-      let whole : (((0 + c / 4096 % 16) * 16 + c / 256 % 16) * 16 + c / 16 % 16) * 16 + c % 16 ≡ c % 65536 = omega arith in
+      let whole : (((0 + c / 4096 % 16) * 16 + c / 256 % 16) * 16 + c / 16 % 16) * 16 + c % 16 ≡ c % 65536 = four_digits_whole c in
       rw (hex_back (c / 4096 % 16) (omega arith), hex_back (c / 256 % 16) (omega arith), hex_back (c / 16 % 16) (omega arith), hex_back (c % 16) (omega arith), whole)
       (onto_none _ ∙ onto_none _ ∙ onto_none _ ∙ onto_none _ ∙ onto_none _);
 }

@@ -1,5 +1,5 @@
 -- What the JSON of nodes is made of.
-use Rattle.std.specs.Prelude.{ℕ, List, [], ◌∷◌, ◌++◌, ◌-◌, ◌%◌, Bool, if◌then◌else◌, Option, Some, None, cond, codes, take, drop, length, encode_utf8}
+use Rattle.std.specs.Prelude.{ℕ, List, [], ◌∷◌, ◌++◌, ◌-◌, ◌%◌, Bool, false, if◌then◌else◌, Option, Some, None, cond, codes, take, drop, length, encode_utf8}
 use Rattle.ecma_estree_json.specs.Json as form
 use Rattle.ecma_estree_json.specs.Json.{Json, Jsons, Fields}
 use Rattle.ecma_estree_json.specs.Made.{done, field, object, none, item, list, null, flag, word, text, count}
