@@ -69,7 +69,7 @@ past_far p (b ∷ bs) = let one = step_near p b in let rest = past_far (spot_beh
 
 pub record IsSmall (p : Spot) : Type 0 where
   pub line : p.line < 2 ^ 64
-  pub column : p.column < 2 ^ 64
+  pub column : p.column + 1 < 2 ^ 64
 
 pub spot_small : (text : List ℕ) (n : ℕ) → length text < 2 ^ 63 → IsSmall (spot_at text n)
 spot_small text n h =
