@@ -4,7 +4,6 @@ use Rattle.std.specs.List.{flat_map}
 use Rattle.swc_ecma_parser_error.specs.declared.error.Error.{Error}
 use Rattle.ecma_estree_text.specs.Places.{Placed}
 use Rattle.ecma_faults.specs.Json.{fault_json}
-use Rattle.ecma_faults.specs.Note.{note_of}
 use Rattle.ecma_answers.specs.declared.options.Options.{Options}
 use Rattle.ecma_answers.specs.declared.parsing.Reading.{Reading}
 use Rattle.ecma_answers.specs.declared.parsing.Tree.{Tree}
@@ -13,7 +12,7 @@ use Rattle.ecma_answers.specs.Written.{IsEstree}
 
 -- a fault with the word of its severity
 abbrev pub fault_text : Placed → (word : List ℕ) → Error → List ℕ
-fault_text p word e = fault_json p [] word e (note_of e.kind)
+fault_text p word e = fault_json p [] word e
 
 -- one that stands behind another
 abbrev pub next_text : Placed → (word : List ℕ) → Error → List ℕ

@@ -5,7 +5,7 @@ use Rattle.swc_ecma_parser_error.specs.declared.error.Error.{Error}
 use Rattle.swc_ecma_parser_error.specs.Kind.{kind_of, name_of}
 use Rattle.ecma_estree_text.specs.Places.{offset}
 use Rattle.ecma_estree_text.specs.Spots.{spot_at}
-use Rattle.ecma_faults.specs.Message.{message_of}
+use Rattle.ecma_sentences.specs.Message.{message_of}
 use Rattle.ecma_answers.specs.declared.told.Point.{Point}
 use Rattle.ecma_answers.specs.declared.told.Told.{Told}
 
@@ -22,7 +22,7 @@ point_at text n = record {
 pub record IsTold (text : List ℕ) (is_refusal : Bool) (e : Error) (it : Told) : Type 0 where
   pub refusal : it.is_refusal ≡ is_refusal
   pub kind : it.kind.now ≡ name_of (kind_of e.kind)
-  pub message : string_bytes it.message ≡ message_of e.kind
+  pub message : string_bytes it.message ≡ message_of text e
   pub start : it.start ≡ point_at text e.span.lo.0
   pub end : it.end ≡ point_at text e.span.hi.0
 

@@ -5,62 +5,61 @@ ghost use Rattle.std.specs.List.{flat_map};
 ghost use Rattle.ecma_answers.specs.Listed.{fault_text, next_text, recorded_text, refusal_text, told_text};
 
 use crate::parsing::{Reading, Tree};
-use ecma_estree_text::{Extras, Places};
-use ecma_faults::{note_of, push_json};
+use ecma_faults::{Source, push_json};
 use std::alloc::{AllocError, Global};
 use swc_ecma_parser::error::{Error, PResult};
 
 /// Writes a fault, with the word of its severity.
 fn push_fault(
     out: &mut Vec<u8>,
-    places: &Places<'_>,
+    source: &Source<'_>,
     word: &str,
     error: &Error,
 ) -> Result<(), AllocError>
-    requires { length places.now.text < 2 ^ 32 }
+    requires { length source.now.text < 2 ^ 32 }
     ensures { OnOk result
-        (out.new.items ≡ out.old.items ++ fault_text places.now word.now error.now) }
+        (out.new.items ≡ out.old.items ++ fault_text source.now word.now error.now) }
 {
-    push_json(out, "", places, word, error, note_of(&error.kind))
+    push_json(out, "", source, word, error)
 }
 
 /// Writes a fault that stands behind another.
 fn push_next(
     out: &mut Vec<u8>,
-    places: &Places<'_>,
+    source: &Source<'_>,
     word: &str,
     error: &Error,
 ) -> Result<(), AllocError>
-    requires { length places.now.text < 2 ^ 32 }
+    requires { length source.now.text < 2 ^ 32 }
     ensures { OnOk result
-        (out.new.items ≡ out.old.items ++ next_text places.now word.now error.now) }
+        (out.new.items ≡ out.old.items ++ next_text source.now word.now error.now) }
 {
     out.extend_from_slice(b",")?;
-    push_fault(out, places, word, error)
+    push_fault(out, source, word, error)
 }
 
 /// Writes faults that stand behind another.
-fn push_rest(out: &mut Vec<u8>, places: &Places<'_>, rest: &[Error]) -> Result<(), AllocError>
-    requires { length places.now.text < 2 ^ 32 }
+fn push_rest(out: &mut Vec<u8>, source: &Source<'_>, rest: &[Error]) -> Result<(), AllocError>
+    requires { length source.now.text < 2 ^ 32 }
     ensures { OnOk result
         (out.new.items ≡ out.old.items
-        ++ flat_map (next_text places.now (codes "fault")) rest.now) }
+        ++ flat_map (next_text source.now (codes "fault")) rest.now) }
 {
     for fault in rest {
-        push_next(out, places, "fault", fault)?;
+        push_next(out, source, "fault", fault)?;
     }
     Ok(())
 }
 
 /// Writes the faults that were recorded, with a comma between two of them.
-fn push_recorded(out: &mut Vec<u8>, places: &Places<'_>, faults: &[Error]) -> Result<(), AllocError>
-    requires { length places.now.text < 2 ^ 32 }
-    ensures { OnOk result (out.new.items ≡ out.old.items ++ recorded_text places.now faults.now) }
+fn push_recorded(out: &mut Vec<u8>, source: &Source<'_>, faults: &[Error]) -> Result<(), AllocError>
+    requires { length source.now.text < 2 ^ 32 }
+    ensures { OnOk result (out.new.items ≡ out.old.items ++ recorded_text source.now faults.now) }
 {
     match faults {
         [first, rest @ ..] => {
-            push_fault(out, places, "fault", first)?;
-            push_rest(out, places, rest)
+            push_fault(out, source, "fault", first)?;
+            push_rest(out, source, rest)
         }
         _ => Ok(()),
     }
@@ -69,18 +68,18 @@ fn push_recorded(out: &mut Vec<u8>, places: &Places<'_>, faults: &[Error]) -> Re
 /// Writes why there is no tree, behind the faults that were recorded.
 fn push_refusal(
     out: &mut Vec<u8>,
-    places: &Places<'_>,
+    source: &Source<'_>,
     tree: &PResult<Tree>,
     faults: &[Error],
 ) -> Result<(), AllocError>
-    requires { length places.now.text < 2 ^ 32 }
+    requires { length source.now.text < 2 ^ 32 }
     ensures { OnOk result
-        (out.new.items ≡ out.old.items ++ refusal_text places.now tree.now faults.now) }
+        (out.new.items ≡ out.old.items ++ refusal_text source.now tree.now faults.now) }
 {
     match (tree, faults) {
         (Ok(_), _) => Ok(()),
-        (Err(error), []) => push_fault(out, places, "refused", error),
-        (Err(error), _) => push_next(out, places, "refused", error),
+        (Err(error), []) => push_fault(out, source, "refused", error),
+        (Err(error), _) => push_next(out, source, "refused", error),
     }
 }
 
@@ -97,15 +96,11 @@ fn push_told(
         (out.new.items ≡ out.old.items
         ++ told_text text.now reading.now.tree reading.now.faults.items) }
 {
-    let extras = Extras {
-        locations: true,
-        ranges: false,
-    };
-    let places = Places::new(alloc, text, extras)?;
+    let source = Source::new(alloc, text)?;
     let faults = reading.faults.as_slice();
     out.extend_from_slice(b"[")?;
-    push_recorded(out, &places, faults)?;
-    push_refusal(out, &places, &reading.tree, faults)?;
+    push_recorded(out, &source, faults)?;
+    push_refusal(out, &source, &reading.tree, faults)?;
     out.extend_from_slice(b"]")
 }
 

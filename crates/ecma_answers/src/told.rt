@@ -6,8 +6,8 @@ ghost use Rattle.ecma_answers.specs.Listed.{lined};
 ghost use Rattle.ecma_answers.specs.Told.{AllTold, AreTold, IsRefusal, IsTold, point_at};
 
 use crate::parsing::{Reading, Tree};
-use ecma_estree_text::{Extras, Places};
-use ecma_faults::message;
+use ecma_estree_text::Places;
+use ecma_faults::{Source, message};
 use std::alloc::{AllocError, Global};
 use swc_ecma_parser::error::{Error, PResult};
 
@@ -56,33 +56,33 @@ fn point_of(places: &Places<'_>, byte: u32) -> Point
 /// A fault, told.
 fn told_of(
     alloc: Global,
-    places: &Places<'_>,
+    source: &Source<'_>,
     error: &Error,
     is_refusal: bool,
 ) -> Result<Told, AllocError>
-    requires text { length places.now.text < 2 ^ 32 }
-    requires lines { places.now ≡ lined places.now.text }
-    ensures { IfOk result (IsTold places.now.text is_refusal error.now) }
+    requires text { length source.now.text < 2 ^ 32 }
+    requires lines { source.now ≡ lined source.now.text }
+    ensures { IfOk result (IsTold source.now.text is_refusal error.now) }
 {
     Ok(Told {
         is_refusal,
         kind: error.kind.name(),
-        message: message(alloc, &error.kind)?,
-        start: point_of(places, error.span.lo.0),
-        end: point_of(places, error.span.hi.0),
+        message: message(alloc, source, error)?,
+        start: point_of(source.places(), error.span.lo.0),
+        end: point_of(source.places(), error.span.hi.0),
     })
 }
 
 /// The faults that were recorded, told.
 #[tactic(auto, using(crate::proofs::Listing::told_more))]
-fn recorded(alloc: Global, places: &Places<'_>, faults: &[Error]) -> Result<Vec<Told>, AllocError>
-    requires text { length places.now.text < 2 ^ 32 }
-    requires lines { places.now ≡ lined places.now.text }
-    ensures { IfOk result (λ list. AreTold places.now.text faults.now list.items) }
+fn recorded(alloc: Global, source: &Source<'_>, faults: &[Error]) -> Result<Vec<Told>, AllocError>
+    requires text { length source.now.text < 2 ^ 32 }
+    requires lines { source.now ≡ lined source.now.text }
+    ensures { IfOk result (λ list. AreTold source.now.text faults.now list.items) }
 {
     let mut list = Vec::new(alloc);
     for fault in faults {
-        let it = told_of(alloc, places, fault, false)?;
+        let it = told_of(alloc, source, fault, false)?;
         list.push(it)?;
     }
     Ok(list)
@@ -92,17 +92,17 @@ fn recorded(alloc: Global, places: &Places<'_>, faults: &[Error]) -> Result<Vec<
 fn push_refusal(
     alloc: Global,
     out: &mut Vec<Told>,
-    places: &Places<'_>,
+    source: &Source<'_>,
     tree: &PResult<Tree>,
 ) -> Result<(), AllocError>
-    requires text { length places.now.text < 2 ^ 32 }
-    requires lines { places.now ≡ lined places.now.text }
+    requires text { length source.now.text < 2 ^ 32 }
+    requires lines { source.now ≡ lined source.now.text }
     ensures { OnOk result
-        ((it : List Told) × IsRefusal places.now.text tree.now it
+        ((it : List Told) × IsRefusal source.now.text tree.now it
         × (out.new.items ≡ out.old.items ++ it)) }
 {
     if let Err(error) = tree {
-        let it = told_of(alloc, places, error, true)?;
+        let it = told_of(alloc, source, error, true)?;
         out.push(it)?;
     }
     Ok(())
@@ -114,13 +114,9 @@ fn list_of(alloc: Global, text: &str, reading: &Reading) -> Result<Vec<Told>, Al
     ensures { IfOk result
         (λ list. AllTold text.now reading.now.tree reading.now.faults.items list.items) }
 {
-    let extras = Extras {
-        locations: true,
-        ranges: false,
-    };
-    let places = Places::new(alloc, text, extras)?;
-    let mut list = recorded(alloc, &places, reading.faults.as_slice())?;
-    push_refusal(alloc, &mut list, &places, &reading.tree)?;
+    let source = Source::new(alloc, text)?;
+    let mut list = recorded(alloc, &source, reading.faults.as_slice())?;
+    push_refusal(alloc, &mut list, &source, &reading.tree)?;
     Ok(list)
 }
 

@@ -4,7 +4,6 @@ use Rattle.std.specs.List.{flat_map}
 use Rattle.swc_ecma_parser_error.specs.declared.error.Error.{Error}
 use Rattle.ecma_estree_text.specs.Places.{Placed}
 use Rattle.ecma_faults.specs.Json.{fault_json}
-use Rattle.ecma_faults.specs.Note.{note_of}
 use Rattle.ecma_faults.specs.Text.{fault_text}
 use Rattle.ecma_check.specs.declared.command.Format.{Format}
 use Rattle.ecma_check.specs.declared.command.Format.TheVariants as format
@@ -15,10 +14,10 @@ lined text = record { text = text; has_locations = true; has_ranges = false }
 
 -- a fault in a format: beside a tree as text, in a page as JSON
 abbrev pub fault_in : Format → Placed → (file word : List ℕ) → Error → List ℕ
-fault_in format.Json p file word e = fault_json p file word e (note_of e.kind)
-fault_in format.Html p file word e = fault_json p file word e (note_of e.kind)
-fault_in format.Text p file word e = fault_text p file word e (note_of e.kind)
-fault_in format.Estree p file word e = fault_text p file word e (note_of e.kind)
+fault_in format.Json p file word e = fault_json p file word e
+fault_in format.Html p file word e = fault_json p file word e
+fault_in format.Text p file word e = fault_text p file word e
+fault_in format.Estree p file word e = fault_text p file word e
 
 -- faults one behind another
 abbrev pub faults_in : Format → Placed → (file : List ℕ) → List Error → List ℕ

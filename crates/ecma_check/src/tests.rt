@@ -117,11 +117,11 @@ fn faults_as_text(rt: HostRuntime) -> Result<(), Fail> {
         ("a", "files: 1, faults: 0, refused: 0, unread: 0\n||0"),
         (
             "\tbreak;",
-            "-:1:2: fault [TS1105]: `break` stands outside of loops and of `switch`; move it into one, or name a label around it (ECMA-262, 14.9.1)\n\tbreak;\n\t^^^^^^\nfiles: 1, faults: 1, refused: 0, unread: 0\n||1",
+            "-:1:2: fault: `break` stands outside of loops and of `switch`; move it into one, or name a label around it (ECMA-262, 14.9.1)\n\tbreak;\n\t^^^^^^\nfiles: 1, faults: 1, refused: 0, unread: 0\n||1",
         ),
         (
             "a\r\n'\u{1d4b3}\u{4e00}'; throw\n;/*\u{7}*/",
-            "-:3:1: refused [LineBreakInThrow]: the line ends behind `throw`; write what is thrown on the same line (ECMA-262, 14.14)\n;/*\u{fffd}*/\n^\nfiles: 1, faults: 1, refused: 1, unread: 0\n||2",
+            "-:3:1: refused: the line ends behind `throw`; write what is thrown on the same line (ECMA-262, 14.14)\n;/*\u{fffd}*/\n^\nfiles: 1, faults: 1, refused: 1, unread: 0\n||2",
         ),
     ];
     for (text, wanted) in rows {
@@ -136,7 +136,7 @@ fn an_earlier_place(rt: HostRuntime) -> Result<(), Fail> {
     let found = printed(&rt, plain(&[], b"\ta b"))?;
     assert_eq!(rt;
         found.as_str(),
-        "-:1:4: refused [ExpectedSemiForExprStmt]: the statement before this has not ended; write a `;` or a line break between them (ECMA-262, 12.10)\n\ta b\n\t  ^\n-:1:2: note: the expression stands here\n\ta b\n\t^\nfiles: 1, faults: 1, refused: 1, unread: 0\n||2"
+        "-:1:4: refused: expected an operator, `;` or a line break behind `a`, found `b`\n\ta b\n\t  ^\n-:1:2: note: the expression stands here\n\ta b\n\t^\nfiles: 1, faults: 1, refused: 1, unread: 0\n||2"
     );
     Ok(())
 }
@@ -240,7 +240,7 @@ fn faults_beside_a_tree(rt: HostRuntime) -> Result<(), Fail> {
     let tree =
         "{\"type\":\"Program\",\"start\":0,\"end\":5,\"body\":[{\"type\":\"BreakStatement\",\"start\":0,\"end\":5,\"label\":null}],\"sourceType\":\"script\"}\n";
     let told =
-        "-:1:1: fault [TS1105]: `break` stands outside of loops and of `switch`; move it into one, or name a label around it (ECMA-262, 14.9.1)\nbreak\n^^^^^\n";
+        "-:1:1: fault: `break` stands outside of loops and of `switch`; move it into one, or name a label around it (ECMA-262, 14.9.1)\nbreak\n^^^^^\n";
     let words = ["--format", "estree"];
     let found = printed(&rt, plain(&words, b"break"))?;
     let wanted = format!(in rt.alloc(); "{tree}|{told}|1")?;
@@ -257,7 +257,7 @@ fn faults_beside_a_tree(rt: HostRuntime) -> Result<(), Fail> {
     let found = printed(&rt, plain(&words, b"throw\na"))?;
     assert_eq!(rt;
         found.as_str(),
-        "|-:2:1: refused [LineBreakInThrow]: the line ends behind `throw`; write what is thrown on the same line (ECMA-262, 14.14)\na\n^\n|2"
+        "|-:2:1: refused: the line ends behind `throw`; write what is thrown on the same line (ECMA-262, 14.14)\na\n^\n|2"
     );
     Ok(())
 }
@@ -340,19 +340,19 @@ fn a_line_that_is_cut(rt: HostRuntime) -> Result<(), Fail> {
     let rows = [
         (
             "                                                            break;                                                            ",
-            "-:1:61: fault [TS1105]: `break` stands outside of loops and of `switch`; move it into one, or name a label around it (ECMA-262, 14.9.1)\n...                                      break;                              ...\n                                         ^^^^^^\nfiles: 1, faults: 1, refused: 0, unread: 0\n||1",
+            "-:1:61: fault: `break` stands outside of loops and of `switch`; move it into one, or name a label around it (ECMA-262, 14.9.1)\n...                                      break;                              ...\n                                         ^^^^^^\nfiles: 1, faults: 1, refused: 0, unread: 0\n||1",
         ),
         (
             "'\u{4e00}\u{4e00}\u{4e00}\u{4e00}\u{4e00}\u{4e00}\u{4e00}\u{4e00}\u{4e00}\u{4e00}\u{4e00}\u{4e00}\u{4e00}\u{4e00}\u{4e00}\u{4e00}\u{4e00}\u{4e00}\u{4e00}\u{4e00}\u{4e00}\u{4e00}\u{4e00}\u{4e00}\u{4e00}\u{4e00}\u{4e00}\u{4e00}\u{4e00}\u{4e00}\u{4e00}\u{4e00}\u{4e00}\u{4e00}\u{4e00}\u{4e00}\u{4e00}\u{4e00}\u{4e00}';break;'\u{4e00}\u{4e00}\u{4e00}\u{4e00}\u{4e00}\u{4e00}\u{4e00}\u{4e00}\u{4e00}\u{4e00}\u{4e00}\u{4e00}\u{4e00}\u{4e00}\u{4e00}\u{4e00}\u{4e00}\u{4e00}\u{4e00}\u{4e00}\u{4e00}\u{4e00}\u{4e00}\u{4e00}\u{4e00}\u{4e00}\u{4e00}\u{4e00}\u{4e00}\u{4e00}\u{4e00}\u{4e00}\u{4e00}\u{4e00}\u{4e00}\u{4e00}\u{4e00}\u{4e00}\u{4e00}\u{4e00}'",
-            "-:1:43: fault [TS1105]: `break` stands outside of loops and of `switch`; move it into one, or name a label around it (ECMA-262, 14.9.1)\n...\u{4e00}\u{4e00}\u{4e00}\u{4e00}\u{4e00}\u{4e00}\u{4e00}\u{4e00}\u{4e00}\u{4e00}\u{4e00}\u{4e00}\u{4e00}\u{4e00}\u{4e00}\u{4e00}\u{4e00}\u{4e00}';break;'\u{4e00}\u{4e00}\u{4e00}\u{4e00}\u{4e00}\u{4e00}\u{4e00}\u{4e00}\u{4e00}\u{4e00}\u{4e00}\u{4e00}\u{4e00}\u{4e00}...\n                                         ^^^^^^\nfiles: 1, faults: 1, refused: 0, unread: 0\n||1",
+            "-:1:43: fault: `break` stands outside of loops and of `switch`; move it into one, or name a label around it (ECMA-262, 14.9.1)\n...\u{4e00}\u{4e00}\u{4e00}\u{4e00}\u{4e00}\u{4e00}\u{4e00}\u{4e00}\u{4e00}\u{4e00}\u{4e00}\u{4e00}\u{4e00}\u{4e00}\u{4e00}\u{4e00}\u{4e00}\u{4e00}';break;'\u{4e00}\u{4e00}\u{4e00}\u{4e00}\u{4e00}\u{4e00}\u{4e00}\u{4e00}\u{4e00}\u{4e00}\u{4e00}\u{4e00}\u{4e00}\u{4e00}...\n                                         ^^^^^^\nfiles: 1, faults: 1, refused: 0, unread: 0\n||1",
         ),
         (
             "a\u{2028}break;",
-            "-:2:1: fault [TS1105]: `break` stands outside of loops and of `switch`; move it into one, or name a label around it (ECMA-262, 14.9.1)\nbreak;\n^^^^^^\nfiles: 1, faults: 1, refused: 0, unread: 0\n||1",
+            "-:2:1: fault: `break` stands outside of loops and of `switch`; move it into one, or name a label around it (ECMA-262, 14.9.1)\nbreak;\n^^^^^^\nfiles: 1, faults: 1, refused: 0, unread: 0\n||1",
         ),
         (
             "'\u{4e00}'; break;",
-            "-:1:6: fault [TS1105]: `break` stands outside of loops and of `switch`; move it into one, or name a label around it (ECMA-262, 14.9.1)\n'\u{4e00}'; break;\n      ^^^^^^\nfiles: 1, faults: 1, refused: 0, unread: 0\n||1",
+            "-:1:6: fault: `break` stands outside of loops and of `switch`; move it into one, or name a label around it (ECMA-262, 14.9.1)\n'\u{4e00}'; break;\n      ^^^^^^\nfiles: 1, faults: 1, refused: 0, unread: 0\n||1",
         ),
     ];
     for (text, wanted) in rows {
@@ -367,7 +367,7 @@ fn the_other_files_go_on(rt: HostRuntime) -> Result<(), Fail> {
     let found = printed(&rt, plain(&["nosuch", "-", "/", "-"], b"break"))?;
     assert_eq!(rt;
         found.as_str(),
-        "-:1:1: fault [TS1105]: `break` stands outside of loops and of `switch`; move it into one, or name a label around it (ECMA-262, 14.9.1)\nbreak\n^^^^^\nfiles: 4, faults: 1, refused: 0, unread: 2\n|nosuch: there is no such file\n/: it is a directory\n|3"
+        "-:1:1: fault: `break` stands outside of loops and of `switch`; move it into one, or name a label around it (ECMA-262, 14.9.1)\nbreak\n^^^^^\nfiles: 4, faults: 1, refused: 0, unread: 2\n|nosuch: there is no such file\n/: it is a directory\n|3"
     );
     Ok(())
 }
@@ -411,12 +411,12 @@ fn what_is_wrong_in_a_condition(rt: HostRuntime) -> Result<(), Fail> {
     let found = printed(&rt, plain(&["--script"], b"if ()"))?;
     assert_eq!(rt;
         found.as_str(),
-        "-:1:5: refused [WithLabel]: no rule reads this; an expression is wanted in its place (ECMA-262, Annex A)\nif ()\n    ^\n-:1:1: note: it stands in the condition of this `if`\nif ()\n^^\nfiles: 1, faults: 1, refused: 1, unread: 0\n||2"
+        "-:1:5: refused: expected an expression behind `(`, found `)`\nif ()\n    ^\n-:1:1: note: it stands in the condition of this `if`\nif ()\n^^\nfiles: 1, faults: 1, refused: 1, unread: 0\n||2"
     );
     let found = printed(&rt, plain(&["--script", "--format", "json"], b"{a"))?;
     assert_eq!(rt;
         found.as_str(),
-        "{\"file\":\"-\",\"severity\":\"fault\",\"kind\":\"Expected\",\"message\":\"`}` is wanted behind this, where the text ends (ECMA-262, Annex A)\",\"byteStart\":1,\"byteEnd\":2,\"start\":1,\"end\":2,\"line\":1,\"column\":2,\"endLine\":1,\"endColumn\":3}\n||1"
+        "{\"file\":\"-\",\"severity\":\"fault\",\"kind\":\"Expected\",\"message\":\"the text ends inside of a block: expected `}`\",\"byteStart\":1,\"byteEnd\":2,\"start\":1,\"end\":2,\"line\":1,\"column\":2,\"endLine\":1,\"endColumn\":3,\"note\":{\"message\":\"`{` opened here is never closed\",\"byteStart\":0,\"byteEnd\":1,\"start\":0,\"end\":1,\"line\":1,\"column\":1,\"endLine\":1,\"endColumn\":2}}\n||1"
     );
     Ok(())
 }

@@ -5,8 +5,7 @@ ghost use Rattle.ecma_check.specs.Told.{fault_in, faults_in, lined, refusal_in, 
 
 use crate::command::Format;
 use ecma_answers::{Reading, Tree};
-use ecma_estree_text::{Extras, Places};
-use ecma_faults::{note_of, push_json, push_text};
+use ecma_faults::{Source, push_json, push_text};
 use std::alloc::{AllocError, Global};
 use swc_ecma_parser::error::{Error, PResult};
 
@@ -15,18 +14,17 @@ fn push_fault(
     out: &mut Vec<u8>,
     format: Format,
     file: &str,
-    places: &Places<'_>,
+    source: &Source<'_>,
     word: &str,
     error: &Error,
 ) -> Result<(), AllocError>
-    requires { length places.now.text < 2 ^ 32 }
+    requires { length source.now.text < 2 ^ 32 }
     ensures { OnOk result (out.new.items
-        ≡ out.old.items ++ fault_in format places.now file.now word.now error.now) }
+        ≡ out.old.items ++ fault_in format source.now file.now word.now error.now) }
 {
-    let note = note_of(&error.kind);
     match format {
-        Format::Json | Format::Html => push_json(out, file, places, word, error, note),
-        Format::Text | Format::Estree => push_text(out, file, places, word, error, note),
+        Format::Json | Format::Html => push_json(out, file, source, word, error),
+        Format::Text | Format::Estree => push_text(out, file, source, word, error),
     }
 }
 
@@ -35,15 +33,15 @@ fn push_faults(
     out: &mut Vec<u8>,
     format: Format,
     file: &str,
-    places: &Places<'_>,
+    source: &Source<'_>,
     faults: &[Error],
 ) -> Result<(), AllocError>
-    requires { length places.now.text < 2 ^ 32 }
+    requires { length source.now.text < 2 ^ 32 }
     ensures { OnOk result (out.new.items
-        ≡ out.old.items ++ faults_in format places.now file.now faults.now) }
+        ≡ out.old.items ++ faults_in format source.now file.now faults.now) }
 {
     for fault in faults {
-        push_fault(out, format, file, places, "fault", fault)?;
+        push_fault(out, format, file, source, "fault", fault)?;
     }
     Ok(())
 }
@@ -53,16 +51,16 @@ fn push_refusal(
     out: &mut Vec<u8>,
     format: Format,
     file: &str,
-    places: &Places<'_>,
+    source: &Source<'_>,
     tree: &PResult<Tree>,
 ) -> Result<(), AllocError>
-    requires { length places.now.text < 2 ^ 32 }
+    requires { length source.now.text < 2 ^ 32 }
     ensures { OnOk result (out.new.items
-        ≡ out.old.items ++ refusal_in format places.now file.now tree.now) }
+        ≡ out.old.items ++ refusal_in format source.now file.now tree.now) }
 {
     match tree {
         Ok(_) => Ok(()),
-        Err(error) => push_fault(out, format, file, places, "refused", error),
+        Err(error) => push_fault(out, format, file, source, "refused", error),
     }
 }
 
@@ -83,12 +81,8 @@ pub fn told(
     if reading.tree.is_ok() && reading.faults.is_empty() {
         return Ok(out);
     }
-    let extras = Extras {
-        locations: true,
-        ranges: false,
-    };
-    let places = Places::new(alloc, text, extras)?;
-    push_faults(&mut out, format, file, &places, reading.faults.as_slice())?;
-    push_refusal(&mut out, format, file, &places, &reading.tree)?;
+    let source = Source::new(alloc, text)?;
+    push_faults(&mut out, format, file, &source, reading.faults.as_slice())?;
+    push_refusal(&mut out, format, file, &source, &reading.tree)?;
     Ok(out)
 }

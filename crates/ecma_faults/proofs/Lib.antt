@@ -2,4 +2,3 @@ mod Back
 mod Chars
 pub mod Columns
 mod Safe
-mod Said

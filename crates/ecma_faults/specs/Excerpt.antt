@@ -1,20 +1,22 @@
 -- The line of a place, and carets under the place. A long line is cut around it. Offsets are in bytes.
-use Rattle.std.specs.Prelude.{ℕ, zero, suc, List, [], ◌∷◌, ◌++◌, ◌+◌, ◌-◌, ◌==◌, ◌&&◌, ◌||◌, Bool, true, false, cond, if◌then◌else◌, min, max, nat_le, nat_lt, length, replicate, slice_index, slice_range, codes, chars}
+use Rattle.std.specs.Prelude.{ℕ, zero, suc, List, [], ◌∷◌, ◌++◌, ◌+◌, ◌-◌, ◌==◌, ◌&&◌, ◌||◌, Bool, true, false, cond, if◌then◌else◌, min, max, nat_lt, length, replicate, codes, chars}
 use Rattle.ecma_estree_text.specs.Places.{Placed}
 use Rattle.ecma_estree_text.specs.Spots.{spot_at}
+use Rattle.ecma_estree_text.specs.declared.spot.Spot.{Spot}
 use Rattle.ecma_faults.specs.Shown.{columns, shown_bytes, shown_text, blank_text}
+use Rattle.ecma_outline.specs.Piece.{byte_at, is_boundary, piece}
+
+-- a text that begins with the three bytes of a byte order mark, U+FEFF
+abbrev pub has_mark : List ℕ → Bool
+has_mark text = byte_at text 0 == 239 && byte_at text 1 == 187 && byte_at text 2 == 191
+
+-- the column of a place, in which that mark is not counted
+abbrev pub column_in : List ℕ → Spot → ℕ
+column_in text s = if s.line == 1 && has_mark text then s.column - 1 else s.column
 
 -- the column of an offset, from 0, in code units of UTF-16; 0 where no columns are known
 abbrev pub column_of : Placed → ℕ → ℕ
-column_of p n = cond p.has_locations (spot_at p.text n).column 0
-
--- no character of UTF-8 has its middle there
-abbrev pub is_boundary : List ℕ → ℕ → Bool
-is_boundary text n = nat_le n (length text) && (nat_lt (slice_index text n) 128 || nat_le 192 (slice_index text n))
-
--- a part of a text; nothing where it is cut in the midst of a character
-unfoldable pub piece : List ℕ → (from to : ℕ) → List ℕ
-piece text from to = if nat_le from to && is_boundary text from && is_boundary text to then slice_range text from to else []
+column_of p n = cond p.has_locations (column_in p.text (spot_at p.text n)) 0
 
 -- a character that ends a line: ECMA-262, "Line Terminators" (section 12.3)
 abbrev pub is_line_end : ℕ → Bool
@@ -29,22 +31,27 @@ abbrev pub room_left : (room : ℕ) → List ℕ → ℕ
 room_left room [] = room
 room_left room (c ∷ cs) = room_left (room - cost c) cs
 
--- where the part of the line that is shown can begin: at the start of the line, or where all but 2 of 40 columns stand before the place
-abbrev pub is_far : Placed → (low : ℕ) → ℕ → Bool
-is_far p low n = column_of p n == 0 || nat_lt (room_left 40 (chars (piece p.text n low))) 3
+-- Where the part of the line begins that is shown: the last offset up to one at the start of the line, or from which all but 2 of 40 columns are
+-- taken. `edge` is the start of the character before, and `left` is the room that is left there.
+abbrev pub left_of : Placed → (edge left : ℕ) → ℕ → ℕ
+left_of p edge left n = room_left left (chars (piece p.text n edge))
 
--- the last such offset up to one
-unfoldable pub back : Placed → (low : ℕ) → ℕ → ℕ
-back p low zero = 0
-back p low (suc n) = if is_far p low (suc n) then suc n else back p low n
+abbrev pub is_far : Placed → (left : ℕ) → ℕ → Bool
+is_far p left n = column_of p n == 0 || nat_lt left 3
 
--- where the part of the line begins that is shown
+unfoldable pub back : Placed → (edge left : ℕ) → ℕ → ℕ
+back p edge left zero = 0
+back p edge left (suc n) =
+    if is_boundary p.text (suc n)
+    then (if is_far p (left_of p edge left (suc n)) (suc n) then suc n else back p (suc n) (left_of p edge left (suc n)) n)
+    else back p edge left n
+
 abbrev pub start_of : Placed → ℕ → ℕ
-start_of p low = back p low low
+start_of p low = back p low 40 low
 
 -- how many columns are left for what stands from the place on
-abbrev pub room_of : Placed → ℕ → ℕ
-room_of p low = room_left 74 (chars (piece p.text (start_of p low) low))
+abbrev pub room_of : Placed → (from low : ℕ) → ℕ
+room_of p from low = room_left 74 (chars (piece p.text from low))
 
 -- what is shown of characters: those of the line, as far as there is room
 abbrev pub line_rest : (room : ℕ) → List ℕ → List ℕ
@@ -66,18 +73,21 @@ rest_columns room (c ∷ cs) =
 abbrev pub dots : Placed → ℕ → List ℕ → List ℕ
 dots p from bytes = if column_of p from == 0 then [] else bytes
 
--- the line
-abbrev pub line_text : Placed → ℕ → List ℕ
-line_text p low =
-    dots p (start_of p low) (codes "...") ++ (shown_text 9 (piece p.text (start_of p low) low)
-    ++ (line_rest (room_of p low) (chars (piece p.text low (length p.text))) ++ 10 ∷ []))
+-- the line, from an offset on
+abbrev pub line_text : Placed → (from room low : ℕ) → List ℕ
+line_text p from room low =
+    dots p from (codes "...") ++ (shown_text 9 (piece p.text from low)
+    ++ (line_rest room (chars (piece p.text low (length p.text))) ++ 10 ∷ []))
 
 -- the carets: one at least
-abbrev pub caret_text : Placed → (low high : ℕ) → List ℕ
-caret_text p low high =
-    dots p (start_of p low) (codes "   ") ++ (blank_text (piece p.text (start_of p low) low)
-    ++ (replicate (max 1 (rest_columns (room_of p low) (chars (piece p.text low high)))) 94 ++ 10 ∷ []))
+abbrev pub caret_text : Placed → (from room low high : ℕ) → List ℕ
+caret_text p from room low high =
+    dots p from (codes "   ") ++ (blank_text (piece p.text from low)
+    ++ (replicate (max 1 (rest_columns room (chars (piece p.text low high)))) 94 ++ 10 ∷ []))
+
+abbrev both_text : Placed → (from low high : ℕ) → List ℕ
+both_text p from low high = line_text p from (room_of p from low) low ++ caret_text p from (room_of p from low) low high
 
 -- both, of a place between two offsets
 unfoldable pub excerpt_text : Placed → (low high : ℕ) → List ℕ
-excerpt_text p low high = line_text p (min low (length p.text)) ++ caret_text p (min low (length p.text)) high
+excerpt_text p low high = both_text p (start_of p (min low (length p.text))) (min low (length p.text)) high

@@ -7,7 +7,8 @@ use Rattle.ecma_estree_text.specs.Places.{Placed, offset}
 use Rattle.ecma_estree_text.specs.Quoted.{quoted}
 use Rattle.ecma_estree_text.specs.Spots.{spot_at}
 use Rattle.ecma_estree_text.specs.declared.spot.Spot.{Spot}
-use Rattle.ecma_faults.specs.Message.{message_of}
+use Rattle.ecma_sentences.specs.Message.{message_of}
+use Rattle.ecma_sentences.specs.Note.{note_of}
 
 -- how a further field begins
 unfoldable pub key : List ℕ → List ℕ
@@ -46,12 +47,12 @@ abbrev pub note_json : Placed → Option (Span × List ℕ) → List ℕ
 note_json p None = []
 note_json p (Some note) = key (codes "note") ++ (first (codes "message") note.1 ++ (span_json p note.0 ++ codes "}"))
 
--- what a fault says
-unfoldable pub head_json : (file word : List ℕ) → Error → List ℕ
-head_json file word e =
+-- what a fault of a text says
+unfoldable pub head_json : (text file word : List ℕ) → Error → List ℕ
+head_json text file word e =
     first (codes "file") file ++ (string (codes "severity") word
-    ++ (string (codes "kind") (name_of (kind_of e.kind)) ++ string (codes "message") (message_of e.kind)))
+    ++ (string (codes "kind") (name_of (kind_of e.kind)) ++ string (codes "message") (message_of text e)))
 
 -- a fault of a file, with the other place that it speaks of
-unfoldable pub fault_json : Placed → (file word : List ℕ) → Error → Option (Span × List ℕ) → List ℕ
-fault_json p file word e note = head_json file word e ++ (span_json p e.span ++ (note_json p note ++ codes "}\n"))
+unfoldable pub fault_json : Placed → (file word : List ℕ) → Error → List ℕ
+fault_json p file word e = head_json p.text file word e ++ (span_json p e.span ++ (note_json p (note_of p.text e) ++ codes "}\n"))

@@ -3,10 +3,11 @@
 ghost use Rattle.std.specs.Prelude.{◌≡◌, ◌++◌, ◌≤◌, OnOk, chars};
 ghost use Rattle.ecma_faults.specs.Excerpt.{caret_text, dots, excerpt_text, is_line_end, line_rest, line_text, rest_columns};
 
-use crate::place::{column, piece, room, start};
+use crate::place::{column, room, start};
 use crate::room::room_taken;
 use crate::shown::{push_blanks, push_char, push_shown, push_times, width};
 use ecma_estree_text::Places;
+use ecma_outline::piece;
 use std::alloc::AllocError;
 
 /// Whether a character ends a line: ECMA-262, "Line Terminators" (section 12.3).
@@ -72,15 +73,21 @@ fn push_dots(
     out.extend_from_slice(bytes)
 }
 
-/// Writes the line of a place.
-fn push_line(out: &mut Vec<u8>, places: &Places<'_>, low: usize) -> Result<(), AllocError>
-    ensures { OnOk result (out.new.items ≡ out.old.items ++ line_text places.now low) }
+/// Writes the line of a place, from an offset on.
+fn push_line(
+    out: &mut Vec<u8>,
+    places: &Places<'_>,
+    from: usize,
+    room: usize,
+    low: usize,
+) -> Result<(), AllocError>
+    ensures { OnOk result
+        (out.new.items ≡ out.old.items ++ line_text places.now from room low) }
 {
     let text = places.text();
-    let from = start(places, low);
     push_dots(out, places, from, b"...")?;
     push_shown(out, '\t', piece(text, from, low))?;
-    push_rest(out, room(places, low), piece(text, low, text.len()))?;
+    push_rest(out, room, piece(text, low, text.len()))?;
     out.push(b'\n')?;
     Ok(())
 }
@@ -89,16 +96,19 @@ fn push_line(out: &mut Vec<u8>, places: &Places<'_>, low: usize) -> Result<(), A
 fn push_carets(
     out: &mut Vec<u8>,
     places: &Places<'_>,
+    from: usize,
+    room: usize,
     low: usize,
     high: usize,
 ) -> Result<(), AllocError>
-    ensures { OnOk result (out.new.items ≡ out.old.items ++ caret_text places.now low high) }
+    requires { room ≤ 74 }
+    ensures { OnOk result
+        (out.new.items ≡ out.old.items ++ caret_text places.now from room low high) }
 {
     let text = places.text();
-    let from = start(places, low);
     push_dots(out, places, from, b"   ")?;
     push_blanks(out, piece(text, from, low))?;
-    let carets = columns_of(room(places, low), piece(text, low, high)).max(1);
+    let carets = columns_of(room, piece(text, low, high)).max(1);
     push_times(out, b'^', carets)?;
     out.push(b'\n')?;
     Ok(())
@@ -115,6 +125,8 @@ pub(crate) fn push_excerpt(
     ensures { OnOk result (out.new.items ≡ out.old.items ++ excerpt_text places.now low high) }
 {
     let low = low.min(places.text().len());
-    push_line(out, places, low)?;
-    push_carets(out, places, low, high)
+    let from = start(places, low);
+    let room = room(places, from, low);
+    push_line(out, places, from, room, low)?;
+    push_carets(out, places, from, room, low, high)
 }

@@ -2,12 +2,12 @@
 
 ghost use Rattle.std.specs.Prelude.{◌≡◌, ◌++◌, ◌<◌, ◌^◌, OnOk, length};
 ghost use Rattle.ecma_faults.specs.Json as json;
-ghost use Rattle.ecma_faults.specs.Note.{noted};
+ghost use Rattle.ecma_sentences.specs.Note.{noted};
 ghost use Rattle.ecma_faults.specs.Json.{fault_json, first, head_json, key, note_json, offsets_json, place_json, span_json, spot_json};
 
-use crate::messages::message;
-use crate::note::Note;
 use ecma_estree_text::{Places, Spot, push_count, push_quoted};
+use ecma_outline::Source;
+use ecma_sentences::{Note, message, note_of};
 use std::alloc::AllocError;
 use swc_ecma_parser_common::Span;
 use swc_ecma_parser_error::Error;
@@ -124,34 +124,38 @@ fn push_note(out: &mut Vec<u8>, places: &Places<'_>, note: Option<Note>) -> Resu
 
 /// Writes what a fault says.
 #[tactic(auto, unfolding(crate::specs::Json::head_json))]
-fn push_head(out: &mut Vec<u8>, file: &str, word: &str, error: &Error) -> Result<(), AllocError>
-    ensures { OnOk result (out.new.items ≡ out.old.items ++ head_json file.now word.now error.now) }
+fn push_head(
+    out: &mut Vec<u8>,
+    source: &Source<'_>,
+    file: &str,
+    word: &str,
+    error: &Error,
+) -> Result<(), AllocError>
+    ensures { OnOk result
+        (out.new.items ≡ out.old.items ++ head_json source.now.text file.now word.now error.now) }
 {
-    let said = message(*out.allocator(), &error.kind)?;
+    let said = message(*out.allocator(), source, error)?;
     push_first(out, "file", file)?;
     push_string(out, "severity", word)?;
     push_string(out, "kind", error.kind.name())?;
     push_string(out, "message", said.as_str())
 }
 
-/// Writes a fault of a file as an object in a line of its own: `severity` is the word, and `note` another place that it speaks of, which
-/// `note_of` tells.
+/// Writes a fault of a file as an object in a line of its own: `severity` is the word, and `note` another place that it speaks of.
 #[tactic(auto, unfolding(crate::specs::Json::fault_json))]
 pub fn push_fault(
     out: &mut Vec<u8>,
     file: &str,
-    places: &Places<'_>,
+    source: &Source<'_>,
     word: &str,
     error: &Error,
-    note: Option<Note>,
 ) -> Result<(), AllocError>
-    requires { length places.now.text < 2 ^ 32 }
+    requires { length source.now.text < 2 ^ 32 }
     ensures { OnOk result
-        (out.new.items ≡ out.old.items
-        ++ fault_json places.now file.now word.now error.now (noted note)) }
+        (out.new.items ≡ out.old.items ++ fault_json source.now file.now word.now error.now) }
 {
-    push_head(out, file, word, error)?;
-    push_span(out, places, error.span)?;
-    push_note(out, places, note)?;
+    push_head(out, source, file, word, error)?;
+    push_span(out, source.places(), error.span)?;
+    push_note(out, source.places(), note_of(source, error))?;
     out.extend_from_slice(b"}\n")
 }

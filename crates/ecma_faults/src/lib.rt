@@ -1,19 +1,15 @@
-//! Faults for people and for tools: a sentence for each kind, where it stands, and the lines that are printed.
+//! Faults as they are printed: for people with the line and carets under what is wrong, for tools as JSON.
 #![tactic(auto)]
 
 mod excerpt;
 mod json;
-mod messages;
-mod note;
 mod place;
 mod room;
-mod sentences;
 mod shown;
 mod text;
 
+pub use ecma_outline::Source;
+pub use ecma_sentences::{Note, message, note_of, sentence};
 pub use json::push_fault as push_json;
-pub use messages::message;
-pub use note::{Note, note_of};
-pub use sentences::sentence;
 pub use shown::push_name;
 pub use text::push_fault as push_text;

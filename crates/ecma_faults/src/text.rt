@@ -1,29 +1,29 @@
 //! Faults as text: a line with the place and a sentence, the line of the text, and carets under what is wrong.
 
-ghost use Rattle.std.specs.Prelude.{◌≡◌, ◌++◌, ◌<◌, ◌^◌, IfOk, OnOk, length, codes};
-ghost use Rattle.swc_ecma_parser_error.specs.Kind.{kind_of, name_of};
-ghost use Rattle.ecma_faults.specs.Note.{noted};
+ghost use Rattle.std.specs.Prelude.{◌≡◌, ◌++◌, ◌<◌, ◌^◌, OnOk, length};
+ghost use Rattle.ecma_sentences.specs.Note.{noted};
 ghost use Rattle.ecma_faults.specs.Text.{fault_text, note_text, place_text, spot_text, told_text};
 
 use crate::excerpt::push_excerpt;
-use crate::messages::message;
-use crate::note::Note;
+use crate::place::column_in;
 use crate::shown::push_name;
 use ecma_estree_text::{Places, Spot, push_count};
+use ecma_outline::Source;
+use ecma_sentences::{Note, message, note_of};
 use std::alloc::AllocError;
 use swc_ecma_parser_common::Span;
-use swc_ecma_parser_error::{Error, SyntaxError};
+use swc_ecma_parser_error::Error;
 
-/// Writes a file and a place of it, with the column counted from 1: `FILE:LINE:COLUMN: `.
-fn push_spot(out: &mut Vec<u8>, file: &str, spot: Spot) -> Result<(), AllocError>
+/// Writes a file and a place of it, with the column counted from 1: `FILE:LINE:COLUMN: `. A byte order mark is no column.
+fn push_spot(out: &mut Vec<u8>, file: &str, text: &str, spot: Spot) -> Result<(), AllocError>
     requires { spot.column < 2 ^ 34 }
-    ensures { OnOk result (out.new.items ≡ out.old.items ++ spot_text file.now spot) }
+    ensures { OnOk result (out.new.items ≡ out.old.items ++ spot_text file.now text.now spot) }
 {
     push_name(out, file)?;
     out.extend_from_slice(b":")?;
     push_count(out, spot.line)?;
     out.extend_from_slice(b":")?;
-    push_count(out, spot.column + 1)?;
+    push_count(out, column_in(text, spot) + 1)?;
     out.extend_from_slice(b": ")
 }
 
@@ -40,7 +40,7 @@ fn push_place(
         (out.new.items ≡ out.old.items ++ place_text places.now file.now position) }
 {
     match places.spot(position) {
-        Some(spot) => push_spot(out, file, spot),
+        Some(spot) => push_spot(out, file, places.text(), spot),
         None => Ok(()),
     }
 }
@@ -68,20 +68,6 @@ fn push_told(
     push_excerpt(out, places, span.lo.0 as usize, span.hi.0 as usize)
 }
 
-/// The word and the kind of a fault.
-fn head(out: &Vec<u8>, word: &str, kind: &SyntaxError) -> Result<Vec<u8>, AllocError>
-    ensures { IfOk result
-        (λ head. head.items ≡ word.now
-        ++ (codes " [" ++ (name_of (kind_of kind.now) ++ codes "]"))) }
-{
-    let mut head = Vec::new(*out.allocator());
-    head.extend_from_slice(word.as_bytes())?;
-    head.extend_from_slice(b" [")?;
-    head.extend_from_slice(kind.name().as_bytes())?;
-    head.extend_from_slice(b"]")?;
-    Ok(head)
-}
-
 /// Writes another place that a fault speaks of.
 fn push_note(
     out: &mut Vec<u8>,
@@ -99,31 +85,27 @@ fn push_note(
     }
 }
 
-/// Writes a fault of a file: `FILE:LINE:COLUMN: WORD [KIND]: sentence`, the line of the text, and carets; and the same of another place that
-/// it speaks of, which `note_of` tells.
+/// Writes a fault of a file: `FILE:LINE:COLUMN: WORD: sentence`, the line of the text, and carets; and the same of another place that it speaks of.
 #[tactic(auto, unfolding(crate::specs::Text::fault_text))]
 pub fn push_fault(
     out: &mut Vec<u8>,
     file: &str,
-    places: &Places<'_>,
+    source: &Source<'_>,
     word: &str,
     error: &Error,
-    note: Option<Note>,
 ) -> Result<(), AllocError>
-    requires { length places.now.text < 2 ^ 32 }
+    requires { length source.now.text < 2 ^ 32 }
     ensures { OnOk result
-        (out.new.items ≡ out.old.items
-        ++ fault_text places.now file.now word.now error.now (noted note)) }
+        (out.new.items ≡ out.old.items ++ fault_text source.now file.now word.now error.now) }
 {
-    let head = head(out, word, &error.kind)?;
-    let said = message(*out.allocator(), &error.kind)?;
+    let said = message(*out.allocator(), source, error)?;
     push_told(
         out,
         file,
-        places,
+        source.places(),
         error.span,
-        head.as_slice(),
+        word.as_bytes(),
         said.as_str(),
     )?;
-    push_note(out, file, places, note)
+    push_note(out, file, source.places(), note_of(source, error))
 }

@@ -5,4 +5,4 @@ use Rattle.ecma_answers.specs.Listed.{next_text}
 use Rattle.ecma_answers.proofs.faults.push_rest.Given as goal
 
 abbrev pub invariant-loop-fault : goal.invariant-loop-fault
-invariant-loop-fault l = l.out.items ≡ l.initial.out.items ++ flat_map (next_text l.places (codes "fault")) (take l.fault-index l.rest)
+invariant-loop-fault l = l.out.items ≡ l.initial.out.items ++ flat_map (next_text l.source (codes "fault")) (take l.fault-index l.rest)

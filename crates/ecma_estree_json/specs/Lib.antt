@@ -1,0 +1,6 @@
+pub mod Estree
+pub mod Json
+pub mod Law
+pub mod Made
+pub mod Parts
+pub mod Reading

@@ -1,0 +1,4 @@
+pub mod Bytes
+pub mod Outline
+pub mod Piece
+pub mod Source

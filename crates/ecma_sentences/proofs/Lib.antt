@@ -1,0 +1,2 @@
+mod Payloads
+mod Said

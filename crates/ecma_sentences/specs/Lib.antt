@@ -1,0 +1,5 @@
+pub mod Look
+pub mod Message
+pub mod Note
+pub mod Payload
+pub mod Sentence

@@ -1,0 +1,5 @@
+pub mod Decided
+pub mod Looked
+pub mod Number
+pub mod Situation
+pub mod Texts

@@ -1,0 +1,130 @@
+-- What stands at the place of a fault, beyond its kind, and what is said there: `~` stands for the token that was found, `%` for the one that was
+-- expected, `^` for the one before and `$` for the one behind. docs/MESSAGES.md is printed from this table.
+use Rattle.std.specs.Prelude.{ℕ, List, [], codes}
+use Rattle.ecma_situations.specs.declared.situation.Situation.{Situation}
+use Rattle.ecma_situations.specs.declared.situation.Situation.TheVariants as situation
+use Rattle.ecma_situations.specs.declared.situation.Beside.{Beside}
+use Rattle.ecma_situations.specs.declared.situation.Beside.TheVariants as places
+
+abbrev pub words : Situation → List ℕ
+words situation.Kind = codes ""
+words situation.Expected = codes "expected `%`, found ~"
+words situation.ExpectedBehind = codes "expected `%` behind `^`, found ~"
+words situation.CommaOrParenthesis = codes "expected `,` or `)`, found ~"
+words situation.CommaOrBracket = codes "expected `,` or `]`, found ~"
+words situation.CommaOrBrace = codes "expected `,` or `}`, found ~"
+words situation.ClosingParenthesis = codes "expected `)`, found ~"
+words situation.ClosingBracket = codes "expected `]`, found ~"
+words situation.ColonOrComma = codes "expected `:`, `,` or `}` behind `^`, found ~"
+words situation.KeyAlone = codes "expected `:` and a value behind the key `^`, found ~"
+words situation.CaseOrBrace = codes "expected `case`, `default` or `}`, found ~"
+words situation.BlockNotClosed = codes "the text ends inside of a block: expected `}`"
+words situation.End = codes "the text ends in the midst of a statement"
+words situation.ExportWhat = codes "expected a declaration, `default`, `{` or `*` behind `export`, found ~"
+words situation.CatchWhat = codes "expected `(` or `{` behind `catch`, found ~"
+words situation.ModuleName = codes "expected the name of a module as a string, found ~"
+words situation.Expression = codes "expected an expression, found ~"
+words situation.ExpressionBehind = codes "expected an expression behind `^`, found ~"
+words situation.EmptyParentheses = codes "an expression is missing: the parentheses before this are empty"
+words situation.Equals = codes "expected an expression, found `=`; a comparison is written `==` or `===`"
+words situation.Name = codes "expected a name, found ~"
+words situation.NameBehind = codes "expected a name behind `^`, found ~"
+words situation.ReservedName = codes "expected a name, found the reserved word ~"
+words situation.FunctionName = codes "expected a name behind `function`, found ~"
+words situation.ClassName = codes "expected a name behind `class`, found ~"
+words situation.MemberBehind = codes "expected `(`, `=`, `;` or a line break behind the name `^`, found ~"
+words situation.MethodFunction = codes "a method is written without `function`"
+words situation.FieldKeyword = codes "a field is written without `^`"
+words situation.ClassComma = codes "members of a class have no `,` between them"
+words situation.StatementBehind = codes "expected an operator, `;` or a line break behind `^`, found ~"
+words situation.VariableBehind = codes "expected `=`, `,`, `;` or a line break behind `^`, found ~"
+words situation.ArrowExpected = codes "expected `=>` behind `()`, found ~"
+words situation.ArrowMissing = codes "expected `;` or a line break, found `{`; an arrow function has `=>` before it"
+words situation.BodyAlone = codes "expected `;` or a line break, found `{`; a function has `function` before its name, and a method stands in a class alone"
+words situation.DeclarationAlone = codes "a declaration cannot stand here by itself; put it in braces"
+words situation.LoneDeclaration = codes "a declaration cannot stand here by itself; put it in braces"
+words situation.BlockNoObject = codes "unexpected `:`: the braces around it are a block and no object; put an object in parentheses"
+words situation.JsonText = codes "unexpected `:`: this looks like JSON, but in a program the braces around it are a block; put an object in parentheses"
+words situation.SemicolonBehind = codes "expected `;` or a line break behind `^`, found ~"
+words situation.MethodArrow = codes "expected `{`, found `=>`: only a function without `function` and without a name has `=>`"
+words situation.AssignBlock = codes "unexpected `=`: the braces before it are a block; put an assignment to a pattern in parentheses"
+words situation.ElseCondition = codes "`else` has no condition; write `else if`"
+words situation.ElseAlone = codes "`else` without `if`: no `if` statement ends just before it"
+words situation.CaseAlone = codes "~ stands outside of `switch`"
+words situation.CatchAlone = codes "~ has no `try` before it"
+words situation.CatchMissing = codes "expected `catch` or `finally` behind the block of this `try`"
+words situation.YieldOutside = codes "`yield` stands outside of a generator; write `function*`"
+words situation.ArrowAlone = codes "unexpected `=>`: no parameters of an arrow function end just before it, on its line"
+words situation.StrayCloser = codes "unexpected ~: no bracket is open that it would close"
+words situation.WrongCloser = codes "unexpected ~: the bracket that is open is another"
+words situation.RestParameter = codes "a rest parameter must be the last one"
+words situation.RestElement = codes "a rest element must be the last one"
+words situation.RestDefault = codes "a rest parameter has no default value"
+words situation.ForHead = codes "expected `;`, found ~: the head of this `for` has two `;`"
+words situation.ForWhat = codes "expected `;`, `of` or `in` behind `^`, found ~"
+words situation.ForOf = codes "expected `)`, found ~: one expression stands behind `of`; put more in parentheses"
+words situation.LabelOfBreak = codes "no label `$` stands around this `break` (ECMA-262, 8.3.2)"
+words situation.LabelOfContinue = codes "no label `$` stands around this `continue` (ECMA-262, 8.3.3)"
+words situation.ImportAlone = codes "~ stands outside of a module; read this text as a module"
+words situation.ImportInBlock = codes "~ stands at the top level of a module alone"
+words situation.Modifier = codes "`^` is no modifier of JavaScript"
+words situation.TypeScript = codes "this looks like TypeScript, which is not read"
+words situation.Jsx = codes "this looks like JSX, which is not read"
+words situation.Html = codes "this looks like HTML or XML, which is not read"
+words situation.OptionalChain = codes "optional chains such as `a?.b` are not read"
+words situation.RegularExpression = codes "regular expressions are not read"
+words situation.Template = codes "template literals are not read"
+words situation.NameEscape = codes "escapes in names are not read"
+words situation.ImportAttributes = codes "import attributes are not read unless they are enabled"
+words situation.PrivateIn = codes "`#a in b` is not read"
+words situation.NewTarget = codes "`new.target` is not read"
+words situation.Decorator = codes "decorators are not read unless they are enabled"
+words situation.Shebang = codes "`#!` is read only at the start of the text"
+words situation.Hash = codes "`#` begins no statement; a comment begins with `//`"
+words situation.WordAnd = codes "`and` is no operator; write `&&`"
+words situation.WordOr = codes "`or` is no operator; write `||`"
+words situation.WordNot = codes "`not` is no operator; write `!`"
+words situation.NotEqual = codes "`<>` is no operator; write `!==`"
+words situation.AtMost = codes "`=<` is no operator; write `<=`"
+words situation.ThinArrow = codes "`->` is no operator; write `=>` before the body of a function, `.` before a member"
+words situation.FunctionWord = codes "`^` declares no function; write `function` or `=>`"
+words situation.TypeWord = codes "`^` declares no variable; write `let`, `const` or `var`"
+words situation.ElseIf = codes "this is no statement of JavaScript; write `else if`"
+words situation.ForEach = codes "`foreach` is no statement; write `for (.. of ..)`"
+words situation.SmartQuote = codes "this is no quotation mark of JavaScript; use `\"`"
+words situation.SmartApostrophe = codes "this is no quotation mark of JavaScript; use `'`"
+words situation.Dash = codes "this is no minus of JavaScript; use `-`"
+words situation.Invisible = codes "this character is invisible; take it away"
+words situation.Character = codes "no token begins with ~"
+words situation.NameBehindNumber = codes "a name cannot follow a number directly"
+words situation.OldOctal = codes "old octal numbers such as `010` are not read; write `0o10`"
+words situation.Separator = codes "`_` in a number stands between two digits alone, and once"
+words situation.Digits = codes "digits are missing behind `0x`, `0o` or `0b`, or one is too great"
+words situation.Exponent = codes "digits are missing behind the `e` of this number"
+words situation.NumberForm = codes "a name cannot follow the digits of a number, and `_` stands between two of them alone"
+words situation.BigIntNumber = codes "a BigInt has neither a fraction nor an exponent"
+
+-- where else to look in a situation
+abbrev pub beside : Situation → Beside
+beside situation.Kind = places.Kind
+beside situation.Expected = places.Opener
+beside situation.CommaOrParenthesis = places.Opener
+beside situation.CommaOrBracket = places.Opener
+beside situation.CommaOrBrace = places.Opener
+beside situation.ClosingParenthesis = places.Opener
+beside situation.ClosingBracket = places.Opener
+beside situation.ColonOrComma = places.Opener
+beside situation.CaseOrBrace = places.Opener
+beside situation.BlockNotClosed = places.Unclosed
+beside situation.End = places.Opener
+beside situation.EmptyParentheses = places.Pair
+beside situation.StatementBehind = places.Kind
+beside situation.LoneDeclaration = places.Declaration
+beside situation.BlockNoObject = places.Block
+beside situation.JsonText = places.Block
+beside situation.CatchMissing = places.End
+beside situation.StrayCloser = places.Misfit
+beside situation.WrongCloser = places.Opener
+beside situation.ForHead = places.Opener
+beside situation.ForOf = places.Opener
+beside _ = places.Nothing

@@ -1,0 +1,15 @@
+//! Which situation a fault is in, by the texts around its place, and the words for it.
+#![tactic(auto)]
+
+mod decided;
+mod look;
+mod numbers;
+mod situation;
+mod texts;
+
+pub use decided::{
+    character, declaration_end, expected, module_item, name, statement_end, unexpected,
+};
+pub use look::Look;
+pub use numbers::number;
+pub use situation::{Beside, Situation, beside, words};

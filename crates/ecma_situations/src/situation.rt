@@ -1,0 +1,400 @@
+//! What stands at the place of a fault, beyond its kind, and the sentence for it.
+
+ghost use Rattle.std.specs.Prelude.{◌≡◌};
+ghost use Rattle.ecma_situations.specs.Situation as spec;
+
+/// What stands at the place of a fault.
+#[derive(Clone, Copy, Debug, PartialEq, Eq)]
+pub enum Situation {
+    /// What its kind says.
+    Kind,
+    /// A token is missing.
+    Expected,
+    /// A token is missing behind another.
+    ExpectedBehind,
+    /// Between what stands in parentheses.
+    CommaOrParenthesis,
+    /// Between what stands in square brackets.
+    CommaOrBracket,
+    /// Between what stands in braces.
+    CommaOrBrace,
+    /// At a `;` in parentheses.
+    ClosingParenthesis,
+    /// At a `;` in square brackets.
+    ClosingBracket,
+    /// Behind a key of an object.
+    ColonOrComma,
+    /// Behind a key that is a string or a number.
+    KeyAlone,
+    /// Between the clauses of a `switch`.
+    CaseOrBrace,
+    /// At the end, inside of a block.
+    BlockNotClosed,
+    /// At the end.
+    End,
+    /// Behind `export`.
+    ExportWhat,
+    /// Behind `catch`.
+    CatchWhat,
+    /// Where a module is named.
+    ModuleName,
+    /// Where an expression must stand.
+    Expression,
+    /// Where one must stand behind another token.
+    ExpressionBehind,
+    /// Behind `()`.
+    EmptyParentheses,
+    /// At a second `=`.
+    Equals,
+    /// Where a name must stand.
+    Name,
+    /// Where one must stand behind another token.
+    NameBehind,
+    /// At a word that is no name.
+    ReservedName,
+    /// Behind `function`.
+    FunctionName,
+    /// Behind `class`.
+    ClassName,
+    /// Behind the name of a member of a class.
+    MemberBehind,
+    /// At `function` in a class.
+    MethodFunction,
+    /// At `let`, `const` or `var` in a class.
+    FieldKeyword,
+    /// Between members of a class.
+    ClassComma,
+    /// Where a statement must end.
+    StatementBehind,
+    /// Behind a variable that is declared.
+    VariableBehind,
+    /// Behind `()`.
+    ArrowExpected,
+    /// At `{` behind parentheses.
+    ArrowMissing,
+    /// At `{` behind a call.
+    BodyAlone,
+    /// At a declaration where none can stand.
+    DeclarationAlone,
+    /// Behind `let` where no declaration can stand.
+    LoneDeclaration,
+    /// At `:` in a block.
+    BlockNoObject,
+    /// At `:` behind a string in a block.
+    JsonText,
+    /// Where a statement must end with `;`.
+    SemicolonBehind,
+    /// At `=>` before a body.
+    MethodArrow,
+    /// At `=` behind a block.
+    AssignBlock,
+    /// Behind `else (..)`.
+    ElseCondition,
+    /// At `else`.
+    ElseAlone,
+    /// At `case` or `default`.
+    CaseAlone,
+    /// At `catch` or `finally`.
+    CatchAlone,
+    /// Behind the block of `try`.
+    CatchMissing,
+    /// Behind `yield`.
+    YieldOutside,
+    /// At `=>`.
+    ArrowAlone,
+    /// At a closing bracket.
+    StrayCloser,
+    /// At a closing bracket of another kind.
+    WrongCloser,
+    /// Behind a rest parameter.
+    RestParameter,
+    /// Behind a rest in a pattern.
+    RestElement,
+    /// Behind a rest parameter.
+    RestDefault,
+    /// In the head of a `for`.
+    ForHead,
+    /// In the head of a `for`.
+    ForWhat,
+    /// In the head of a `for`.
+    ForOf,
+    /// At `break` with a label.
+    LabelOfBreak,
+    /// At `continue` with a label.
+    LabelOfContinue,
+    /// At `import` or `export`.
+    ImportAlone,
+    /// At `import` or `export` in brackets.
+    ImportInBlock,
+    /// At a word that other languages have before a declaration.
+    Modifier,
+    /// At what TypeScript has.
+    TypeScript,
+    /// At `<` before a name.
+    Jsx,
+    /// At `<!`.
+    Html,
+    /// At `?.`.
+    OptionalChain,
+    /// At `/`.
+    RegularExpression,
+    /// At a backquote.
+    Template,
+    /// At `\u` in a name.
+    NameEscape,
+    /// Behind the module of an import.
+    ImportAttributes,
+    /// At `#` in an expression.
+    PrivateIn,
+    /// Behind `new`.
+    NewTarget,
+    /// At `@`.
+    Decorator,
+    /// At `#!`.
+    Shebang,
+    /// At `#`.
+    Hash,
+    /// At `and`.
+    WordAnd,
+    /// At `or`.
+    WordOr,
+    /// Behind `not`.
+    WordNot,
+    /// At `<>`.
+    NotEqual,
+    /// At `=<`.
+    AtMost,
+    /// At `->`.
+    ThinArrow,
+    /// Behind `def` and the like.
+    FunctionWord,
+    /// Behind `int` and the like.
+    TypeWord,
+    /// Behind `elif` and the like.
+    ElseIf,
+    /// Behind `foreach`.
+    ForEach,
+    /// At a curly quotation mark.
+    SmartQuote,
+    /// At a curly apostrophe.
+    SmartApostrophe,
+    /// At a dash.
+    Dash,
+    /// At a character without a width.
+    Invisible,
+    /// At any other.
+    Character,
+    /// At a number.
+    NameBehindNumber,
+    /// At `0` before a digit.
+    OldOctal,
+    /// At `_` in a number.
+    Separator,
+    /// At `0x`, `0o` or `0b`.
+    Digits,
+    /// At `e` in a number.
+    Exponent,
+    /// At any other number.
+    NumberForm,
+    /// At a BigInt.
+    BigIntNumber,
+}
+
+/// The words for a situation, from a list of all.
+macro_rules! words_among {
+    ($of:expr, { $($situation:ident: $words:literal,)* }) => {
+        match $of {
+            $(Situation::$situation => $words,)*
+        }
+    };
+}
+
+/// The words for a situation.
+macro_rules! words {
+    ($of:expr) => {
+        words_among!($of, {
+            Kind: "",
+            Expected: "expected `%`, found ~",
+            ExpectedBehind: "expected `%` behind `^`, found ~",
+            CommaOrParenthesis: "expected `,` or `)`, found ~",
+            CommaOrBracket: "expected `,` or `]`, found ~",
+            CommaOrBrace: "expected `,` or `}`, found ~",
+            ClosingParenthesis: "expected `)`, found ~",
+            ClosingBracket: "expected `]`, found ~",
+            ColonOrComma: "expected `:`, `,` or `}` behind `^`, found ~",
+            KeyAlone: "expected `:` and a value behind the key `^`, found ~",
+            CaseOrBrace: "expected `case`, `default` or `}`, found ~",
+            BlockNotClosed: "the text ends inside of a block: expected `}`",
+            End: "the text ends in the midst of a statement",
+            ExportWhat: "expected a declaration, `default`, `{` or `*` behind `export`, found ~",
+            CatchWhat: "expected `(` or `{` behind `catch`, found ~",
+            ModuleName: "expected the name of a module as a string, found ~",
+            Expression: "expected an expression, found ~",
+            ExpressionBehind: "expected an expression behind `^`, found ~",
+            EmptyParentheses: "an expression is missing: the parentheses before this are empty",
+            Equals: "expected an expression, found `=`; a comparison is written `==` or `===`",
+            Name: "expected a name, found ~",
+            NameBehind: "expected a name behind `^`, found ~",
+            ReservedName: "expected a name, found the reserved word ~",
+            FunctionName: "expected a name behind `function`, found ~",
+            ClassName: "expected a name behind `class`, found ~",
+            MemberBehind: "expected `(`, `=`, `;` or a line break behind the name `^`, found ~",
+            MethodFunction: "a method is written without `function`",
+            FieldKeyword: "a field is written without `^`",
+            ClassComma: "members of a class have no `,` between them",
+            StatementBehind: "expected an operator, `;` or a line break behind `^`, found ~",
+            VariableBehind: "expected `=`, `,`, `;` or a line break behind `^`, found ~",
+            ArrowExpected: "expected `=>` behind `()`, found ~",
+            ArrowMissing: "expected `;` or a line break, found `{`; an arrow function has `=>` before it",
+            BodyAlone: "expected `;` or a line break, found `{`; a function has `function` before its name, and a method stands in a class alone",
+            DeclarationAlone: "a declaration cannot stand here by itself; put it in braces",
+            LoneDeclaration: "a declaration cannot stand here by itself; put it in braces",
+            BlockNoObject: "unexpected `:`: the braces around it are a block and no object; put an object in parentheses",
+            JsonText: "unexpected `:`: this looks like JSON, but in a program the braces around it are a block; put an object in parentheses",
+            SemicolonBehind: "expected `;` or a line break behind `^`, found ~",
+            MethodArrow: "expected `{`, found `=>`: only a function without `function` and without a name has `=>`",
+            AssignBlock: "unexpected `=`: the braces before it are a block; put an assignment to a pattern in parentheses",
+            ElseCondition: "`else` has no condition; write `else if`",
+            ElseAlone: "`else` without `if`: no `if` statement ends just before it",
+            CaseAlone: "~ stands outside of `switch`",
+            CatchAlone: "~ has no `try` before it",
+            CatchMissing: "expected `catch` or `finally` behind the block of this `try`",
+            YieldOutside: "`yield` stands outside of a generator; write `function*`",
+            ArrowAlone: "unexpected `=>`: no parameters of an arrow function end just before it, on its line",
+            StrayCloser: "unexpected ~: no bracket is open that it would close",
+            WrongCloser: "unexpected ~: the bracket that is open is another",
+            RestParameter: "a rest parameter must be the last one",
+            RestElement: "a rest element must be the last one",
+            RestDefault: "a rest parameter has no default value",
+            ForHead: "expected `;`, found ~: the head of this `for` has two `;`",
+            ForWhat: "expected `;`, `of` or `in` behind `^`, found ~",
+            ForOf: "expected `)`, found ~: one expression stands behind `of`; put more in parentheses",
+            LabelOfBreak: "no label `$` stands around this `break` (ECMA-262, 8.3.2)",
+            LabelOfContinue: "no label `$` stands around this `continue` (ECMA-262, 8.3.3)",
+            ImportAlone: "~ stands outside of a module; read this text as a module",
+            ImportInBlock: "~ stands at the top level of a module alone",
+            Modifier: "`^` is no modifier of JavaScript",
+            TypeScript: "this looks like TypeScript, which is not read",
+            Jsx: "this looks like JSX, which is not read",
+            Html: "this looks like HTML or XML, which is not read",
+            OptionalChain: "optional chains such as `a?.b` are not read",
+            RegularExpression: "regular expressions are not read",
+            Template: "template literals are not read",
+            NameEscape: "escapes in names are not read",
+            ImportAttributes: "import attributes are not read unless they are enabled",
+            PrivateIn: "`#a in b` is not read",
+            NewTarget: "`new.target` is not read",
+            Decorator: "decorators are not read unless they are enabled",
+            Shebang: "`#!` is read only at the start of the text",
+            Hash: "`#` begins no statement; a comment begins with `//`",
+            WordAnd: "`and` is no operator; write `&&`",
+            WordOr: "`or` is no operator; write `||`",
+            WordNot: "`not` is no operator; write `!`",
+            NotEqual: "`<>` is no operator; write `!==`",
+            AtMost: "`=<` is no operator; write `<=`",
+            ThinArrow: "`->` is no operator; write `=>` before the body of a function, `.` before a member",
+            FunctionWord: "`^` declares no function; write `function` or `=>`",
+            TypeWord: "`^` declares no variable; write `let`, `const` or `var`",
+            ElseIf: "this is no statement of JavaScript; write `else if`",
+            ForEach: "`foreach` is no statement; write `for (.. of ..)`",
+            SmartQuote: "this is no quotation mark of JavaScript; use `\"`",
+            SmartApostrophe: "this is no quotation mark of JavaScript; use `'`",
+            Dash: "this is no minus of JavaScript; use `-`",
+            Invisible: "this character is invisible; take it away",
+            Character: "no token begins with ~",
+            NameBehindNumber: "a name cannot follow a number directly",
+            OldOctal: "old octal numbers such as `010` are not read; write `0o10`",
+            Separator: "`_` in a number stands between two digits alone, and once",
+            Digits: "digits are missing behind `0x`, `0o` or `0b`, or one is too great",
+            Exponent: "digits are missing behind the `e` of this number",
+            NumberForm: "a name cannot follow the digits of a number, and `_` stands between two of them alone",
+            BigIntNumber: "a BigInt has neither a fraction nor an exponent",
+        })
+    };
+}
+
+/// What is said in a situation: `~` stands for the token that was found, `%` for the one that was expected, `^` for the one before and `$` for the
+/// one behind. Nothing is said of a kind by itself.
+pub fn words(situation: Situation) -> &'static str
+    ensures { result.now ≡ spec.words situation }
+{
+    words!(situation)
+}
+
+/// Where else to look.
+#[derive(Clone, Copy, Debug, PartialEq, Eq)]
+pub enum Beside {
+    /// Nowhere.
+    Nothing,
+    /// Where the fault says it.
+    Kind,
+    /// At the innermost bracket that is open.
+    Opener,
+    /// At it, which begins a block.
+    Block,
+    /// At a block that does not end.
+    Unclosed,
+    /// At a bracket that is closed at another indentation.
+    Misfit,
+    /// At the word before.
+    Declaration,
+    /// At the end of a block before.
+    End,
+    /// At the two brackets before.
+    Pair,
+}
+
+/// Where else to look in a situation. For those of the list nowhere, and each other one has its arm.
+macro_rules! beside {
+    ($of:expr, [$($plain:ident)*], { $($situation:ident => $beside:ident,)* }) => {
+        match $of {
+            $(Situation::$plain => Beside::Nothing,)*
+            $(Situation::$situation => Beside::$beside,)*
+        }
+    };
+}
+
+/// Where else to look in a situation.
+pub fn beside(situation: Situation) -> Beside
+    ensures { result ≡ spec.beside situation }
+{
+    beside!(
+        situation,
+        [
+            ExpectedBehind KeyAlone ExportWhat CatchWhat ModuleName Expression ExpressionBehind
+            Equals Name NameBehind ReservedName FunctionName ClassName MemberBehind
+            MethodFunction FieldKeyword ClassComma VariableBehind ArrowExpected ArrowMissing
+            BodyAlone DeclarationAlone SemicolonBehind MethodArrow AssignBlock ElseCondition
+            ElseAlone CaseAlone CatchAlone YieldOutside ArrowAlone RestParameter RestElement
+            RestDefault ForWhat LabelOfBreak LabelOfContinue ImportAlone ImportInBlock Modifier
+            TypeScript Jsx Html OptionalChain RegularExpression Template NameEscape
+            ImportAttributes PrivateIn NewTarget Decorator Shebang Hash WordAnd WordOr WordNot
+            NotEqual AtMost ThinArrow FunctionWord TypeWord ElseIf ForEach SmartQuote
+            SmartApostrophe Dash Invisible Character NameBehindNumber OldOctal Separator Digits
+            Exponent NumberForm BigIntNumber
+        ],
+        {
+            Kind => Kind,
+            Expected => Opener,
+            CommaOrParenthesis => Opener,
+            CommaOrBracket => Opener,
+            CommaOrBrace => Opener,
+            ClosingParenthesis => Opener,
+            ClosingBracket => Opener,
+            ColonOrComma => Opener,
+            CaseOrBrace => Opener,
+            BlockNotClosed => Unclosed,
+            End => Opener,
+            EmptyParentheses => Pair,
+            StatementBehind => Kind,
+            LoneDeclaration => Declaration,
+            BlockNoObject => Block,
+            JsonText => Block,
+            CatchMissing => End,
+            StrayCloser => Misfit,
+            WrongCloser => Opener,
+            ForHead => Opener,
+            ForOf => Opener,
+        }
+    )
+}

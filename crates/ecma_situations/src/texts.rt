@@ -1,0 +1,204 @@
+//! What kind of token a text is, by its words and its bytes.
+
+ghost use Rattle.std.specs.Prelude.{◌≡◌};
+ghost use Rattle.ecma_situations.specs.Texts as spec;
+
+use ecma_outline::{byte_at, is_word};
+
+/// A word that declares a variable in other languages.
+#[tactic(auto, unfolding(crate::specs::Texts::is_type_word))]
+pub(crate) fn is_type_word(word: &str) -> bool
+    ensures { result ≡ spec.is_type_word word.now }
+{
+    match word {
+        "int"
+        | "float"
+        | "double"
+        | "long"
+        | "short"
+        | "char"
+        | "byte"
+        | "bool"
+        | "boolean"
+        | "string"
+        | "String"
+        | "str"
+        | "auto"
+        | "val"
+        | "mut"
+        | "final"
+        | "dim"
+        | "my"
+        | "local"
+        | "unsigned" => true,
+        _ => false,
+    }
+}
+
+/// A word that declares a function in other languages.
+#[tactic(auto, unfolding(crate::specs::Texts::is_function_word))]
+pub(crate) fn is_function_word(word: &str) -> bool
+    ensures { result ≡ spec.is_function_word word.now }
+{
+    match word {
+        "def" | "fn" | "func" | "fun" | "sub" | "proc" | "procedure" | "defun" | "lambda" => true,
+        _ => false,
+    }
+}
+
+/// A word that begins a declaration of TypeScript.
+#[tactic(auto, unfolding(crate::specs::Texts::is_typed_head))]
+pub(crate) fn is_typed_head(word: &str) -> bool
+    ensures { result ≡ spec.is_typed_head word.now }
+{
+    match word {
+        "interface" | "type" | "namespace" | "module" | "declare" | "abstract" => true,
+        _ => false,
+    }
+}
+
+/// A modifier of TypeScript.
+#[tactic(auto, unfolding(crate::specs::Texts::is_modifier))]
+pub(crate) fn is_modifier(word: &str) -> bool
+    ensures { result ≡ spec.is_modifier word.now }
+{
+    match word {
+        "public" | "private" | "protected" | "readonly" | "override" | "abstract" | "declare" =>
+            true,
+        _ => false,
+    }
+}
+
+/// What other languages have for `else if`.
+#[tactic(auto, unfolding(crate::specs::Texts::is_else_if))]
+pub(crate) fn is_else_if(word: &str) -> bool
+    ensures { result ≡ spec.is_else_if word.now }
+{
+    match word {
+        "elif" | "elsif" | "elseif" => true,
+        _ => false,
+    }
+}
+
+/// A word that declares variables.
+#[tactic(auto, unfolding(crate::specs::Texts::is_declaring))]
+pub(crate) fn is_declaring(word: &str) -> bool
+    ensures { result ≡ spec.is_declaring word.now }
+{
+    match word {
+        "var" | "let" | "const" => true,
+        _ => false,
+    }
+}
+
+/// A bracket that closes.
+#[tactic(auto, unfolding(crate::specs::Texts::is_closer))]
+pub(crate) fn is_closer(word: &str) -> bool
+    ensures { result ≡ spec.is_closer word.now }
+{
+    match word {
+        ")" | "]" | "}" => true,
+        _ => false,
+    }
+}
+
+/// A byte of a text counted from its end, of which the last is 1; 0 where there is none.
+pub(crate) fn byte_from_end(text: &str, n: usize) -> u8
+    ensures { result ≡ spec.byte_from_end text.now n }
+{
+    if n <= text.len() {
+        byte_at(text, text.len() - n)
+    } else {
+        0
+    }
+}
+
+/// Whether a byte is a digit.
+pub(crate) fn is_digit(byte: u8) -> bool
+    ensures { result ≡ spec.is_digit byte }
+{
+    match byte {
+        b'0'..=b'9' => true,
+        _ => false,
+    }
+}
+
+/// Whether a text is a name or a word.
+pub(crate) fn is_name(text: &str) -> bool
+    ensures { result ≡ spec.is_name text.now }
+{
+    let first = byte_at(text, 0);
+    is_word(first) && !is_digit(first)
+}
+
+/// Whether a text is a string or a number.
+pub(crate) fn is_value(text: &str) -> bool
+    ensures { result ≡ spec.is_value text.now }
+{
+    let first = byte_at(text, 0);
+    is_digit(first) || first == b'"' || first == b'\''
+}
+
+/// Whether a text begins with `/`.
+pub(crate) fn is_slash(text: &str) -> bool
+    ensures { result ≡ spec.is_slash text.now }
+{
+    byte_at(text, 0) == b'/'
+}
+
+/// The third byte of a character from U+2000 to U+203F, or 0.
+fn punctuation(text: &str) -> u8
+    ensures { result ≡ spec.punctuation text.now }
+{
+    if byte_at(text, 0) == 226 && byte_at(text, 1) == 128 {
+        byte_at(text, 2)
+    } else {
+        0
+    }
+}
+
+/// The second byte of a character from U+0080 to U+00BF, or 0.
+fn latin(text: &str) -> u8
+    ensures { result ≡ spec.latin text.now }
+{
+    if byte_at(text, 0) == 194 {
+        byte_at(text, 1)
+    } else {
+        0
+    }
+}
+
+/// A double quotation mark of prose: U+201C to U+201E, U+00AB and U+00BB.
+pub(crate) fn is_smart_quote(text: &str) -> bool
+    ensures { result ≡ spec.is_smart_quote text.now }
+{
+    let mark = punctuation(text);
+    let sign = latin(text);
+    mark == 156 || mark == 157 || mark == 158 || sign == 171 || sign == 187
+}
+
+/// A single quotation mark of prose: U+2018 to U+201A, U+2032 and U+00B4.
+pub(crate) fn is_smart_apostrophe(text: &str) -> bool
+    ensures { result ≡ spec.is_smart_apostrophe text.now }
+{
+    let mark = punctuation(text);
+    mark == 152 || mark == 153 || mark == 154 || mark == 178 || latin(text) == 180
+}
+
+/// A dash or a minus of prose: U+2010 to U+2015 and U+2212.
+pub(crate) fn is_dash(text: &str) -> bool
+    ensures { result ≡ spec.is_dash text.now }
+{
+    let mark = punctuation(text);
+    let is_minus = byte_at(text, 0) == 226 && byte_at(text, 1) == 136 && byte_at(text, 2) == 146;
+    is_minus || 144 <= mark && mark <= 149
+}
+
+/// A character without a width: U+200B to U+200F, U+2060 and U+00AD.
+pub(crate) fn is_invisible(text: &str) -> bool
+    ensures { result ≡ spec.is_invisible text.now }
+{
+    let mark = punctuation(text);
+    let is_joiner = byte_at(text, 0) == 226 && byte_at(text, 1) == 129 && byte_at(text, 2) == 160;
+    is_joiner || 139 <= mark && mark <= 143 || latin(text) == 173
+}
