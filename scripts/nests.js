@@ -108,7 +108,7 @@ function stackOf(module, text, limit) {
   it.ecma_reset();
   const [at, from, to] = [it.ecma_room(options + 8n), it.ecma_room(BigInt(text.length + 1)), it.ecma_room(room)];
   new Uint8Array(it.memory.buffer).set(text, Number(from));
-  new Uint32Array(it.memory.buffer, Number(at), 3).set([0, limit, 0]);
+  new Uint32Array(it.memory.buffer, Number(at), 4).set([0, limit, 0, 0]);
   it.ecma_parse(from, BigInt(text.length), at, to, room, at + options);
   const words = new Uint32Array(it.memory.buffer, 0, STACK / 4);
   let untouched = 0;
