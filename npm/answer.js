@@ -19,6 +19,9 @@ const EXTRAS = { locations: 0x100, ranges: 0x200, comments: 0x400, tokens: 0x800
 const DEFAULT_LIMIT = 300;
 const MAX_LIMIT = 1000;
 
+/** The greatest number of 32 bits. */
+const MOST = 2 ** 32 - 1;
+
 /** The first buffer has so many bytes for each byte of text, up to the greatest; the answer says what is needed beyond. */
 const GUESS = { bytes: 16, extras: 32, least: 4096, most: 256 * 1024 * 1024 };
 
@@ -79,14 +82,18 @@ function bitsOf(flags, rest) {
   return bits;
 }
 
-/** The three numbers that the parser takes. */
+/** How many faults of a text are told. */
+const DEFAULT_FAULTS = 1000;
+
+/** The numbers that the parser takes. */
 function numbersOf(options = {}) {
   if (typeof options !== 'object' || options === null) throw new TypeError(`options are an object, not ${shown(options)}`);
-  const { sourceType = 'program', limit = DEFAULT_LIMIT, flags = [], ...rest } = options;
+  const { sourceType = 'program', limit = DEFAULT_LIMIT, maxFaults = DEFAULT_FAULTS, flags = [], ...rest } = options;
   if (!Object.hasOwn(GOALS, sourceType)) throw new TypeError(`sourceType is 'script', 'module' or 'program', not ${shown(sourceType)}`);
   if (!Number.isInteger(limit) || limit < 0 || limit > MAX_LIMIT) throw new RangeError(`limit is 0 to ${MAX_LIMIT}, not ${shown(limit)}`);
+  if (!Number.isInteger(maxFaults) || maxFaults < 0 || maxFaults > MOST) throw new RangeError(`maxFaults is 0 to ${MOST}, not ${shown(maxFaults)}`);
   if (!Array.isArray(flags)) throw new TypeError(`flags are a list of names, not ${shown(flags)}`);
-  return { goal: GOALS[sourceType], limit, bits: bitsOf(flags, rest) };
+  return { goal: GOALS[sourceType], limit, bits: bitsOf(flags, rest), most: maxFaults };
 }
 
 /** How many bytes of answer are guessed, so that one call mostly does. */
@@ -139,15 +146,16 @@ function failureOf(status) {
 function resultOf(status, json) {
   const failure = failureOf(status);
   if (failure) throw failure;
-  const { tree, faults: told } = JSON.parse(json);
+  const { tree, faults: told, more } = JSON.parse(json);
   const faults = told.map(faultOf);
   if (tree === null) throw errorOf(faults.pop(), faults);
   if (json.includes('"bigint":"')) restore(tree);
-  return { tree, faults };
+  return more ? { tree, faults, more } : { tree, faults };
 }
 
 /** What acorn's options ask for besides, done on the finished tree. */
-function finished({ tree, faults }, options = {}) {
+function finished(result, options = {}) {
+  const { tree, faults } = result;
   const { sourceFile, directSourceFile, onComment, onToken, throwFaults } = options;
   if (throwFaults && faults.length > 0) throw errorOf(faults[0], faults);
   if (sourceFile || directSourceFile) {
@@ -158,7 +166,7 @@ function finished({ tree, faults }, options = {}) {
   }
   hand(tree, 'comments', onComment, options, it => [it.type === 'Block', it.value, it.start, it.end, it.loc?.start, it.loc?.end]);
   hand(tree, 'tokens', onToken, options, it => [it]);
-  return { tree, faults };
+  return result;
 }
 
 /** Hands out comments or tokens to a list or a function, as acorn does. */

@@ -40,14 +40,14 @@ function host(module, guessOf, memory, decode = bytes => new TextDecoder().decod
   const room = (it, bytes) => Number(BigInt.asUintN(32, it.ecma_room(BigInt(bytes))));
 
   /** One call, in a buffer of so many bytes. */
-  function called(it, text, { goal, limit, bits }, bytes) {
+  function called(it, text, { goal, limit, bits, most = 0 }, bytes) {
     it.ecma_reset();
     const at = room(it, OPTIONS + 8);
     const from = room(it, text.length + 1);
     const to = room(it, bytes);
     if (at === 0 || from === 0 || to === 0) return { status: STATUS_OUT_OF_MEMORY, needed: 0, bytes: new Uint8Array(0) };
     new Uint8Array(it.memory.buffer).set(text, from);
-    new Uint32Array(it.memory.buffer, at, 4).set([goal, limit, bits, 0]);
+    new Uint32Array(it.memory.buffer, at, 4).set([goal, limit, bits, most]);
     const addresses = [from, text.length, at, to, bytes, at + OPTIONS].map(BigInt);
     const status = it.ecma_parse(...addresses);
     const needed = Number(new BigUint64Array(it.memory.buffer, at + OPTIONS, 1)[0]);

@@ -17,6 +17,8 @@ export interface Options {
   sourceType?: 'script' | 'module' | 'program';
   /** How many levels deep the text may nest: 300 by default, which fit Node's stack; 200 fit a worker's in a browser; 1,000 at most. */
   limit?: number;
+  /** How many faults are told at most: 1,000 by default, and 0 for all. Why there is no tree is told in any case. */
+  maxFaults?: number;
   flags?: Flag[];
   /** Whether nodes have `loc`: lines from 1, columns from 0. */
   locations?: boolean;
@@ -95,14 +97,14 @@ export class StackOverflowError extends RangeError {}
 
 /**
  * The tree of a text as ESTree, in acorn's form, and the faults beside it: none where the text is a script, a module or a program of the
- * language.
+ * language. Where there are more faults than `maxFaults`, `more` says how many.
  *
  * @throws {Refusal} where there is no tree, or, with `throwFaults`, where there is a fault
  * @throws {StackOverflowError} where the engine's stack ends
- * @throws {RangeError} where memory runs out, the text has more than 2^32 - 1 bytes, or `limit` is out of range
+ * @throws {RangeError} where memory runs out, the text has more than 2^32 - 1 bytes, or `limit` or `maxFaults` is out of range
  * @throws {TypeError} where the text is no string, or an option is not known or has a value that is not taken
  */
-export function parse(text: string, options?: Options): { tree: Program; faults: Fault[] };
+export function parse(text: string, options?: Options): { tree: Program; faults: Fault[]; more?: number };
 
 /** The fields of each kind of node that hold nodes, in the order of the text. */
 export const visitorKeys: Record<Node['type'], string[]>;

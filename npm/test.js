@@ -199,9 +199,11 @@ test('the command reports faults, trees and what it cannot read, each with its s
   assert.strictEqual(tree.status, 0);
   assert.ok(tree.stdout.startsWith('{"type":"Program","start":0,'));
   assert.strictEqual(run('break; break; break', '--script', '--max-faults', '1').stdout.match(/fault:/g).length, 1);
-  for (const words of [['--format', 'no'], ['--limit', 'x'], ['--enable', 'no'], ['--script', '--module'], ['--no'], ['nowhere/nofile.js']]) {
+  for (const words of [['--format', 'no'], ['--limit', 'x'], ['--enable', 'no'], ['--script', '--module'], ['--no']]) {
     const failed = run('', ...words);
     assert.strictEqual(failed.status, 3);
     assert.ok(failed.stderr.startsWith('pofashere: '));
   }
+  const unread = run('', 'nowhere/nofile.js');
+  assert.deepStrictEqual([unread.status, unread.stderr], [3, 'nowhere/nofile.js: there is no such file\n']);
 });

@@ -11,7 +11,7 @@ const { version } = require('../package.json');
 const parserOf = require('../parser.js');
 const { faultText, plain } = require('../text.js');
 
-const { answer, StackOverflowError } = parserOf(moduleOf, decode);
+const { answer } = parserOf(moduleOf, decode);
 
 const USAGE = `usage: pofashere [--script|--module|--program] [--limit N] [--enable FLAG].. [--format text|json|estree]
                  [--locations] [--ranges] [--comments] [--tokens] [--max-faults N] [FILE..]`;
@@ -48,12 +48,12 @@ function asked(words) {
   const flags = (values.enable ?? []).flatMap(it => it.split(',')).map(camel);
   for (const flag of flags) if (!Object.hasOwn(FLAGS, flag)) throw new Usage(`--enable takes no '${flag}'`);
   const { locations, ranges, comments, tokens } = values;
-  const options = { sourceType: goals[0] ?? 'program', flags, locations, ranges, comments, tokens };
+  const maxFaults = number(values['max-faults'], 'max-faults', 2 ** 32 - 1);
+  const options = { sourceType: goals[0] ?? 'program', maxFaults, flags, locations, ranges, comments, tokens };
   if (values.limit !== undefined) options.limit = number(values.limit, 'limit', 1000);
-  const most = number(values['max-faults'], 'max-faults', Infinity) || Infinity;
   const files = positionals.length > 0 ? positionals : ['-'];
   if (values.format === 'estree' && files.length > 1) throw new Usage('--format estree takes one file');
-  return { ...values, options, most, files };
+  return { ...values, options, files };
 }
 
 /** The text of a file, or of standard input. */
@@ -71,9 +71,10 @@ function checked(text, options) {
   const failure = failureOf(status);
   if (failure) throw failure;
   const end = json.lastIndexOf(FAULTS);
-  const faults = JSON.parse(json.slice(end + FAULTS.length - 1, -1)).map(faultOf);
-  if (status > STATUS.faulty) return { tree: null, refusal: faults.pop(), faults, status: STATUS.refused };
-  return { tree: json.slice(TREE.length, end), faults, status };
+  const { faults: told, more = 0 } = JSON.parse(`{${json.slice(end + 1)}`);
+  const faults = told.map(faultOf);
+  if (status > STATUS.faulty) return { tree: null, refusal: faults.pop(), faults, more, status: STATUS.refused };
+  return { tree: json.slice(TREE.length, end), faults, more, status };
 }
 
 /** A fault as an object for programs. */
@@ -88,11 +89,10 @@ function faultJson(file, { kind, message, start, end, byteStart, byteEnd, loc, n
 }
 
 /** What is told of a file, each by the function of the format. */
-function* lines(file, text, { faults, refusal }, { most, format }) {
+function* lines(file, text, { faults, more, refusal }, format) {
   const one = format === 'json' ? (fault, word) => faultJson(file, fault, word) : (fault, word) => faultText(file, text, fault, word);
-  for (const fault of faults.slice(0, most)) yield one(fault, 'fault');
-  const more = faults.length - most;
-  if (more > 0) yield format === 'json' ? JSON.stringify({ file, severity: 'more', count: more }) + '\n' : `${plain(file)}: note: ${more} more faults; --max-faults 0 reports all\n`;
+  for (const fault of faults) yield one(fault, 'fault');
+  if (more > 0) yield format === 'json' ? JSON.stringify({ file, severity: 'more', count: more }) + '\n' : `${plain(file)}: note: more faults: ${more}; --max-faults 0 reports all\n`;
   if (refusal) yield one(refusal, 'refused');
 }
 
@@ -109,10 +109,16 @@ function write(stream, text) {
   }
 }
 
+/** Why a file is not read, in the words of ecma-check. */
+const REASONS = {
+  ENOENT: 'there is no such file',
+  EISDIR: 'it is a directory',
+  EACCES: 'permission denied',
+  ERR_ENCODING_INVALID_ENCODED_DATA: 'it is not UTF-8',
+};
+
 function why(error) {
-  if (error instanceof StackOverflowError) return error.message;
-  if (error.code === 'ERR_ENCODING_INVALID_ENCODED_DATA') return 'not UTF-8';
-  return error.message;
+  return REASONS[error.code] ?? (error.syscall ? 'cannot read it' : error.message);
 }
 
 /** Checks one file, and answers its status. */
@@ -123,13 +129,13 @@ function check(file, words, sums) {
     found = checked(text, words.options);
   } catch (error) {
     sums.unread += 1;
-    write(2, `pofashere: ${plain(file)}: ${why(error)}\n`);
+    write(2, `${plain(file)}: ${why(error)}\n`);
     return STATUS.failed;
   }
-  sums.faults += found.faults.length;
+  sums.faults += found.faults.length + found.more;
   sums.refused += found.refusal ? 1 : 0;
   const stream = words.format === 'estree' ? 2 : 1;
-  for (const line of lines(file, text, found, words)) write(stream, line);
+  for (const line of lines(file, text, found, words.format)) write(stream, line);
   if (words.format === 'estree' && found.tree !== null) write(1, found.tree + '\n');
   return found.status;
 }

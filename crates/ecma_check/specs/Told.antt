@@ -33,7 +33,7 @@ refusal_in f p file (Err e) = fault_in f p file (codes "refused") e
 
 -- how many more faults there are, as a line of text and as one of JSON
 unfoldable pub more_text : (file : List ℕ) → ℕ → List ℕ
-more_text file n = name_text file ++ (codes ": note: faults that are not told: " ++ (decimal n ++ codes "; --max-faults 0 tells all\n"))
+more_text file n = name_text file ++ (codes ": note: more faults: " ++ (decimal n ++ codes "; --max-faults 0 reports all\n"))
 
 unfoldable pub more_json : (file : List ℕ) → ℕ → List ℕ
 more_json file n = codes "{\"file\":" ++ (quoted file ++ (codes ",\"severity\":\"more\",\"count\":" ++ (decimal n ++ codes "}\n")))

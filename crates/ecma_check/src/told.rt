@@ -53,9 +53,9 @@ fn push_more_text(out: &mut Vec<u8>, file: &str, more: usize) -> Result<(), Allo
     ensures { OnOk result (out.new.items ≡ out.old.items ++ more_text file.now more) }
 {
     push_name(out, file)?;
-    out.extend_from_slice(b": note: faults that are not told: ")?;
+    out.extend_from_slice(b": note: more faults: ")?;
     push_count(out, more as u64)?;
-    out.extend_from_slice(b"; --max-faults 0 tells all\n")
+    out.extend_from_slice(b"; --max-faults 0 reports all\n")
 }
 
 /// Writes how many more faults there are, as a line of JSON.

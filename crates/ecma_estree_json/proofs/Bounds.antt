@@ -33,7 +33,7 @@ at line column m = record { line = line; column = column; mark = m }
 
 one_near : (p : Spot) (b : ℕ) (returns feeds returned ends : Bool) (l m n : Mark)
     → Near p (if feeds then (if returned then at p.line 0 mark.Plain else at (p.line + 1) 0 mark.Plain) else if returns then at (p.line + 1) 0 m
-        else if ends then at (p.line + 1) 0 l else at p.line (p.column + unit_count b) n)
+    else if ends then at (p.line + 1) 0 l else at p.line (p.column + unit_count b) n)
 one_near p b returns true true ends l m n = record { line = omega arith; column = omega arith }
 one_near p b returns true false ends l m n = record { line = omega arith; column = omega arith }
 one_near p b true false returned ends l m n = record { line = omega arith; column = omega arith }
@@ -69,7 +69,7 @@ past_far p (b ∷ bs) = let one = step_near p b in let rest = past_far (spot_beh
 
 pub record IsSmall (p : Spot) : Type 0 where
   pub line : p.line < 2 ^ 64
-  pub column : p.column < 2 ^ 64
+  pub column : p.column + 1 < 2 ^ 64
 
 pub spot_small : (text : List ℕ) (n : ℕ) → length text < 2 ^ 63 → IsSmall (spot_at text n)
 spot_small text n h =

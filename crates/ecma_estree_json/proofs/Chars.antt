@@ -51,11 +51,11 @@ units_simple (b ∷ bs) h =
 
 -- ---- what is written of a byte adds that byte
 
-onto_none : (r : First (List ℕ)) → onto [] r ≡ r
+pub onto_none : (r : First (List ℕ)) → onto [] r ≡ r
 onto_none refused = refl
 onto_none (first xs rest) = refl
 
-abbrev Adds : List ℕ → ℕ → List ℕ → Type 0
+abbrev pub Adds : List ℕ → ℕ → List ℕ → Type 0
 Adds xs b rest = chars plain (xs ++ rest) ≡ onto (b ∷ []) (chars plain rest)
 
 if_adds : (t : Bool) (xs ys : List ℕ) (b : ℕ) (rest : List ℕ) → (t ≡ true → Adds xs b rest) → (t ≡ false → Adds ys b rest) → Adds (if t then xs else ys) b rest
@@ -65,7 +65,7 @@ if_adds false xs ys b rest f g = g refl
 same : (b c : ℕ) (xs rest : List ℕ) → Adds xs c rest → (b == c) ≡ true → Adds xs b rest
 same b c xs rest a e = elim (eqb_tells b c) [ inl p ↦ rw (p.1) a | inr p ↦ cc ]
 
-hex_back : (n : ℕ) → n < 16 → hex_value (hex_digit n) ≡ Some n
+pub hex_back : (n : ℕ) → n < 16 → hex_value (hex_digit n) ≡ Some n
 hex_back n h = grind (arith, nat_tests)
 
 hex_adds : (b : ℕ) (rest : List ℕ) → b < 32 → Adds (codes "\\u00" ++ (hex_digit (b / 16) ∷ hex_digit (b % 16) ∷ [])) b rest
@@ -103,7 +103,7 @@ pick_8 b = if b == 8 then codes "\\b" else pick_9 b
 abbrev pick_92 : ℕ → List ℕ
 pick_92 b = if b == 92 then codes "\\\\" else pick_8 b
 
-escaped_adds : (b : ℕ) (rest : List ℕ) → Adds (escaped b) b rest
+pub escaped_adds : (b : ℕ) (rest : List ℕ) → Adds (escaped b) b rest
 escaped_adds b rest =
     if_adds (b == 34) (codes "\\\"") (pick_92 b) b rest (same b 34 (codes "\\\"") rest (onto_none (onto (34 ∷ []) (chars plain rest)))) (λ q.
     if_adds (b == 92) (codes "\\\\") (pick_8 b) b rest (same b 92 (codes "\\\\") rest (onto_none (onto (92 ∷ []) (chars plain rest)))) (λ s.

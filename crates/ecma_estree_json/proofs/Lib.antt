@@ -1,8 +1,10 @@
-mod Bounds
-mod Chars
-mod Numbers
-mod Objects
+pub mod Bounds
+pub mod Chars
+mod Lists
+pub mod Numbers
+pub mod Objects
 mod Pieces
+mod Strings
 mod Trees
-mod Values
+pub mod Values
 mod Words

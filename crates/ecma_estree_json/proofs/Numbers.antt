@@ -64,8 +64,11 @@ one_ends : (n : ℕ) → n < 10 → Ends n ((48 + n) ∷ [])
 one_ends n h = ((λ e. rw e refl), λ g. rw (no_minus n, some_zero n g, digit_is n h) refl)
 
 more_ends : (n : ℕ) (ds : List ℕ) → 10 ≤ n → Ends (n / 10) ds → Ends n (ds ++ ((48 + n % 10) ∷ []))
-more_ends n ds h d = ((λ e. absurd (omega arith)), λ g.
-    places_behind start ds ((48 + n % 10) ∷ []) ∙ ap (λ p. place_behind p ((48 + n % 10) ∷ [])) (d.1 (omega arith)) ∙ rw (digit_is (n % 10) (omega arith)) refl)
+more_ends n ds h d = (
+  (λ e. absurd (omega arith)),
+  λ g.
+      places_behind start ds ((48 + n % 10) ∷ []) ∙ ap (λ p. place_behind p ((48 + n % 10) ∷ [])) (d.1 (omega arith)) ∙ rw (digit_is (n % 10) (omega arith)) refl,
+)
 
 ends_number : (n : ℕ) (ds : List ℕ) → Ends n ds → is_number ds ≡ true
 ends_number zero ds d = ap may_end (d.0 refl)

@@ -28,17 +28,17 @@ whole a = record { is = λ v e. let s = a.is v e in record { reads = λ n rest h
 abbrev pub named_text : (word xs : List ℕ) → List ℕ
 named_text word xs = 34 ∷ (word ++ (34 ∷ 58 ∷ xs))
 
-named_long : (word xs : List ℕ) → length (named_text word xs) ≡ length word + length xs + 3
+pub named_long : (word xs : List ℕ) → length (named_text word xs) ≡ length word + length xs + 3
 named_long word xs = omega (arith, length-append word (34 ∷ 58 ∷ xs))
 
 name_read : (word rest : List ℕ) → all_simple word ≡ true → name (named_text word rest) ≡ first word rest
 name_read word rest h = ap behind_colon (chars_simple word (58 ∷ rest) h) ∙ ap (λ us. first us rest) (units_simple word h)
 
-fields_step : (n : ℕ) (word bs : List ℕ) (v : Json) (cs : List ℕ) (fs : Fields) (ds : List ℕ) → all_simple word ≡ true
+pub fields_step : (n : ℕ) (word bs : List ℕ) (v : Json) (cs : List ℕ) (fs : Fields) (ds : List ℕ) → all_simple word ≡ true
     → value n bs ≡ first v cs → more_fields n cs ≡ first fs ds → fields (suc n) (named_text word bs) ≡ first (form.named word v fs) ds
 fields_step n word bs v cs fs ds h a b = rw (name_read word bs h, fields) (rw (a) (rw (b) refl))
 
-named_onto : (word xs rest : List ℕ) → named_text word xs ++ rest ≡ named_text word (xs ++ rest)
+pub named_onto : (word xs rest : List ℕ) → named_text word xs ++ rest ≡ named_text word (xs ++ rest)
 named_onto word xs rest = ap (λ r. 34 ∷ r) (append_assoc word (34 ∷ 58 ∷ xs) rest)
 
 both_fields : (n : ℕ) (word xs ys zs rest : List ℕ) (v : Json) (fs : Fields) → all_simple word ≡ true → Starting xs v ys → Leaving ys fs zs

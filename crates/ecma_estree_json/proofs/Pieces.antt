@@ -35,10 +35,10 @@ pub record Fits (f : Form) : Type 0 where
 
 -- ---- a text that is another
 
-spells_at : {xs ys : List ℕ} {o : Option Json} → xs ≡ ys → Spells ys o → Spells xs o
+pub spells_at : {xs ys : List ℕ} {o : Option Json} → xs ≡ ys → Spells ys o → Spells xs o
 spells_at {xs} {ys} {o} e a = subst (λ zs. Spells zs o) (sym e) a
 
-starts_at : {xs ys zs : List ℕ} {o : Option Json} → xs ≡ ys → Starts ys o zs → Starts xs o zs
+pub starts_at : {xs ys zs : List ℕ} {o : Option Json} → xs ≡ ys → Starts ys o zs → Starts xs o zs
 starts_at {xs} {ys} {zs} {o} e a = subst (λ us. Starts us o zs) (sym e) a
 
 leaves_at : {xs ys zs : List ℕ} {p : Option Fields} → xs ≡ ys → Leaves ys p zs → Leaves xs p zs
@@ -122,7 +122,7 @@ spot_spells : (p : Spot) → IsSmall p → Spells (spot_text p) (spot p)
 unfolding spot spot_text
 spot_spells p s =
     whole (object_starts (field_leaves (codes "line") refl (decimal_spells p.line s.line)
-    (field_leaves (codes "column") refl (decimal_spells p.column s.column) end_leaves)))
+    (field_leaves (codes "column") refl (decimal_spells p.column (omega (arith, s.column))) end_leaves)))
 
 loc_layout : (p q : Spot) (ys : List ℕ)
     → spots_text p q ++ ys ≡ codes ",\"loc\":{\"start\":" ++ (spot_text p ++ (codes ",\"end\":" ++ (spot_text q ++ (codes "}" ++ ys))))
@@ -130,7 +130,7 @@ loc_layout p q ys = simp append_assoc
 
 loc_reads : (x : Placed) (a b : ℕ) {ys zs : List ℕ} {p : Option Fields} → length x.text < 2 ^ 63 → Leaves ys p zs
     → (is_there : Bool) → Leaves (cond is_there (loc_text x a b) [] ++ ys)
-        (cond is_there (field (codes "loc") (object (field (codes "start") (spot (spot_at x.text a)) (field (codes "end") (spot (spot_at x.text b)) done))) p) p) zs
+    (cond is_there (field (codes "loc") (object (field (codes "start") (spot (spot_at x.text a)) (field (codes "end") (spot (spot_at x.text b)) done))) p) p) zs
 loc_reads x a b {ys} h l false = l
 loc_reads x a b {ys} h l true =
     leaves_at (loc_layout (spot_at x.text a) (spot_at x.text b) ys)
@@ -143,7 +143,7 @@ range_layout x a b ys = simp (append_assoc, append-nil)
 
 range_reads : (x : Placed) (a b : ℕ) {ys zs : List ℕ} {p : Option Fields} → length x.text < 2 ^ 63 → Leaves ys p zs
     → (is_there : Bool) → Leaves (cond is_there (range_text x a b) [] ++ ys)
-        (cond is_there (field (codes "range") (list (item (count (offset x.text a)) (item (count (offset x.text b)) none))) p) p) zs
+    (cond is_there (field (codes "range") (list (item (count (offset x.text a)) (item (count (offset x.text b)) none))) p) p) zs
 range_reads x a b {ys} h l false = l
 range_reads x a b {ys} h l true =
     leaves_at (range_layout x a b ys)
@@ -155,9 +155,17 @@ further_reads : (x : Placed) (a b : ℕ) {ys zs : List ℕ} {p : Option Fields} 
 unfolding loc_field range_field
 further_reads x a b h l = loc_reads x a b h (range_reads x a b h l x.has_ranges) x.has_locations
 
+pub place_leaves : (x : Placed) (a b : ℕ) {ys zs : List ℕ} {p : Option Fields} → length x.text < 2 ^ 63 → Leaves ys p zs
+    → Leaves (codes ",\"start\":" ++ (decimal (offset x.text a) ++ (codes ",\"end\":" ++ (decimal (offset x.text b)
+        ++ (cond x.has_locations (loc_text x a b) [] ++ (cond x.has_ranges (range_text x a b) [] ++ ys)))))) (place x a b p) zs
+unfolding place
+place_leaves x a b h l =
+    field_leaves (codes "start") refl (decimal_spells (offset x.text a) (offset_small x.text a h))
+    (field_leaves (codes "end") refl (decimal_spells (offset x.text b) (offset_small x.text b h)) (further_reads x a b h l))
+
 -- ---- nodes
 
-type_leaves : (kind : List ℕ) {ys zs : List ℕ} {p : Option Fields} → all_simple kind ≡ true → Leaves ys p zs
+pub type_leaves : (kind : List ℕ) {ys zs : List ℕ} {p : Option Fields} → all_simple kind ≡ true → Leaves ys p zs
     → Leaves (codes ",\"type\":\"" ++ (kind ++ 34 ∷ ys)) (field (codes "type") (word kind) p) zs
 type_leaves kind {ys} h a =
     leaves_at (ap (λ r. codes ",\"type\":\"" ++ r) (sym (append_assoc kind (34 ∷ []) ys))) (field_leaves (codes "type") refl (word_spells kind h) a)
@@ -171,13 +179,8 @@ layout f kind a b ys = simp append_assoc
 
 pub node_starts : (f : Form) (kind : List ℕ) (a b : ℕ) {ys zs : List ℕ} {p : Option Fields} → Fits f → all_simple kind ≡ true → Leaves ys p zs
     → Starts (node_at f.source kind a b ++ ys) (node_json f kind a b p) zs
-unfolding node_json place
-node_starts f kind a b {ys} w h l =
-    starts_at (layout f kind a b ys)
-    (object_starts (type_leaves kind h
-    (field_leaves (codes "start") refl (decimal_spells (offset f.source.places.text a) (offset_small f.source.places.text a w.bounded))
-    (field_leaves (codes "end") refl (decimal_spells (offset f.source.places.text b) (offset_small f.source.places.text b w.bounded))
-    (further_reads f.source.places a b w.bounded l)))))
+unfolding node_json
+node_starts f kind a b {ys} w h l = starts_at (layout f kind a b ys) (object_starts (type_leaves kind h (place_leaves f.source.places a b w.bounded l)))
 
 pub identifier_spells : (f : Form) (s : Span) (name : Text) → Fits f → Spells (identifier f.source s name) (identifier_json f s name)
 unfolding identifier identifier_json
@@ -279,15 +282,15 @@ stop_if true b bs n fs more e h =
     let none_read : more_fields (suc n) (b ∷ bs) ≡ refused = rw (mark_not b 125 bs e refl, more_fields) (rw (mark_not b 44 bs e refl) refl) in
     cc
 
-stop_of : (bs : List ℕ) (n : ℕ) (fs : Fields) (more : List ℕ) → more_fields (suc n) bs ≡ first fs more → stops bs ≡ true
+pub stop_of : (bs : List ℕ) (n : ℕ) (fs : Fields) (more : List ℕ) → more_fields (suc n) bs ≡ first fs more → stops bs ≡ true
 stop_of [] n fs more h = refl
 stop_of (b ∷ bs) n fs more h = stop_if (is_numeral b) b bs n fs more refl h
 
 added_leaving : (xs ys zs : List ℕ) (fs gs : Fields) → AddsFields xs fs → Leaving ys gs zs → Leaving (xs ++ ys) (appended fs gs) zs
 added_leaving xs ys zs fs gs a l =
     let all : (n : ℕ) (rest : List ℕ) → 2 * length (xs ++ ys) ≤ n + 1 → more_fields (suc n) ((xs ++ ys) ++ rest) ≡ first (appended fs gs) (zs ++ rest)
-            = λ n rest h. ap (more_fields (suc n)) (append_assoc xs ys rest)
-            ∙ a.adds gs (ys ++ rest) (zs ++ rest) (2 * length ys) (λ m g. l.reads m rest g) n (omega (arith, length-append xs ys)) in
+    = λ n rest h. ap (more_fields (suc n)) (append_assoc xs ys rest)
+    ∙ a.adds gs (ys ++ rest) (zs ++ rest) (2 * length ys) (λ m g. l.reads m rest g) n (omega (arith, length-append xs ys)) in
     record {
       reads = all;
       stop = λ rest. stop_of ((xs ++ ys) ++ rest) (2 * length (xs ++ ys)) (appended fs gs) (zs ++ rest) (all (2 * length (xs ++ ys)) rest (omega arith));

@@ -9,6 +9,7 @@ use Rattle.ecma_estree_json.proofs.Chars.{all_simple}
 use Rattle.ecma_estree_json.proofs.Values.{Spells, Leaves, Opens, no_value, no_fields, no_opens, null_spells, number_spells}
 use Rattle.ecma_estree_json.proofs.Objects.{whole, none_opens, one_opens, parsed}
 use Rattle.ecma_estree_json.proofs.Pieces.{Fits, Listed, no_listed, none_listed, item_listed, either_listed, either_spells, either_opens, nothing_spells, quoted_spells, bool_spells, node_starts, end_reads, last_reads, field_reads, inner_reads, list_reads, empty_reads, word_reads, bool_reads, identifier_spells, word_name_spells, literal_spells, big_literal_spells, property_starts, member_starts, accessor_starts, function_fields_read, decorators_read, directive_reads, phase_reads, added_read, bare_reads}
+use Rattle.ecma_estree_json.proofs.Strings.{string_spells}
 use Rattle.ecma_estree_json.proofs.Words.{function_kind_simple, class_kind_simple, kind_simple, using_simple, method_simple, unary_simple, update_simple, binary_simple, binary_kind_simple, assign_simple}
 use Rattle.ecma_estree_text.specs.Number.{number_text}
 use Rattle.ecma_estree_writer.specs.Estree.{Role, plain, directives, members, attributes, bare, argument, declared, function, class, json, jsons, is_bare, is_attributes, is_directives, function_kind, class_kind, is_zero, skips, next, end_of, expr_end, brace, method_role}
@@ -26,7 +27,7 @@ mutual
   tree_reads f r (tree.list ts) w = picked_reads f r ts w
   -- names and literals
   tree_reads f r (tree.ident s name) w = identifier_spells f s name w
-  tree_reads f r (tree.str s value raw) w = literal_spells f s raw w (quoted_spells value)
+  tree_reads f r (tree.str s value raw) w = literal_spells f s raw w (string_spells value raw)
   tree_reads f r (tree.bool s b) w = literal_spells f s (bool_word b) w (bool_spells b)
   tree_reads f r (tree.null s) w = literal_spells f s (codes "null") w null_spells
   tree_reads f r (tree.num s raw) w = literal_spells f s raw w (number_spells (number_text raw))

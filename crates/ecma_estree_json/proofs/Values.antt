@@ -108,9 +108,12 @@ quoted_value xs us f = record {
   begins = λ rest. refl;
 }
 
-pub text_spells : (s : List ℕ) → Spells (wrapped s) (text s)
+pub bytes_spell : (xs bs : List ℕ) → ((rest : List ℕ) → chars plain (xs ++ 34 ∷ rest) ≡ first bs rest) → Spells (34 ∷ (xs ++ 34 ∷ [])) (text bs)
 unfolding text
-text_spells s = spells_some (quoted_value (flat_map escaped s) (units s) (λ rest. ap as_string (chars_escaped s rest)))
+bytes_spell xs bs f = spells_some (quoted_value xs (units bs) (λ rest. ap as_string (f rest)))
+
+pub text_spells : (s : List ℕ) → Spells (wrapped s) (text s)
+text_spells s = bytes_spell (flat_map escaped s) s (chars_escaped s)
 
 pub word_spells : (w : List ℕ) → all_simple w ≡ true → Spells (34 ∷ (w ++ 34 ∷ [])) (word w)
 unfolding word

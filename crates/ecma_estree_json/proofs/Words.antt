@@ -1,9 +1,10 @@
 -- The words of ESTree stand in a JSON string as they are.
-use Rattle.std.proofs.Common.{◌≡◌, ℕ, zero, suc, List, [], ◌∷◌, ◌++◌, ◌<◌, ◌^◌, ◌%◌, ◌/◌, ◌==◌, ◌&&◌, Bool, true, false, nat_lt, if◌then◌else◌, Option, Some, None, drop, decimal, arith, refl}
+use Rattle.std.proofs.Common.{◌≡◌, ℕ, List, [], ◌∷◌, ◌++◌, ◌+◌, ◌<◌, ◌==◌, ◌&&◌, Bool, true, false, if◌then◌else◌, Option, Some, None, drop, map, codes, arith, refl}
 use Rattle.std.proofs.lemmas.Bool.Decides.{nat_tests}
-use Rattle.std.specs.Fmt.{digits, digits_onto, digit_glyph}
+use Rattle.std.proofs.lemmas.Int.Digits.{all_below_base_digits_of}
+use Rattle.std.specs.Int.Digits.{digits_of, AllBelowBase}
 use Rattle.ecma_estree_json.proofs.Chars.{simple, all_simple, and_yes}
-use Rattle.ecma_estree_text.specs.Number.{is_numeral, is_mark, bare_byte, bare_text, within_64_bits, value_behind, radix_of, digits_by, digits_text}
+use Rattle.ecma_estree_text.specs.Number.{is_numeral, is_mark, bare_byte, bare_text, whole_text, value_behind, radix_of, digits_by, digits_text}
 use Rattle.ecma_estree_writer.specs.Estree.{Role, declared, function_kind, class_kind}
 use Rattle.ecma_estree_writer.specs.Words.{kind_word, using_word, method_word, unary_word, update_word, binary_word, binary_kind, assign_word}
 use Rattle.swc_ecma_parser_model.specs.declared.leaves.VarDeclKind.{VarDeclKind}
@@ -79,19 +80,17 @@ if_simple : (t : Bool) (xs ys : List ℕ) → (t ≡ true → all_simple xs ≡ 
 if_simple true xs ys x y = x refl
 if_simple false xs ys x y = y refl
 
-simple_digit : (d : ℕ) → d < 10 → simple (digit_glyph false d) ≡ true
-simple_digit d h = grind (arith, nat_tests)
+simple_glyph : (d : ℕ) → d < 10 → simple (48 + d) ≡ true
+simple_glyph d h = grind (arith, nat_tests)
 
-simple_digits : (k n : ℕ) (acc : List ℕ) → all_simple acc ≡ true → all_simple (digits_onto k 10 false n acc) ≡ true
-simple_digits zero n acc h = h
-simple_digits (suc k) n acc h =
-    let more : all_simple (digit_glyph false (n % 10) ∷ acc) ≡ true = rw (simple_digit (n % 10) (omega arith)) h in
-    if_simple (n / 10 == 0) (digit_glyph false (n % 10) ∷ acc) (digits_onto k 10 false (n / 10) (digit_glyph false (n % 10) ∷ acc))
-    (λ _. more) (λ _. simple_digits k (n / 10) (digit_glyph false (n % 10) ∷ acc) more)
+simple_glyphs : (ds : List ℕ) → AllBelowBase 10 ds → all_simple (map (λ d. 48 + d) ds) ≡ true
+simple_glyphs [] h = refl
+simple_glyphs (d ∷ ds) h = rw (simple_glyph d h.0) (simple_glyphs ds h.1)
 
-decimal_simple : (n : ℕ) → all_simple (decimal n) ≡ true
-unfolding digits
-decimal_simple n = simple_digits 64 n [] refl
+whole_simple : (n : ℕ) → all_simple (whole_text n) ≡ true
+whole_simple n =
+    if_simple (n == 0) (codes "0") (map (λ d. 48 + d) (digits_of 10 n)) (λ _. refl)
+    (λ _. simple_glyphs (digits_of 10 n) (all_below_base_digits_of 10 n (omega arith)))
 
 numeral_simple : (b : ℕ) → is_numeral b ≡ true → all_simple (b ∷ []) ≡ true
 numeral_simple b h = grind (arith, nat_tests)
@@ -104,9 +103,7 @@ bare_simple (b ∷ bs) =
 
 digits_simple_by : (raw : List ℕ) (o : Option ℕ) → all_simple (digits_by raw o) ≡ true
 digits_simple_by raw None = bare_simple raw
-digits_simple_by raw (Some radix) =
-    if_simple (nat_lt (value_behind radix 0 (drop 2 raw)) (2 ^ 64)) (decimal (value_behind radix 0 (drop 2 raw))) (bare_text raw)
-    (λ _. decimal_simple (value_behind radix 0 (drop 2 raw))) (λ _. bare_simple raw)
+digits_simple_by raw (Some radix) = whole_simple (value_behind radix 0 (drop 2 raw))
 
 pub digits_simple : (raw : List ℕ) → all_simple (digits_text raw) ≡ true
 unfolding digits_text

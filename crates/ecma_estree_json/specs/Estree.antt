@@ -6,7 +6,7 @@
 use Rattle.std.specs.Prelude.{◌+◌, ◌-◌, ℕ, List, Bool, true, false, not, Option, Some, None, cond, codes, length}
 use Rattle.ecma_estree_json.specs.Json.{Json, Jsons, Fields}
 use Rattle.ecma_estree_json.specs.Made.{done, field, object, none, item, list, null, flag, word, text, number}
-use Rattle.ecma_estree_json.specs.Parts.{Form, node_at, node, identifier, word_name, literal, big_literal, parenthesis, function_fields, accessor, member, property, decorators_field, directive_field, phase_fields, and_fields}
+use Rattle.ecma_estree_json.specs.Parts.{Form, node_at, node, identifier, word_name, literal, big_literal, parenthesis, function_fields, accessor, member, property, decorators_field, directive_field, phase_fields, and_fields, string_value}
 use Rattle.ecma_estree_text.specs.Number.{number_text}
 use Rattle.ecma_estree_writer.specs.Estree.{Role, plain, directives, members, attributes, bare, argument, is_bare, is_attributes, is_directives, function_kind, class_kind, is_zero, skips, next, end_of, expr_end, brace, declared}
 use Rattle.ecma_estree_writer.specs.Parts.{is_namespace_alone, is_import, is_empty}
@@ -23,7 +23,7 @@ abbrev mutual
   estree f r (tree.list ts) = picked f r ts
   -- names and literals
   estree f r (tree.ident s name) = identifier f s name
-  estree f r (tree.str s value raw) = literal f s (text value) raw
+  estree f r (tree.str s value raw) = literal f s (string_value value raw) raw
   estree f r (tree.bool s b) = literal f s (flag b) (bool_word b)
   estree f r (tree.null s) = literal f s null (codes "null")
   estree f r (tree.num s raw) = literal f s (number (number_text raw)) raw

@@ -1,12 +1,14 @@
 -- What the JSON of nodes is made of.
-use Rattle.std.specs.Prelude.{ℕ, List, ◌+◌, ◌-◌, Bool, true, false, Option, Some, None, cond, codes, take, drop, length}
+use Rattle.std.specs.Prelude.{ℕ, List, [], ◌∷◌, ◌++◌, ◌-◌, ◌%◌, Bool, false, if◌then◌else◌, Option, Some, None, cond, codes, take, drop, length, encode_utf8}
 use Rattle.ecma_estree_json.specs.Json as form
 use Rattle.ecma_estree_json.specs.Json.{Json, Jsons, Fields}
 use Rattle.ecma_estree_json.specs.Made.{done, field, object, none, item, list, null, flag, word, text, count}
+use Rattle.ecma_estree_json.specs.Reading.{unit_bytes}
 use Rattle.ecma_estree_text.specs.Bracket.{bracket}
 use Rattle.ecma_estree_text.specs.Number.{digits_text}
 use Rattle.ecma_estree_text.specs.Places.{Placed, offset}
 use Rattle.ecma_estree_text.specs.Spots.{spot_at}
+use Rattle.ecma_estree_text.specs.Strings.{character, is_high, is_low, is_read, paired, points, waiting_behind}
 use Rattle.ecma_estree_text.specs.declared.spot.Spot.{Spot}
 use Rattle.ecma_estree_writer.specs.Source.{Source}
 use Rattle.swc_ecma_parser_common.specs.declared.span.Span.{Span}
@@ -112,3 +114,33 @@ appended (form.named name v fs) gs = form.named name v (appended fs gs)
 unfoldable pub and_fields : Fields → Option Fields → Option Fields
 and_fields fs None = None
 and_fields fs (Some gs) = Some (appended fs gs)
+
+-- ---- the value of a string literal, which is read from what was written where the tree holds U+FFFD
+
+-- a character in UTF-8, and a surrogate in three bytes
+abbrev pub character_bytes : Option ℕ → ℕ → List ℕ
+character_bytes (Some k) c = encode_utf8 k
+character_bytes None c = unit_bytes (c % 65536)
+
+abbrev pub point_bytes : ℕ → List ℕ
+point_bytes c = character_bytes (character c) c
+
+abbrev pub alone_bytes : ℕ → List ℕ
+alone_bytes c = if is_high c then [] else point_bytes c
+
+-- a first half that waits is one character with a second
+abbrev pub bytes_at : (waiting : Option ℕ) → ℕ → List ℕ
+bytes_at None c = alone_bytes c
+bytes_at (Some high) c = if is_low c then point_bytes (paired high c) else unit_bytes (high % 65536) ++ alone_bytes c
+
+abbrev pub last_bytes : (waiting : Option ℕ) → List ℕ
+last_bytes None = []
+last_bytes (Some high) = unit_bytes (high % 65536)
+
+-- code points in UTF-8
+abbrev pub points_bytes : (waiting : Option ℕ) → List ℕ → List ℕ
+points_bytes waiting [] = last_bytes waiting
+points_bytes waiting (c ∷ cs) = bytes_at waiting c ++ points_bytes (waiting_behind waiting c) cs
+
+unfoldable pub string_value : (value raw : Text) → Option Json
+string_value value raw = if is_read value raw then text (points_bytes None (points raw)) else text value

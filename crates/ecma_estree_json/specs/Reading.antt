@@ -206,10 +206,19 @@ as_number bs rest = if is_number bs then first (form.number bs) rest else refuse
 -- one of three words, or a number
 abbrev pub word_or_number : List ℕ → First Json
 word_or_number bs =
-    elim (behind (codes "null") bs) [ Some rest ↦ first form.null rest | None ↦
-    elim (behind (codes "true") bs) [ Some rest ↦ first (form.bool true) rest | None ↦
-    elim (behind (codes "false") bs) [ Some rest ↦ first (form.bool false) rest | None ↦
-    as_number (numeral bs) (behind_numeral bs) ] ] ]
+    elim (behind (codes "null") bs) [
+      | Some rest ↦ first form.null rest
+      | None ↦
+          elim (behind (codes "true") bs) [
+            | Some rest ↦ first (form.bool true) rest
+            | None ↦
+                elim (behind (codes "false") bs) [
+                  | Some rest ↦ first (form.bool false) rest
+                  | None ↦
+                      as_number (numeral bs) (behind_numeral bs)
+                ]
+          ]
+    ]
 
 -- a value that is no list and no object
 abbrev pub scalar : List ℕ → First Json
@@ -245,23 +254,31 @@ abbrev mutual
   value zero bs = refused
   value (suc n) bs =
       elim (behind_mark 123 bs) [
-        Some rest ↦ elim (behind_mark 125 rest) [ Some more ↦ first (form.object form.done) more | None ↦ as_object (fields n rest) ]
-      | None ↦ elim (behind_mark 91 bs) [
-          Some rest ↦ elim (behind_mark 93 rest) [ Some more ↦ first (form.list form.none) more | None ↦ as_list (items n rest) ]
-        | None ↦ scalar (past_blanks bs) ] ]
+        | Some rest ↦ elim (behind_mark 125 rest) [ Some more ↦ first (form.object form.done) more | None ↦ as_object (fields n rest) ]
+        | None ↦ elim (behind_mark 91 bs) [
+          | Some rest ↦ elim (behind_mark 93 rest) [ Some more ↦ first (form.list form.none) more | None ↦ as_list (items n rest) ]
+          | None ↦ scalar (past_blanks bs)
+        ]
+      ]
 
   -- a field at least, and the brace behind the last
   pub fields : ℕ → List ℕ → First Fields
   fields zero bs = refused
   fields (suc n) bs =
-      elim (name bs) [ refused ↦ refused | first word rest ↦
-      elim (value n rest) [ refused ↦ refused | first v more ↦ and_field word v (more_fields n more) ] ]
+      elim (name bs) [
+        | refused ↦ refused
+        | first word rest ↦
+            elim (value n rest) [ refused ↦ refused | first v more ↦ and_field word v (more_fields n more) ]
+      ]
 
   pub more_fields : ℕ → List ℕ → First Fields
   more_fields zero bs = refused
   more_fields (suc n) bs =
-      elim (behind_mark 125 bs) [ Some rest ↦ first form.done rest | None ↦
-      elim (behind_mark 44 bs) [ Some rest ↦ fields n rest | None ↦ refused ] ]
+      elim (behind_mark 125 bs) [
+        | Some rest ↦ first form.done rest
+        | None ↦
+            elim (behind_mark 44 bs) [ Some rest ↦ fields n rest | None ↦ refused ]
+      ]
 
   -- a value at least, and the bracket behind the last
   pub items : ℕ → List ℕ → First Jsons
@@ -271,8 +288,11 @@ abbrev mutual
   pub more_items : ℕ → List ℕ → First Jsons
   more_items zero bs = refused
   more_items (suc n) bs =
-      elim (behind_mark 93 bs) [ Some rest ↦ first form.none rest | None ↦
-      elim (behind_mark 44 bs) [ Some rest ↦ items n rest | None ↦ refused ] ]
+      elim (behind_mark 93 bs) [
+        | Some rest ↦ first form.none rest
+        | None ↦
+            elim (behind_mark 44 bs) [ Some rest ↦ items n rest | None ↦ refused ]
+      ]
 
 -- a value with nothing behind it but white space
 abbrev pub alone : First Json → Option Json

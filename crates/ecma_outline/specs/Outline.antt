@@ -120,7 +120,7 @@ pub record Scanned : Type 0 where
   pub opens : List Open
   pub counts : List ℕ
 
-abbrev pub scanned : State → Outline → Scanned
+unfoldable pub scanned : State → Outline → Scanned
 scanned s o = record { state = s; lexemes = o.lexemes.items; opens = o.opens.items; counts = o.counts.items }
 
 abbrev pub ended_before : State → ℕ → List Lexeme
@@ -129,7 +129,7 @@ ended_before s b = if ends s b then ended s ∷ [] else []
 abbrev pub opened_at : State → (lexeme : ℕ) → ℕ → List Open
 opened_at s n b = if opens s b then opened s n ∷ [] else []
 
-abbrev pub step : Scanned → ℕ → Scanned
+unfoldable pub step : Scanned → ℕ → Scanned
 step r b = record {
   state = with_brackets r.state (along r.state b) (open_at r.opens r.state.top) (length r.opens) b;
   lexemes = r.lexemes ++ ended_before r.state b;

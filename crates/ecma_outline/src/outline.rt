@@ -2,13 +2,13 @@
 
 ghost use Rattle.std.specs.Prelude.{◌≡◌, ◌++◌, ◌+◌, ◌<◌, ◌≤◌, ◌^◌, IfOk, OnOk, length};
 ghost use Rattle.ecma_outline.specs.Outline as outline;
-ghost use Rattle.ecma_outline.specs.Outline.{IsOutline, scanned, start, step};
+ghost use Rattle.ecma_outline.specs.Outline.{IsOutline, scan, scanned, start, step};
 
 use crate::bytes::{Mode, ends_before, is_blank, is_newline, is_token, next_mode};
 use std::alloc::{AllocError, Global};
 
 /// A token, and what stood open where it begins.
-#[derive(Clone, Copy, Debug, PartialEq, Eq)]
+#[derive(Clone, Copy)]
 pub struct Lexeme {
     /// In bytes.
     pub start: usize,
@@ -22,7 +22,7 @@ pub struct Lexeme {
 }
 
 /// A bracket that opens.
-#[derive(Clone, Copy, Debug, PartialEq, Eq)]
+#[derive(Clone, Copy)]
 pub struct Open {
     /// In bytes.
     pub at: usize,
@@ -37,7 +37,7 @@ pub struct Open {
 }
 
 /// What is known before a byte.
-#[derive(Clone, Copy, Debug, PartialEq, Eq)]
+#[derive(Clone, Copy)]
 pub struct State {
     /// In bytes.
     pub at: usize,
@@ -335,6 +335,7 @@ fn push_opened(
 
 impl Outline {
     /// Takes a byte in.
+    #[tactic(auto, unfolding(crate::specs::Outline::scanned, crate::specs::Outline::step))]
     fn step(&mut self, state: State, byte: u8) -> Result<State, AllocError>
         requires at { state.at < 2 ^ 33 }
         requires indent { state.indent < 2 ^ 33 }
@@ -352,6 +353,7 @@ impl Outline {
     }
 
     /// An outline of no text.
+    #[tactic(auto, unfolding(crate::specs::Outline::scanned))]
     fn empty(alloc: Global) -> Result<Outline, AllocError>
         ensures { IfOk result (λ it. scanned outline.outset it ≡ start) }
     {
@@ -365,18 +367,43 @@ impl Outline {
     }
 }
 
+/// Takes all bytes of a text in.
+#[tactic(auto, using(crate::proofs::Outlines::scan_more, crate::proofs::Outlines::scan_all))]
+fn take_all(it: &mut Outline, text: &str) -> Result<State, AllocError>
+    requires text { length text.now < 2 ^ 32 }
+    requires empty { scanned outline.outset it.old ≡ start }
+    ensures read { IfOk result (λ state. scanned state it.new ≡ scan start text.now) }
+    ensures at { IfOk result (λ state. state.at ≤ length text.now) }
+    ensures indent { IfOk result (λ state. state.indent ≤ length text.now) }
+{
+    let mut state = outset();
+    for byte in text.as_bytes() {
+        let next = it.step(state, *byte)?;
+        state = next;
+    }
+    Ok(state)
+}
+
+/// Ends the last token of a text, and adds one without bytes at its end.
+#[tactic(auto, using(crate::proofs::Outlines::finished))]
+fn close(it: &mut Outline, text: &str, state: State) -> Result<(), AllocError>
+    requires at { state.at < 2 ^ 33 }
+    requires indent { state.indent < 2 ^ 33 }
+    requires read { scanned state it.old ≡ scan start text.now }
+    ensures { OnOk result (IsOutline text.now it.new) }
+{
+    let last = it.step(state, b'\n')?;
+    it.lexemes.push(empty_at(last))?;
+    Ok(())
+}
+
 /// The tokens of a text.
-#[tactic(auto, using(crate::proofs::Outlines::scan_more, crate::proofs::Outlines::scan_all, crate::proofs::Outlines::finished))]
 pub(crate) fn outline_of(alloc: Global, text: &str) -> Result<Outline, AllocError>
     requires { length text.now < 2 ^ 32 }
     ensures { IfOk result (IsOutline text.now) }
 {
     let mut it = Outline::empty(alloc)?;
-    let mut state = outset();
-    for byte in text.as_bytes() {
-        state = it.step(state, *byte)?;
-    }
-    state = it.step(state, b'\n')?;
-    it.lexemes.push(empty_at(state))?;
+    let state = take_all(&mut it, text)?;
+    close(&mut it, text, state)?;
     Ok(it)
 }

@@ -33,7 +33,7 @@ impl<'a> Source<'a> {
     pub fn new(alloc: Global, text: &'a str) -> Result<Source<'a>, AllocError>
         requires { length text.now < 2 ^ 32 }
         ensures { IfOk result
-            (λ it. it.now ≡ record { text = text.now; has_locations = true; has_ranges = false }) }
+            (λ it. it ≡ record { text = text.now; has_locations = true; has_ranges = false }) }
     {
         let extras = Extras {
             locations: true,

@@ -1,2 +1,3 @@
 mod Payloads
+mod Read
 mod Said

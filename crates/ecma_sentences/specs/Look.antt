@@ -27,38 +27,38 @@ place_of text e = if is_at_end e.kind then length text else e.span.lo.0
 abbrev pub found_at : List ℕ → Error → ℕ
 found_at text e = index (outlined text) text (place_of text e)
 
-abbrev pub found : List ℕ → Error → Lexeme
-found text e = lexeme (outlined text) (found_at text e)
+abbrev pub found_lexeme : List ℕ → Error → Lexeme
+found_lexeme text e = lexeme (outlined text) (found_at text e)
 
 abbrev pub opener_of : List ℕ → Error → Open
-opener_of text e = bracket_at (outlined text) (found text e).top
+opener_of text e = bracket_at (outlined text) (found_lexeme text e).top
 
 -- whether a fault is within a token, as between signs that touch
 abbrev pub is_within : List ℕ → Error → Bool
-is_within text e = nat_lt (found text e).start (place_of text e)
+is_within text e = nat_lt (found_lexeme text e).start (place_of text e)
 
 -- the token so many before a fault; within a token what of that stands before it is the first of them
-abbrev pub before : List ℕ → Error → ℕ → List ℕ
-before text e by =
+abbrev pub text_before : List ℕ → Error → ℕ → List ℕ
+text_before text e by =
     if not (is_within text e) then spelled text (lexeme_before (outlined text) (found_at text e) by)
-    else if by == 1 then piece text (found text e).start (place_of text e)
+    else if by == 1 then piece text (found_lexeme text e).start (place_of text e)
     else spelled text (lexeme_before (outlined text) (found_at text e) (by - 1))
 
 -- the token at a fault, or what of it stands behind
 abbrev pub found_text : List ℕ → Error → List ℕ
-found_text text e = if is_within text e then piece text (place_of text e) (found text e).end else spelled text (found text e)
+found_text text e = if is_within text e then piece text (place_of text e) (found_lexeme text e).end else spelled text (found_lexeme text e)
 
 -- the tokens before, at and behind a fault, the bracket that is open there, what stands before it, and what before brackets that end
 unfoldable pub look_at : (text : List ℕ) → Error → Looked
 look_at text e = record {
-  earlier = before text e 2;
-  before = before text e 1;
+  earlier = text_before text e 2;
+  before = text_before text e 1;
   found = found_text text e;
   after = spelled text (lexeme_behind (outlined text) (found_at text e));
-  opener = bracket text (found text e).top;
+  opener = bracket text (found_lexeme text e).top;
   head = spelled text (lexeme_before (outlined text) (opener_of text e).lexeme 1);
   owner = spelled text (lexeme_before (outlined text) (opener_of text e).closed 1);
-  callee = spelled text (lexeme_before (outlined text) (found text e).closed 1);
+  callee = spelled text (lexeme_before (outlined text) (found_lexeme text e).closed 1);
   wanted = wanted_of e.kind;
   token = cut text e.span;
   is_end = is_at_end e.kind;

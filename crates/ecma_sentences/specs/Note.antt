@@ -10,7 +10,7 @@ use Rattle.swc_ecma_parser_error.specs.declared.kind.SyntaxError.TheOpen.{Syntax
 use Rattle.swc_ecma_parser_error.specs.Kind.{kind_of}
 use Rattle.ecma_outline.specs.Source.{lexeme_before}
 use Rattle.ecma_situations.specs.Looked.{Looked}
-use Rattle.ecma_sentences.specs.Look.{found, found_at, look_at, opener_of}
+use Rattle.ecma_sentences.specs.Look.{found_at, found_lexeme, look_at, opener_of}
 use Rattle.ecma_sentences.specs.Message.{situation_of}
 use Rattle.ecma_outline.specs.Outline.{outlined}
 use Rattle.ecma_sentences.specs.Payload.{inner_of}
@@ -54,8 +54,8 @@ at_opener text e l sentence = if length l.opener == 0 then None else at_bracket 
 -- the first bracket that one of another indentation closes, where it stands behind an offset
 abbrev pub at_misfit : (text : List ℕ) → Error → (low : ℕ) → Option (Span × List ℕ)
 at_misfit text e low =
-    if nat_le (found text e).misfit low then None
-    else at_bracket text (found text e).misfit (codes "the bracket that closes this has another indentation")
+    if nat_le (found_lexeme text e).misfit low then None
+    else at_bracket text (found_lexeme text e).misfit (codes "the bracket that closes this has another indentation")
 
 unfoldable pub or_else : Option (Span × List ℕ) → Option (Span × List ℕ) → Option (Span × List ℕ)
 or_else (Some note) other = Some note

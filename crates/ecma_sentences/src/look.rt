@@ -43,7 +43,7 @@ pub(crate) fn index_of(source: &Source<'_>, error: &Error) -> usize
 
 /// The token at a fault, or that behind it.
 pub(crate) fn lexeme_of(source: &Source<'_>, error: &Error) -> Lexeme
-    ensures { result ≡ spec.found source.now.text error.now }
+    ensures { result ≡ spec.found_lexeme source.now.text error.now }
 {
     source.lexeme(index_of(source, error))
 }
@@ -65,7 +65,7 @@ fn is_within(source: &Source<'_>, error: &Error) -> bool
 /// The token so many before a fault; where the fault is within a token what of that stands before it is the first of them.
 fn before<'a>(source: &Source<'a>, error: &Error, by: usize) -> &'a str
     requires { 1 ≤ by }
-    ensures { result.now ≡ spec.before source.now.text error.now by }
+    ensures { result.now ≡ spec.text_before source.now.text error.now by }
 {
     let n = index_of(source, error);
     if !is_within(source, error) {

@@ -4,7 +4,7 @@ ghost use Rattle.std.specs.Prelude.{◌≡◌};
 ghost use Rattle.ecma_situations.specs.Situation as spec;
 
 /// What stands at the place of a fault.
-#[derive(Clone, Copy, Debug, PartialEq, Eq)]
+#[derive(Clone, Copy)]
 pub enum Situation {
     /// What its kind says.
     Kind,
@@ -322,7 +322,7 @@ pub fn words(situation: Situation) -> &'static str
 }
 
 /// Where else to look.
-#[derive(Clone, Copy, Debug, PartialEq, Eq)]
+#[derive(Clone, Copy)]
 pub enum Beside {
     /// Nowhere.
     Nothing,

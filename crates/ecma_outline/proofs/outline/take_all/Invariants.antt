@@ -1,7 +1,7 @@
 -- What is read so far.
 use Rattle.std.proofs.Common.{◌≡◌, ◌≤◌, take}
 use Rattle.ecma_outline.specs.Outline.{scan, scanned, start}
-use Rattle.ecma_outline.proofs.outline.outline_of.Given as goal
+use Rattle.ecma_outline.proofs.outline.take_all.Given as goal
 
 abbrev pub invariant-loop-byte : goal.invariant-loop-byte
 invariant-loop-byte l = record {
