@@ -1,5 +1,5 @@
 -- How pieces of a text are read that hold no node.
-use Rattle.std.proofs.Common.{◌≡◌, ℕ, List, [], ◌∷◌, ◌++◌, ◌<◌, ◌%◌, ◌/◌, Bool, true, false, not, ◌&&◌, ◌||◌, ◌==◌, ◌^◌, zero, suc, drop, inl, inr, Option, Some, None, nat_lt, if◌then◌else◌, arith, refl, ap, ◌∙◌, append_assoc, codes, decimal, map, encode_utf8}
+use Rattle.std.proofs.Common.{◌≡◌, ℕ, List, [], ◌∷◌, ◌++◌, ◌+◌, ◌<◌, ◌%◌, ◌/◌, Bool, true, false, not, ◌&&◌, ◌||◌, ◌==◌, ◌^◌, zero, suc, drop, inl, inr, Option, Some, None, nat_lt, if◌then◌else◌, arith, refl, ap, ◌∙◌, append_assoc, codes, decimal, map, encode_utf8}
 use Rattle.std.specs.Fmt.{digits, digits_onto, digit_glyph}
 use Rattle.std.proofs.lemmas.Bool.Decides.{nat_tests, eqb_tells}
 use Rattle.std.specs.List.{flat_map}

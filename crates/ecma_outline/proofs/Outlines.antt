@@ -16,7 +16,7 @@ pub scan_more : (text : List ℕ) (i : ℕ) (r : Scanned) → i < length text �
 scan_more text i r h e = ap (λ q. step q (get_or text i 0)) e ∙ sym (scan_push start (take i text) (get_or text i 0)) ∙ ap (scan start) (sym (take_more text i 0 h))
 
 pub scan_all : (text : List ℕ) (i : ℕ) (r : Scanned) → length text ≤ i → r ≡ scan start (take i text) → r ≡ scan start text
-scan_all text i r h e = e ∙ ap (scan start) (take_all text i h)
+scan_all text i r h e = e ∙ ap (scan start) (take_all i text h)
 
 -- what is kept at the end
 pub finished : (text : List ℕ) (s t : State) (o p q : Outline) → scanned s o ≡ scan start text → scanned t p ≡ step (scanned s o) 10
