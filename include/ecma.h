@@ -55,10 +55,12 @@ typedef struct EcmaOptions {
     uint32_t goal;  /* ECMA_SCRIPT, ECMA_MODULE or ECMA_PROGRAM */
     uint32_t limit; /* how many levels deep the text may nest; more than 1,000 count as 1,000 */
     uint32_t flags; /* the sum of those that are wanted */
+    uint32_t max_faults; /* how many recorded faults are told at most, and 0 for all; why there is no tree is told in any case */
 } EcmaOptions;
 
 /* The tree and the faults of a text as one object of JSON, `{"tree":..,"faults":[..]}`: the tree as ESTree, or null; the faults in the form
- * of `ecma-check --format json`, with an empty `file`. `needed` becomes how many bytes that has, also where `room` is less. */
+ * of `ecma-check --format json`, with an empty `file`. Where more faults were recorded than are asked for, a field `more` says how many more.
+ * `needed` becomes how many bytes that has, also where `room` is less. */
 int32_t ecma_parse(const uint8_t *text, size_t length, const EcmaOptions *options, uint8_t *out, size_t room, size_t *needed);
 
 /* The tree alone, as ESTree; nothing where there is none. */
@@ -83,13 +85,14 @@ typedef struct EcmaFault {
     uint64_t is_refusal; /* 1 for why there is no tree, which comes last; else 0 */
 } EcmaFault;
 
-/* How many faults there are, and how many bytes their words have. */
+/* How many faults are told, how many bytes their words have, and how many more faults were recorded. */
 typedef struct EcmaNeeded {
     size_t faults;
     size_t words;
+    size_t more;
 } EcmaNeeded;
 
-/* The faults of a text one by one. `needed` becomes how much room they take, also where there is less. */
+/* The faults of a text one by one: those that were recorded, as many as are asked for, and why there is no tree. `needed` becomes how much room they take, also where there is less. */
 int32_t ecma_parse_faults(const uint8_t *text, size_t length, const EcmaOptions *options, EcmaFault *faults, size_t fault_room,
                           uint8_t *words, size_t word_room, EcmaNeeded *needed);
 

@@ -19,31 +19,86 @@ const EXTRAS = { locations: 0x100, ranges: 0x200, comments: 0x400, tokens: 0x800
 const DEFAULT_LIMIT = 300;
 const MAX_LIMIT = 1000;
 
+/** The greatest number of 32 bits. */
+const MOST = 2 ** 32 - 1;
+
+/** The first buffer has so many bytes for each byte of text, up to the greatest; the answer says what is needed beyond. */
+const GUESS = { bytes: 16, extras: 32, least: 4096, most: 256 * 1024 * 1024 };
+
 const FAILURES = {
   '-2': 'memory ran out',
   '-4': 'the text is too long',
 };
 
-/** The three numbers that the parser takes. */
-function numbersOf({ sourceType = 'program', limit = DEFAULT_LIMIT, flags = [], ...extras } = {}) {
-  const goal = GOALS[sourceType];
-  if (goal === undefined) throw new TypeError(`sourceType is 'script', 'module' or 'program', not ${sourceType}`);
-  if (!Number.isInteger(limit) || limit < 0 || limit > MAX_LIMIT) throw new RangeError(`limit is 0 to ${MAX_LIMIT}, not ${limit}`);
+/** acorn's options that are taken, each with what is done with a value: `npm/README.md` has the table. */
+const ACORN = {
+  ecmaVersion: value => value === 'latest' || (Number.isInteger(value) && value >= 3),
+  sourceFile: value => typeof value === 'string' || value == null,
+  directSourceFile: value => typeof value === 'string' || value == null,
+  onComment: value => isSink(value),
+  onToken: value => isSink(value),
+  throwFaults: value => isFlag(value),
+  allowHashBang: value => isFlag(value),
+  allowReturnOutsideFunction: value => isFlag(value),
+  allowReserved: value => !value,
+  allowImportExportEverywhere: value => !value,
+  allowAwaitOutsideFunction: value => !value,
+  allowSuperOutsideMethod: value => isFlag(value),
+  checkPrivateFields: value => isFlag(value),
+  preserveParens: value => !value,
+  strict: value => !value,
+  program: value => value == null,
+  onInsertedSemicolon: value => value == null,
+  onTrailingComma: value => value == null,
+};
+
+const isFlag = value => value === undefined || value === null || typeof value === 'boolean';
+
+const isSink = value => value == null || typeof value === 'function' || Array.isArray(value);
+
+function shown(value) {
+  return typeof value === 'string' ? `'${value}'` : String(value);
+}
+
+/** The bits of the options that are flags. */
+function bitsOf(flags, rest) {
   let bits = 0;
   for (const flag of flags) {
-    if (!Object.hasOwn(FLAGS, flag)) throw new TypeError(`there is no flag ${flag}`);
+    if (!Object.hasOwn(FLAGS, flag)) throw new TypeError(`there is no flag ${shown(flag)}`);
     bits |= FLAGS[flag];
   }
-  for (const [name, wanted] of Object.entries(extras)) {
-    if (!Object.hasOwn(EXTRAS, name)) throw new TypeError(`there is no option ${name}`);
-    if (wanted) bits |= EXTRAS[name];
+  for (const [name, value] of Object.entries(rest)) {
+    if (Object.hasOwn(EXTRAS, name)) {
+      if (value) bits |= EXTRAS[name];
+    } else if (!Object.hasOwn(ACORN, name)) {
+      throw new TypeError(`there is no option ${name}`);
+    } else if (!ACORN[name](value)) {
+      throw new TypeError(`the option ${name} cannot be ${shown(value)} here`);
+    }
   }
-  return { goal, limit, bits };
+  if (rest.allowReturnOutsideFunction) bits |= FLAGS.allowReturnOutsideFunction;
+  if (rest.onComment) bits |= EXTRAS.comments;
+  if (rest.onToken) bits |= EXTRAS.tokens;
+  return bits;
+}
+
+/** How many faults of a text are told. */
+const DEFAULT_FAULTS = 1000;
+
+/** The numbers that the parser takes. */
+function numbersOf(options = {}) {
+  if (typeof options !== 'object' || options === null) throw new TypeError(`options are an object, not ${shown(options)}`);
+  const { sourceType = 'program', limit = DEFAULT_LIMIT, maxFaults = DEFAULT_FAULTS, flags = [], ...rest } = options;
+  if (!Object.hasOwn(GOALS, sourceType)) throw new TypeError(`sourceType is 'script', 'module' or 'program', not ${shown(sourceType)}`);
+  if (!Number.isInteger(limit) || limit < 0 || limit > MAX_LIMIT) throw new RangeError(`limit is 0 to ${MAX_LIMIT}, not ${shown(limit)}`);
+  if (!Number.isInteger(maxFaults) || maxFaults < 0 || maxFaults > MOST) throw new RangeError(`maxFaults is 0 to ${MOST}, not ${shown(maxFaults)}`);
+  if (!Array.isArray(flags)) throw new TypeError(`flags are a list of names, not ${shown(flags)}`);
+  return { goal: GOALS[sourceType], limit, bits: bitsOf(flags, rest), most: maxFaults };
 }
 
 /** How many bytes of answer are guessed, so that one call mostly does. */
 function guessOf(length, bits) {
-  return 4096 + length * (bits & 0xf00 ? 128 : 64);
+  return GUESS.least + Math.min(GUESS.most, length * (bits & 0xf00 ? GUESS.extras : GUESS.bytes));
 }
 
 /** A place as acorn tells it: a line from 1, a column from 0. */
@@ -51,28 +106,34 @@ const place = (line, column) => ({ line, column: column - 1 });
 
 function faultOf(told) {
   const { kind, message, start, end, byteStart, byteEnd, line, column, endLine, endColumn, note } = told;
-  const fault = { kind, message, start, end, byteStart, byteEnd, loc: { start: place(line, column), end: place(endLine, endColumn) } };
+  const words = kind === 'TooDeep' ? 'this nests deeper than the `limit`, which is at most 1000 levels' : message;
+  const fault = { kind, message: words, start, end, byteStart, byteEnd, loc: { start: place(line, column), end: place(endLine, endColumn) } };
   if (note) fault.note = faultOf(note);
   return fault;
 }
 
-/** Why there is no tree, as acorn throws it. */
-function errorOf({ kind, message, start, end, loc }, faults) {
+/** Why there is no tree, or the first fault, as acorn throws it. */
+function errorOf({ kind, message, start, end, byteStart, byteEnd, loc, note }, faults) {
   const error = new SyntaxError(`${message} (${loc.start.line}:${loc.start.column})`);
-  return Object.assign(error, { kind, pos: start, end, loc: loc.start, raisedAt: end, faults });
+  const fields = { kind, pos: start, end, byteStart, byteEnd, loc: loc.start, endLoc: loc.end, raisedAt: end, faults };
+  return Object.assign(error, note ? { ...fields, note } : fields);
 }
 
-/** Gives literals the values that JSON has no form for. */
-function restore(node) {
-  const waiting = [node];
+/** Calls a function with each node of a tree, from the root on. */
+function each(root, visit) {
+  const waiting = [root];
   while (waiting.length > 0) {
     const it = waiting.pop();
-    if (it.type === 'Literal' && it.value === null) {
-      if (it.bigint !== undefined) it.value = BigInt(it.bigint);
-      else if (it.raw !== 'null') it.value = Number(it.raw.replaceAll('_', ''));
-    }
+    if (typeof it.type === 'string') visit(it);
     for (const part of Object.values(it)) if (typeof part === 'object' && part !== null) waiting.push(part);
   }
+}
+
+/** Gives big integers their values, which JSON has no form for. */
+function restore(tree) {
+  each(tree, node => {
+    if (node.bigint !== undefined) node.value = BigInt(node.bigint);
+  });
 }
 
 /** Why there is no answer, where that is so. */
@@ -85,13 +146,36 @@ function failureOf(status) {
 function resultOf(status, json) {
   const failure = failureOf(status);
   if (failure) throw failure;
-  const { tree, faults: told } = JSON.parse(json);
+  const { tree, faults: told, more } = JSON.parse(json);
   const faults = told.map(faultOf);
   if (tree === null) throw errorOf(faults.pop(), faults);
-  if (json.includes('"value":null,"raw":"0') || json.includes('"bigint":"')) restore(tree);
-  return { tree, faults };
+  if (json.includes('"bigint":"')) restore(tree);
+  return more ? { tree, faults, more } : { tree, faults };
 }
 
-const answers = { numbersOf, guessOf, faultOf, failureOf, restore, resultOf };
+/** What acorn's options ask for besides, done on the finished tree. */
+function finished(result, options = {}) {
+  const { tree, faults } = result;
+  const { sourceFile, directSourceFile, onComment, onToken, throwFaults } = options;
+  if (throwFaults && faults.length > 0) throw errorOf(faults[0], faults);
+  if (sourceFile || directSourceFile) {
+    each(tree, node => {
+      if (sourceFile && node.loc) node.loc.source = sourceFile;
+      if (directSourceFile) node.sourceFile = directSourceFile;
+    });
+  }
+  hand(tree, 'comments', onComment, options, it => [it.type === 'Block', it.value, it.start, it.end, it.loc?.start, it.loc?.end]);
+  hand(tree, 'tokens', onToken, options, it => [it]);
+  return result;
+}
+
+/** Hands out comments or tokens to a list or a function, as acorn does. */
+function hand(tree, name, sink, options, wordsOf) {
+  if (!sink) return;
+  for (const it of tree[name]) Array.isArray(sink) ? sink.push(it) : sink(...wordsOf(it));
+  if (!options[name]) delete tree[name];
+}
+
+const answers = { FLAGS, numbersOf, guessOf, faultOf, failureOf, restore, resultOf, finished };
 
 if (typeof module !== 'undefined') module.exports = answers;

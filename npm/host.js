@@ -4,13 +4,30 @@
 /** An instance that has grown beyond this is let go behind its call. 100 KB of text take up to 75 MB, which a new instance would have to grow again. */
 const KEPT_BYTES = 128 * 1024 * 1024;
 
-/** Room for what is asked for (three numbers of 32 bits), and behind it for the length of the answer. */
+/** The options, four numbers of 32 bits of which the last has all faults told, and behind them the length of the answer. */
 const OPTIONS = 16;
 
-/** A function that answers the status of a text, and its tree and faults as JSON, in bytes and as text: both are to be read before the next call. */
-function host(module, guessOf, memory) {
+const STATUS_TOO_SHORT = -1;
+const STATUS_OUT_OF_MEMORY = -2;
+
+/** The engine's stack, or the module's part of it, ended before the text did. */
+class StackOverflowError extends RangeError {
+  constructor(cause) {
+    super('the text nests too deep for the stack of this engine; ask for a lower `limit`', { cause });
+    this.name = 'StackOverflowError';
+  }
+}
+
+/**
+ * A function that answers the status of a text, and its tree and faults as JSON, in bytes and as text: both are to be read before the next call.
+ *
+ * @param {WebAssembly.Module} module
+ * @param {(length: number, bits: number) => number} guessOf how many bytes of answer are guessed
+ * @param {number} [memory] how many bytes the module's memory may grow to
+ * @param {(bytes: Uint8Array) => string} [decode] makes a string of UTF-8
+ */
+function host(module, guessOf, memory, decode = bytes => new TextDecoder().decode(bytes)) {
   const encoder = new TextEncoder();
-  const decoder = new TextDecoder();
   let instance = null;
 
   const started = () => {
@@ -19,18 +36,32 @@ function host(module, guessOf, memory) {
     return made;
   };
 
-  /** One call, in a room of so many bytes. */
-  function called(it, text, { goal, limit, bits }, room) {
+  /** An address of the module, which counts in 64 bits outside of loads and stores. */
+  const room = (it, bytes) => Number(BigInt.asUintN(32, it.ecma_room(BigInt(bytes))));
+
+  /** One call, in a buffer of so many bytes. */
+  function called(it, text, { goal, limit, bits, most = 0 }, bytes) {
     it.ecma_reset();
-    const at = it.ecma_room(BigInt(OPTIONS + 8));
-    const from = it.ecma_room(BigInt(text.length + 1));
-    const to = it.ecma_room(BigInt(room));
-    if (at === 0n || from === 0n || to === 0n) return { status: -2, needed: 0, bytes: new Uint8Array(0) };
-    new Uint8Array(it.memory.buffer).set(text, Number(from));
-    new Uint32Array(it.memory.buffer, Number(at), 3).set([goal, limit, bits]);
-    const status = it.ecma_parse(from, BigInt(text.length), at, to, BigInt(room), at + BigInt(OPTIONS));
-    const needed = Number(new BigUint64Array(it.memory.buffer, Number(at) + OPTIONS, 1)[0]);
-    return { status, needed, bytes: new Uint8Array(it.memory.buffer, Number(to), status < 0 ? 0 : needed) };
+    const at = room(it, OPTIONS + 8);
+    const from = room(it, text.length + 1);
+    const to = room(it, bytes);
+    if (at === 0 || from === 0 || to === 0) return { status: STATUS_OUT_OF_MEMORY, needed: 0, bytes: new Uint8Array(0) };
+    new Uint8Array(it.memory.buffer).set(text, from);
+    new Uint32Array(it.memory.buffer, at, 4).set([goal, limit, bits, most]);
+    const addresses = [from, text.length, at, to, bytes, at + OPTIONS].map(BigInt);
+    const status = it.ecma_parse(...addresses);
+    const needed = Number(new BigUint64Array(it.memory.buffer, at + OPTIONS, 1)[0]);
+    return { status, needed, bytes: new Uint8Array(it.memory.buffer, to, status < 0 ? 0 : needed) };
+  }
+
+  /** The same, with an error of its own where a stack ends. */
+  function guarded(it, text, numbers, bytes) {
+    try {
+      return called(it, text, numbers, bytes);
+    } catch (error) {
+      if (error instanceof WebAssembly.RuntimeError || /stack|recursion/i.test(error?.message)) throw new StackOverflowError(error);
+      throw error;
+    }
   }
 
   return function answer(source, numbers) {
@@ -38,11 +69,13 @@ function host(module, guessOf, memory) {
     const it = instance ?? started();
     // A trap, as by a stack that overflows, leaves no instance behind.
     instance = null;
-    let found = called(it, text, numbers, guessOf(text.length, numbers.bits));
-    if (found.status === -1) found = called(it, text, numbers, found.needed);
+    let found = guarded(it, text, numbers, guessOf(text.length, numbers.bits));
+    if (found.status === STATUS_TOO_SHORT) found = guarded(it, text, numbers, found.needed);
     if (it.memory.buffer.byteLength <= KEPT_BYTES) instance = it;
-    return { status: found.status, bytes: found.bytes, get json() { return decoder.decode(found.bytes); } };
+    return { status: found.status, bytes: found.bytes, get json() { return decode(found.bytes); } };
   };
 }
+
+host.StackOverflowError = StackOverflowError;
 
 if (typeof module !== 'undefined') module.exports = host;

@@ -1,3 +1,7 @@
+import type { Node, Program } from './estree';
+
+export * from './estree';
+
 /** What is read besides ECMA-262. */
 export type Flag =
   | 'decorators'
@@ -13,6 +17,8 @@ export interface Options {
   sourceType?: 'script' | 'module' | 'program';
   /** How many levels deep the text may nest: 300 by default, which fit Node's stack; 200 fit a worker's in a browser; 1,000 at most. */
   limit?: number;
+  /** How many faults are told at most: 1,000 by default, and 0 for all. Why there is no tree is told in any case. */
+  maxFaults?: number;
   flags?: Flag[];
   /** Whether nodes have `loc`: lines from 1, columns from 0. */
   locations?: boolean;
@@ -22,23 +28,26 @@ export interface Options {
   comments?: boolean;
   /** Whether the tree has `tokens`. */
   tokens?: boolean;
+  /** Whether the first fault is thrown, as acorn throws a `SyntaxError`, in the place of a list of faults. */
+  throwFaults?: boolean;
+
+  // acorn's options. README.md has a table of them: what is not named here is a TypeError.
+  /** Any edition; the newest is read, whatever the number. */
+  ecmaVersion?: number | 'latest';
+  /** The `source` of each `loc`. */
+  sourceFile?: string | null;
+  /** The `sourceFile` of each node. */
+  directSourceFile?: string | null;
+  onComment?: Piece[] | ((isBlock: boolean, text: string, start: number, end: number, startLoc?: Position, endLoc?: Position) => void) | null;
+  onToken?: Piece[] | ((token: Piece) => void) | null;
+  allowHashBang?: boolean;
+  allowReturnOutsideFunction?: boolean;
 }
 
 /** A line from 1 and a column from 0, in code units of UTF-16. */
 export interface Position {
   line: number;
   column: number;
-}
-
-/** A node of ESTree in acorn's form, with the fields of its type. */
-export interface Node {
-  type: string;
-  /** In code units of UTF-16. */
-  start: number;
-  end: number;
-  loc?: { start: Position; end: Position };
-  range?: [number, number];
-  [field: string]: unknown;
 }
 
 /** A comment or a token, in espree's form. */
@@ -49,14 +58,6 @@ export interface Piece {
   end: number;
   loc?: { start: Position; end: Position };
   range?: [number, number];
-}
-
-export interface Program extends Node {
-  type: 'Program';
-  body: Node[];
-  sourceType: 'script' | 'module';
-  comments?: Piece[];
-  tokens?: Piece[];
 }
 
 export interface Fault {
@@ -82,17 +83,34 @@ export interface Refusal extends SyntaxError {
   pos: number;
   end: number;
   raisedAt: number;
+  byteStart: number;
+  byteEnd: number;
   loc: Position;
+  endLoc: Position;
+  note?: Fault['note'];
   /** The faults that were recorded before. */
   faults: Fault[];
 }
 
+/** The stack of the engine ended before the text did: it nests deeper than fits. Ask for a lower `limit`, or for a greater stack. */
+export class StackOverflowError extends RangeError {}
+
 /**
  * The tree of a text as ESTree, in acorn's form, and the faults beside it: none where the text is a script, a module or a program of the
- * language.
+ * language. Where there are more faults than `maxFaults`, `more` says how many.
  *
- * @throws {Refusal} where there is no tree
- * @throws {RangeError} where memory runs out, the text has more than 2^32 - 1 bytes, or an option is out of range
- * @throws {TypeError} where an option is not known
+ * @throws {Refusal} where there is no tree, or, with `throwFaults`, where there is a fault
+ * @throws {StackOverflowError} where the engine's stack ends
+ * @throws {RangeError} where memory runs out, the text has more than 2^32 - 1 bytes, or `limit` or `maxFaults` is out of range
+ * @throws {TypeError} where the text is no string, or an option is not known or has a value that is not taken
  */
-export function parse(text: string, options?: Options): { tree: Program; faults: Fault[] };
+export function parse(text: string, options?: Options): { tree: Program; faults: Fault[]; more?: number };
+
+/** The fields of each kind of node that hold nodes, in the order of the text. */
+export const visitorKeys: Record<Node['type'], string[]>;
+
+/** Calls `enter` before the parts of a node and `leave` behind them. Where `enter` answers `false` the parts are left out. */
+export function walk(root: Node, visitor: { enter?(node: Node, parent: Node | null): unknown; leave?(node: Node, parent: Node | null): unknown }): void;
+
+/** The version of the package. In `browser.mjs` there is none. */
+export const version: string;

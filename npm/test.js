@@ -59,6 +59,12 @@ test('a literal has its value where JSON has no form for it', () => {
   assert.deepStrictEqual(tree.body.map(it => it.expression.value), [10n, 2 ** 64, null]);
 });
 
+test('values are those of JavaScript', () => {
+  const literals = ["'\\ud83d'", "'\\ud83d\\ude00'", "'a\\ude00\\ud83d'", "'\\ufffd\\u{d83d}'", '0x20000000000001', '0b1' + '0'.repeat(1024), '0xffffffffffffffffffn'];
+  const { tree } = parse(`[${literals}]`);
+  assert.deepStrictEqual(tree.body[0].expression.elements.map(it => it.value), eval(`[${literals}]`));
+});
+
 test('a flag turns a proposal on', () => {
   assert.ok(parse('return', { flags: ['allowReturnOutsideFunction'] }).faults.length === 0);
   assert.throws(() => parse('a', { flags: ['none'] }), TypeError);
@@ -92,4 +98,112 @@ test('want of memory is told, however little there is', () => {
   }
   assert.ok(found.length > 10);
   assert.throws(() => resultOf(-2, ''), RangeError);
+});
+
+test('what is no string, and options that are not known, are told in words', () => {
+  assert.throws(() => parse(undefined), { name: 'TypeError', message: 'the text is a string, not undefined' });
+  assert.throws(() => parse(null), { name: 'TypeError', message: 'the text is a string, not null' });
+  assert.throws(() => parse('a', null), { name: 'TypeError', message: 'options are an object, not null' });
+  assert.throws(() => parse('a', { startOffset: 1 }), { name: 'TypeError', message: 'there is no option startOffset' });
+  assert.throws(() => parse('a', { preserveParens: true }), { name: 'TypeError', message: 'the option preserveParens cannot be true here' });
+  assert.throws(() => parse('a', { sourceType: 'toString' }), { name: 'TypeError' });
+  assert.throws(() => parse('a', { flags: 'decorators' }), { name: 'TypeError' });
+});
+
+test("acorn's options are taken", () => {
+  const comments = [];
+  const called = [];
+  const options = { ecmaVersion: 2022, sourceType: 'script', locations: true, sourceFile: 'a.js', directSourceFile: 'b.js' };
+  const { tree } = parse('a // b', { ...options, onComment: comments });
+  assert.deepStrictEqual(comments.map(it => [it.type, it.value, it.start]), [['Line', ' b', 2]]);
+  assert.strictEqual(tree.comments, undefined);
+  assert.strictEqual(tree.body[0].loc.source, 'a.js');
+  assert.strictEqual(tree.body[0].expression.sourceFile, 'b.js');
+  parse('/* c */ a', { ...options, onComment: (...words) => called.push(words), onToken: it => called.push(it.value) });
+  assert.deepStrictEqual(called, [[true, ' c ', 0, 7, { line: 1, column: 0 }, { line: 1, column: 7 }], 'a']);
+  assert.deepStrictEqual(parse('return', { sourceType: 'script', allowReturnOutsideFunction: true }).faults, []);
+  assert.throws(() => parse('#!a', { allowHashBang: false }), SyntaxError);
+});
+
+test('the first fault is thrown where that is asked for', () => {
+  assert.throws(() => parse('a; break; continue', { sourceType: 'script', throwFaults: true }), error => {
+    assert.ok(error instanceof SyntaxError);
+    assert.strictEqual(error.pos, 3);
+    assert.deepStrictEqual(error.loc, { line: 1, column: 3 });
+    assert.strictEqual(error.faults.length, 2);
+    return true;
+  });
+});
+
+test('it stands in the place of acorn', () => {
+  const acorn = require('./acorn.js');
+  assert.strictEqual(acorn.parse('a', { ecmaVersion: 2020 }).body[0].type, 'ExpressionStatement');
+  assert.throws(() => acorn.parse('break'), SyntaxError);
+  assert.throws(() => acorn.tokenizer('a'), TypeError);
+});
+
+test('a walk takes no stack, and leaves out what it is told to', () => {
+  const { walk, visitorKeys } = require('./index.js');
+  const { tree } = parse(`a${' + a'.repeat(100000)}; f(b)`, { sourceType: 'script' });
+  const seen = {};
+  walk(tree, {
+    enter(node) {
+      seen[node.type] = (seen[node.type] ?? 0) + 1;
+      return node.type !== 'CallExpression';
+    },
+  });
+  assert.deepStrictEqual(seen, { Program: 1, ExpressionStatement: 2, BinaryExpression: 100000, Identifier: 100001, CallExpression: 1 });
+  const left = [];
+  walk(parse('if (a) b', { sourceType: 'script' }).tree, { leave: (node, parent) => left.push(`${node.type} in ${parent?.type}`) });
+  assert.deepStrictEqual(left, ['Identifier in IfStatement', 'Identifier in ExpressionStatement', 'ExpressionStatement in IfStatement',
+    'IfStatement in Program', 'Program in undefined']);
+  assert.deepStrictEqual(visitorKeys.ForOfStatement, ['left', 'right', 'body']);
+});
+
+test('the entry for browsers reads what the entry for Node reads, once the module is loaded', async () => {
+  const browser = await import('./browser.mjs');
+  assert.throws(() => browser.parse('a'), /await load\(\) first/);
+  await browser.load(fs.readFileSync(path.join(__dirname, 'ecma.wasm')));
+  assert.deepStrictEqual(browser.parse('let a = 1n', { locations: true }), parse('let a = 1n', { locations: true }));
+});
+
+test('a stack that ends is an error of its own', () => {
+  const text = 'x='.concat('[a][a++,'.repeat(1000));
+  try {
+    parse(text, { sourceType: 'script', limit: 1000 });
+    assert.fail('a tree of what is never closed');
+  } catch (error) {
+    assert.ok(error.name === 'StackOverflowError' || error.kind !== undefined, error);
+    assert.ok(!error.message.includes('--limit'));
+  }
+  assert.strictEqual(parse('a').tree.type, 'Program');
+});
+
+test('a text of ASCII can have values that are not', () => {
+  const { tree } = parse("'\\u00e4\\u{1f600}'", { sourceType: 'script' });
+  assert.strictEqual(tree.body[0].expression.value, '\u00e4\u{1f600}');
+});
+
+test('the command reports faults, trees and what it cannot read, each with its status', () => {
+  const { spawnSync } = require('node:child_process');
+  const run = (input, ...words) => spawnSync(process.execPath, [path.join(__dirname, 'bin/pofashere.js'), ...words], { input, encoding: 'utf8', maxBuffer: 1 << 30 });
+  const clean = run('a', '--script');
+  assert.deepStrictEqual([clean.status, clean.stdout, clean.stderr], [0, 'files: 1, faults: 0, refused: 0, unread: 0\n', '']);
+  const faulty = run('\tbreak', '--script');
+  assert.strictEqual(faulty.status, 1);
+  assert.match(faulty.stdout, /^-:1:2: fault: .*\n\tbreak\n\t\^\^\^\^\^\n/);
+  const refused = run('a b', '--format', 'json');
+  assert.strictEqual(refused.status, 2);
+  assert.strictEqual(JSON.parse(refused.stdout).severity, 'refused');
+  const tree = run(`a${' + a'.repeat(100000)}`, '--format', 'estree', '--script');
+  assert.strictEqual(tree.status, 0);
+  assert.ok(tree.stdout.startsWith('{"type":"Program","start":0,'));
+  assert.strictEqual(run('break; break; break', '--script', '--max-faults', '1').stdout.match(/fault:/g).length, 1);
+  for (const words of [['--format', 'no'], ['--limit', 'x'], ['--enable', 'no'], ['--script', '--module'], ['--no']]) {
+    const failed = run('', ...words);
+    assert.strictEqual(failed.status, 3);
+    assert.ok(failed.stderr.startsWith('pofashere: '));
+  }
+  const unread = run('', 'nowhere/nofile.js');
+  assert.deepStrictEqual([unread.status, unread.stderr], [3, 'nowhere/nofile.js: there is no such file\n']);
 });

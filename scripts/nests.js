@@ -3,7 +3,7 @@
 // `pairs` for each of two, and for the worst texts of scripts/worst_pairs.tsv. An overflow is an error of the engine, never a wrong answer;
 // the package's own limit is to be well below the least of these.
 //
-// usage: node [--experimental-wasm-memory64] [--stack-size=KB] scripts/nests.js [check | stack] [pairs] [addon]
+// usage: node [--stack-size=KB] scripts/nests.js [check | stack] [pairs] [addon]
 //
 // With `check` it says which nests overflow at the limit that is the package's default. With `check addon` the addon that ECMA_ADDON names
 // answers within 1,000 levels; an overflow ends the process there, so what is to be seen is that it ends by itself. With `stack` it says which
@@ -108,7 +108,7 @@ function stackOf(module, text, limit) {
   it.ecma_reset();
   const [at, from, to] = [it.ecma_room(options + 8n), it.ecma_room(BigInt(text.length + 1)), it.ecma_room(room)];
   new Uint8Array(it.memory.buffer).set(text, Number(from));
-  new Uint32Array(it.memory.buffer, Number(at), 3).set([0, limit, 0]);
+  new Uint32Array(it.memory.buffer, Number(at), 4).set([0, limit, 0, 0]);
   it.ecma_parse(from, BigInt(text.length), at, to, room, at + options);
   const words = new Uint32Array(it.memory.buffer, 0, STACK / 4);
   let untouched = 0;

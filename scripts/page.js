@@ -1,7 +1,7 @@
 'use strict';
 // Drives the page in web/ in a headless Chromium, by its pipe for debugging: keys, clicks, answers, a picture.
 //
-// usage: node [--experimental-wasm-memory64] scripts/page.js [--picture FILE] [--times] [--most MS] [--requests FILE]
+// usage: node scripts/page.js [--picture FILE] [--times] [--most MS] [--requests FILE]
 //
 // It types, opens the tree, clicks a fault, loads the page anew, has memory run out, tries what nests, and measures how long texts of 100 KB take
 // from a key to their answer. With --times it only measures; with --most it fails where a usual text takes longer, which says something on a quiet

@@ -49,6 +49,8 @@ static int32_t tell(const uint8_t *text, size_t length, const EcmaOptions *optio
                it->is_refusal ? "refused" : "fault", (int)it->kind_length, (const char *)words + it->kind_at, (int)it->message_length,
                (const char *)words + it->message_at);
     }
+    if (status >= 0 && needed.more > 0)
+        printf("and %zu more\n", needed.more);
     free(faults);
     free(words);
     return status;
@@ -75,7 +77,7 @@ static int32_t write_tree(const uint8_t *text, size_t length, const EcmaOptions 
 
 int main(int count, char **words)
 {
-    EcmaOptions options = {ECMA_PROGRAM, 1000, 0};
+    EcmaOptions options = {ECMA_PROGRAM, 1000, 0, 1000};
     if (count > 1)
         options.goal = !strcmp(words[1], "script") ? ECMA_SCRIPT : !strcmp(words[1], "module") ? ECMA_MODULE : ECMA_PROGRAM;
     size_t length;

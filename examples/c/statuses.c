@@ -36,7 +36,7 @@ static void check(int holds, const char *what)
 }
 
 enum { ROOM = 4096 };
-static const EcmaOptions SCRIPT = {ECMA_SCRIPT, 1000, 0};
+static const EcmaOptions SCRIPT = {ECMA_SCRIPT, 1000, 0, 0};
 static uint8_t out[ROOM];
 static size_t needed;
 
@@ -47,7 +47,7 @@ static int32_t tree(const char *text, const EcmaOptions *options, size_t room)
 
 static void statuses(void)
 {
-    const EcmaOptions shallow = {ECMA_SCRIPT, 2, 0}, no_goal = {3, 1000, 0}, no_flag = {ECMA_SCRIPT, 1000, 0x80};
+    const EcmaOptions shallow = {ECMA_SCRIPT, 2, 0, 0}, no_goal = {3, 1000, 0, 0}, no_flag = {ECMA_SCRIPT, 1000, 0x80, 0};
     check(tree("a", &SCRIPT, ROOM) == ECMA_CLEAN, "a clean script");
     check(tree("break", &SCRIPT, ROOM) == ECMA_FAULTY, "a script with a fault");
     check(tree("a b", &SCRIPT, ROOM) == ECMA_REFUSED && needed == 0, "a script without a tree");
@@ -87,12 +87,29 @@ static void faults(void)
     check(status == ECMA_TOO_SHORT, "a byte of words too few");
 }
 
+/* No more faults are told than are asked for, and why there is no tree besides. */
+static void most(void)
+{
+    const EcmaOptions one = {ECMA_SCRIPT, 1000, 0, 1};
+    EcmaFault list[4];
+    EcmaNeeded room;
+    uint8_t words[1024];
+    const char *text = "break; break; break; a b";
+    int32_t status = ecma_parse_faults((const uint8_t *)text, strlen(text), &one, list, 4, words, sizeof words, &room);
+    check(status == ECMA_REFUSED && room.faults == 2 && room.more == 2, "one fault of three");
+    check(!list[0].is_refusal && list[0].start.byte == 0 && list[1].is_refusal, "the first and the last");
+    status = ecma_parse_faults((const uint8_t *)text, strlen(text), &SCRIPT, list, 4, words, sizeof words, &room);
+    check(status == ECMA_REFUSED && room.faults == 4 && room.more == 0, "all faults");
+    status = ecma_parse((const uint8_t *)text, strlen(text), &one, out, ROOM, &needed);
+    check(status == ECMA_REFUSED && needed > 11 && !memcmp(out + needed - 11, "],\"more\":2}", 11), "how many more");
+}
+
 /* Each call, as its requests of memory fail from one on: it says so or answers as ever. */
 static void memory(void)
 {
     const char *text = "/* a */ function f(b, {c}) { return `x` } break; var d = [1, 'e'], g = class { h() {} }";
     const char *clean = "/* a */ function f(b, {c}) { return b + c } break; var d = [1, 'e'], g = class { h() {} }";
-    const EcmaOptions all = {ECMA_PROGRAM, 1000, ECMA_LOCATIONS | ECMA_RANGES | ECMA_COMMENTS | ECMA_TOKENS};
+    const EcmaOptions all = {ECMA_PROGRAM, 1000, ECMA_LOCATIONS | ECMA_RANGES | ECMA_COMMENTS | ECMA_TOKENS, 0};
     static uint8_t wanted[1 << 16], found[1 << 16];
     for (int which = 0; which < 2; which++) {
         const char *it = which ? text : clean;
@@ -119,6 +136,7 @@ int main(void)
     statuses();
     rooms();
     faults();
+    most();
     memory();
     return failures > 0;
 }

@@ -1,15 +1,16 @@
 // Trees by acorn.
 'use strict';
 const acorn = require('acorn');
+const { treeFrom } = require('./revived');
 
-// The tree of a text, as it would come back from JSON, with the fields that the words ask for as they ask `ecma-check`.
+// The tree of a text, as it comes back from JSON and with its big integers, with the fields that the words ask for as they ask `ecma-check`.
 function acornTree(text, goal, words = []) {
     const comments = [], tokens = [];
     const settings = { ecmaVersion: 'latest', sourceType: goal, allowHashBang: true, ranges: words.includes('--ranges') };
     const whole = { ...acorn.parse(text, { ...settings, onComment: comments, onToken: tokens }) };
     if (words.includes('--comments')) whole.comments = comments;
     if (words.includes('--tokens')) whole.tokens = tokens;
-    return JSON.parse(JSON.stringify(whole, (_, value) => (typeof value === 'bigint' ? null : value)));
+    return treeFrom(JSON.stringify(whole, (_, value) => (typeof value === 'bigint' ? null : value)));
 }
 
 function readsAcorn(text, goal) {

@@ -1,6 +1,7 @@
 // Runs `ecma-check` over a text. ECMA_CHECK says where it is, or else it is looked for as a command.
 'use strict';
 const { spawnSync } = require('child_process');
+const { treeFrom } = require('./revived');
 
 // A text without a tree: `kind` is the kind of the fault that ended its reading.
 class Refusal extends Error {
@@ -22,7 +23,7 @@ function treeOf(text, goal, words = []) {
     const done = spawnSync(program, all, { input: text, maxBuffer: 1 << 30 });
     if (done.error) throw done.error;
     if (done.status > 1) throw new Refusal(kindOf(String(done.stderr)));
-    return JSON.parse(done.stdout);
+    return treeFrom(String(done.stdout));
 }
 
 module.exports = { Refusal, treeOf };

@@ -1,6 +1,7 @@
 // The parser over `ecma-check`. ECMA_CHECK says where the program is, or else it is looked for as a command.
 'use strict';
 const { spawnSync } = require('child_process');
+const { treeFrom } = require('../common/revived');
 const { parserOver } = require('./parser');
 
 const FIELDS = ['--locations', '--ranges', '--comments', '--tokens'];
@@ -25,19 +26,12 @@ function faultsOf(words, text) {
     return out.split('\n').filter(Boolean).map((line) => faultOf(JSON.parse(line)));
 }
 
-// JSON has no big integers.
-function withBigInts(key, value) {
-    if (value && value.type === 'Literal' && value.bigint !== undefined) value.value = BigInt(value.bigint);
-    return value;
-}
-
 function read(text, { goal, enable }) {
     const words = [`--${goal}`, ...enable.flatMap((name) => ['--enable', name])];
     const { status, out } = run([...words, ...FIELDS, '--format', 'estree'], text);
     const faults = status === 0 ? [] : faultsOf(words, text);
     if (status === 2) return { refusal: faults[faults.length - 1] };
-    const tree = out.includes('"bigint":') ? JSON.parse(out, withBigInts) : JSON.parse(out);
-    return { tree, faults };
+    return { tree: treeFrom(out), faults };
 }
 
 module.exports = { parseForESLint: parserOver(read) };

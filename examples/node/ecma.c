@@ -1,4 +1,4 @@
-/* A Node addon: `answer(text, goal, limit, flags)` answers a status and the tree and faults of a text as JSON. */
+/* A Node addon: `answer(text, goal, limit, flags, maxFaults)` answers a status and the tree and faults of a text as JSON. */
 #include "ecma.h"
 
 #include <node_api.h>
@@ -33,8 +33,8 @@ static int32_t parsed(const uint8_t *text, size_t length, const EcmaOptions *opt
 
 static napi_value answer(napi_env env, napi_callback_info info)
 {
-    size_t count = 4, length = 0, needed = 0;
-    napi_value words[4], pair, number, json;
+    size_t count = 5, length = 0, needed = 0;
+    napi_value words[5], pair, number, json;
     EcmaOptions options = {0};
     uint8_t *out = NULL;
     int32_t status = ECMA_OUT_OF_MEMORY;
@@ -42,6 +42,8 @@ static napi_value answer(napi_env env, napi_callback_info info)
     napi_get_value_uint32(env, words[1], &options.goal);
     napi_get_value_uint32(env, words[2], &options.limit);
     napi_get_value_uint32(env, words[3], &options.flags);
+    /* All faults are told, where that is left out. */
+    napi_get_value_uint32(env, words[4], &options.max_faults);
     uint8_t *text = text_of(env, words[0], &length);
     if (text)
         status = parsed(text, length, &options, &out, &needed);

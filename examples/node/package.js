@@ -1,6 +1,6 @@
 'use strict';
 // The same by the package in npm/, which needs no compiler.
 //
-// usage: node [--experimental-wasm-memory64] package.js [script | module | program] < FILE
+// usage: node package.js [script | module | program] < FILE
 
 require('./tell.js')(require('../../npm').parse);

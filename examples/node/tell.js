@@ -12,7 +12,7 @@ function tell(parse) {
   try {
     const { tree, faults } = parse(text, { sourceType: process.argv[2] ?? 'program', limit: 1000 });
     for (const fault of faults) line(fault, 'fault');
-    console.log(JSON.stringify(tree));
+    console.log(JSON.stringify(tree, (_, value) => (typeof value === 'bigint' ? null : value)));
     return faults.length > 0 ? 1 : 0;
   } catch (error) {
     if (error.kind === undefined) throw error;

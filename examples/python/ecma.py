@@ -18,7 +18,7 @@ TOO_SHORT, OUT_OF_MEMORY = -1, -2
 
 
 class Options(ctypes.Structure):
-    _fields_ = [('goal', ctypes.c_uint32), ('limit', ctypes.c_uint32), ('flags', ctypes.c_uint32)]
+    _fields_ = [('goal', ctypes.c_uint32), ('limit', ctypes.c_uint32), ('flags', ctypes.c_uint32), ('max_faults', ctypes.c_uint32)]
 
 
 def load(path):
@@ -41,23 +41,25 @@ def called(call, text, options):
             return status, out.raw[:needed.value] if status >= 0 else b''
 
 
-def parse(call, text, goal='program', limit=1000, flags=()):
-    """The status, the tree, which is None where there is none, and the faults."""
-    asked = Options(GOALS[goal], limit, sum(FLAGS[it] for it in flags))
+def parse(call, text, goal='program', limit=1000, flags=(), max_faults=1000):
+    """The status, the tree, which is None where there is none, the faults, and how many more there are."""
+    asked = Options(GOALS[goal], limit, sum(FLAGS[it] for it in flags), max_faults)
     status, written = called(call, text.encode(), asked)
     if status == OUT_OF_MEMORY:
         raise MemoryError
     if status < 0:
         raise ValueError(f'no answer: status {status}')
     found = json.loads(written)
-    return status, found['tree'], found['faults']
+    return status, found['tree'], found['faults'], found.get('more', 0)
 
 
 def main():
     call = load(sys.argv[1])
-    status, tree, faults = parse(call, sys.stdin.read(), goal=sys.argv[2] if len(sys.argv) > 2 else 'program')
+    status, tree, faults, more = parse(call, sys.stdin.read(), goal=sys.argv[2] if len(sys.argv) > 2 else 'program')
     for it in faults:
         print(f"{it['line']}:{it['column']}: {it['severity']} [{it['kind']}]: {it['message']}")
+    if more:
+        print(f'and {more} more')
     if tree is not None:
         print(json.dumps(tree))
     return status

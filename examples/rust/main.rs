@@ -13,6 +13,7 @@ struct EcmaOptions {
     goal: u32,
     limit: u32,
     flags: u32,
+    max_faults: u32,
 }
 
 unsafe extern "C" {
@@ -63,7 +64,7 @@ fn main() -> ExitCode {
     };
     let mut text = String::new();
     io::stdin().read_to_string(&mut text).expect("standard input is UTF-8");
-    let options = EcmaOptions { goal, limit: 1000, flags: 0 };
+    let options = EcmaOptions { goal, limit: 1000, flags: 0, max_faults: 1000 };
     match parse(&text, &options) {
         Ok((status, json)) => {
             io::stdout().write_all(json.as_bytes()).expect("standard output takes it");

@@ -1,3 +1,5 @@
 mod Deciding
 mod Drawing
 mod Listing
+pub mod Same
+pub mod Written

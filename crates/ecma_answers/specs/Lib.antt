@@ -1,5 +1,7 @@
 pub mod Spelled
 pub mod Outcomes
 pub mod Written
+pub mod Capped
 pub mod Listed
 pub mod Told
+pub mod Same

@@ -1,5 +1,5 @@
 -- The faults of a text as a list of JSON, and a tree and faults as one object.
-use Rattle.std.specs.Prelude.{◌≡◌, ℕ, true, false, List, [], ◌∷◌, ◌++◌, codes, Result, Ok, Err}
+use Rattle.std.specs.Prelude.{◌≡◌, ◌==◌, ℕ, true, false, if◌then◌else◌, List, [], ◌∷◌, ◌++◌, codes, decimal, Result, Ok, Err}
 use Rattle.std.specs.List.{flat_map}
 use Rattle.swc_ecma_parser_error.specs.declared.error.Error.{Error}
 use Rattle.ecma_estree_text.specs.Places.{Placed}
@@ -7,6 +7,7 @@ use Rattle.ecma_faults.specs.Json.{fault_json}
 use Rattle.ecma_answers.specs.declared.options.Options.{Options}
 use Rattle.ecma_answers.specs.declared.parsing.Reading.{Reading}
 use Rattle.ecma_answers.specs.declared.parsing.Tree.{Tree}
+use Rattle.ecma_answers.specs.Capped.{front, left_out}
 use Rattle.ecma_answers.specs.Spelled.{view_tree}
 use Rattle.ecma_answers.specs.Written.{IsEstree}
 
@@ -33,7 +34,7 @@ refusal_text p (Err e) (f ∷ fs) = next_text p (codes "refused") e
 abbrev pub lined : List ℕ → Placed
 lined text = record { text = text; has_locations = true; has_ranges = false }
 
--- the faults that were recorded, and why there is no tree
+-- faults that were recorded, and why there is no tree
 unfoldable pub told_text : {X : Type 0} → List ℕ → Result X Error → List Error → List ℕ
 told_text text tree es = codes "[" ++ (recorded_text (lined text) es ++ (refusal_text (lined text) tree es ++ codes "]"))
 
@@ -42,8 +43,12 @@ abbrev pub IsTree : Options → List ℕ → Result Tree Error → List ℕ → 
 IsTree o text (Ok x) out = IsEstree o text (view_tree x) out
 IsTree o text (Err e) out = out ≡ codes "null"
 
--- the tree and the faults as one object
+-- how many more faults there are, if there are more
+abbrev pub more_text : ℕ → List ℕ
+more_text n = if n == 0 then [] else codes ",\"more\":" ++ decimal n
+
+-- the tree and the faults as one object: as many of those that were recorded as are asked for, and how many more there are
 abbrev pub IsAnswer : Options → List ℕ → Reading → List ℕ → Type 0
 IsAnswer o text r out =
     (tree : List ℕ) × IsTree o text r.tree tree
-    × (out ≡ codes "{\"tree\":" ++ (tree ++ (codes ",\"faults\":" ++ (told_text text r.tree r.faults.items ++ codes "}"))))
+    × (out ≡ codes "{\"tree\":" ++ (tree ++ (codes ",\"faults\":" ++ (told_text text r.tree (front o.max_faults r.faults.items) ++ (more_text (left_out o.max_faults r.faults.items) ++ codes "}")))))

@@ -1,7 +1,9 @@
 -- The trees that a text spells, and what was read of it.
-use Rattle.std.specs.Prelude.{◌↔◌, ℕ, List, []}
+use Rattle.std.specs.Prelude.{◌↔◌, ℕ, List, [], Result, Ok, Err}
 use Rattle.std.specs.Str.{chars}
+use Rattle.swc_ecma_parser_error.specs.declared.error.Error.{Error}
 use Rattle.swc_ecma_parser_error.specs.Kind.{faults_of}
+use Rattle.swc_ecma_parser_exactness.specs.Decides.{Lasts}
 use Rattle.swc_ecma_parser_input.specs.declared.syntax.Syntax.{Syntax}
 use Rattle.swc_ecma_parser_input.specs.Place as place
 use Rattle.swc_ecma_parser_input.specs.Place.{Place}
@@ -11,7 +13,7 @@ use Rattle.swc_ecma_parser_model.specs.Tree as model
 use Rattle.swc_ecma_parser_grammar.specs.language.Programs as programs
 use Rattle.swc_ecma_parser_grammar.specs.language.Programs.{Entry}
 use Rattle.swc_ecma_parser_ast.specs.View.{view_module, view_program, view_script}
-use Rattle.swc_ecma_parser.specs.Headline.{IsClean, code_of}
+use Rattle.swc_ecma_parser.specs.Headline.{Headline, IsClean, code_of, end_of}
 use Rattle.ecma_answers.specs.declared.options.Goal.{Goal}
 use Rattle.ecma_answers.specs.declared.options.Goal.TheVariants as goal
 use Rattle.ecma_answers.specs.declared.options.Options.{Options}
@@ -45,6 +47,17 @@ view_tree (tree.Program x) = view_program x
 abbrev pub IsRead : Reading → model.Tree → Type 0
 IsRead r x = IsClean view_tree r.tree (faults_of r.faults.items) x
 
--- a tree was read without a fault exactly where the text spells it: so at most one is spelled
-abbrev pub Decides : Options → List ℕ → Reading → Type 0
-Decides o text r = (x : model.Tree) → IsRead r x ↔ Spells o text x
+-- a result with its tree in the tree of one of the goals
+abbrev pub wrapped : {X : Type 0} → (X → Tree) → Result X Error → Result Tree Error
+wrapped wrap (Ok x) = Ok (wrap x)
+wrapped wrap (Err e) = Err e
+
+-- What was read of a text, with what is asked for.
+pub record Decides (o : Options) (text : List ℕ) (r : Reading) : Type 0 where
+  -- a tree was read without a fault exactly where the text spells it: so at most one is spelled
+  pub spelled : (x : model.Tree) → IsRead r x ↔ Spells o text x
+  -- All that the parser promises of a call on the text's tokens: the tree or the refusal, and the faults beside it, are what the reader comes
+  -- to, which is a function of the tokens, the settings and the limit.
+  pub headline : Headline view_tree (entry_of o.goal) o.limit (source_of o.syntax text) r.tree (faults_of r.faults.items) (end_of (source_of o.syntax text))
+  -- memory did not run out
+  pub lasts : Lasts r.tree

@@ -6,6 +6,7 @@ use Rattle.swc_ecma_parser_error.specs.Kind.{kind_of, name_of}
 use Rattle.ecma_estree_text.specs.Places.{offset}
 use Rattle.ecma_estree_text.specs.Spots.{spot_at}
 use Rattle.ecma_sentences.specs.Message.{message_of}
+use Rattle.ecma_answers.specs.Capped.{front}
 use Rattle.ecma_answers.specs.declared.told.Point.{Point}
 use Rattle.ecma_answers.specs.declared.told.Told.{Told}
 
@@ -26,7 +27,7 @@ pub record IsTold (text : List ℕ) (is_refusal : Bool) (e : Error) (it : Told) 
   pub start : it.start ≡ point_at text e.span.lo.0
   pub end : it.end ≡ point_at text e.span.hi.0
 
--- the faults that were recorded, one for one
+-- faults that were recorded, one for one
 abbrev pub AreTold : List ℕ → List Error → List Told → Type 0
 AreTold text es ts = AllZip (IsTold text false) es ts
 
@@ -35,6 +36,7 @@ abbrev pub IsRefusal : {X : Type 0} → List ℕ → Result X Error → List Tol
 IsRefusal text (Ok x) ts = ts ≡ []
 IsRefusal text (Err e) ts = (last : Told) × IsTold text true e last × (ts ≡ last ∷ [])
 
--- the faults that were recorded, and why there is no tree
-abbrev pub AllTold : {X : Type 0} → List ℕ → Result X Error → List Error → List Told → Type 0
-AllTold text tree es ts = (recorded : List Told) × (refusal : List Told) × AreTold text es recorded × IsRefusal text tree refusal × (ts ≡ recorded ++ refusal)
+-- the first faults that were recorded, as many as are asked for, and why there is no tree
+abbrev pub AllTold : {X : Type 0} → (most : ℕ) → List ℕ → Result X Error → List Error → List Told → Type 0
+AllTold most text tree es ts =
+    (recorded : List Told) × (refusal : List Told) × AreTold text (front most es) recorded × IsRefusal text tree refusal × (ts ≡ recorded ++ refusal)

@@ -4,7 +4,7 @@ ghost use Rattle.std.specs.Prelude.{◌≡◌, ◌++◌, ◌<◌, ◌^◌, OnOk,
 ghost use Rattle.std.specs.List.{flat_map};
 ghost use Rattle.ecma_answers.specs.Listed.{fault_text, next_text, recorded_text, refusal_text, told_text};
 
-use crate::parsing::{Reading, Tree};
+use crate::parsing::Tree;
 use ecma_faults::{Source, push_json};
 use std::alloc::{AllocError, Global};
 use swc_ecma_parser::error::{Error, PResult};
@@ -89,36 +89,35 @@ fn push_told(
     alloc: Global,
     out: &mut Vec<u8>,
     text: &str,
-    reading: &Reading,
+    tree: &PResult<Tree>,
+    faults: &[Error],
 ) -> Result<(), AllocError>
     requires { length text.now < 2 ^ 32 }
     ensures { OnOk result
-        (out.new.items ≡ out.old.items
-        ++ told_text text.now reading.now.tree reading.now.faults.items) }
+        (out.new.items ≡ out.old.items ++ told_text text.now tree.now faults.now) }
 {
     let source = Source::new(alloc, text)?;
-    let faults = reading.faults.as_slice();
     out.extend_from_slice(b"[")?;
     push_recorded(out, &source, faults)?;
-    push_refusal(out, &source, &reading.tree, faults)?;
+    push_refusal(out, &source, tree, faults)?;
     out.extend_from_slice(b"]")
 }
 
-/// Writes the faults of a text as a list: those that were recorded, and why there is no tree. Lines are counted only where there is a fault.
+/// Writes faults of a text as a list: some that were recorded, and why there is no tree. Lines are counted only where there is a fault.
 #[tactic(auto, unfolding(crate::specs::Listed::told_text))]
 pub(crate) fn push_faults(
     alloc: Global,
     out: &mut Vec<u8>,
     text: &str,
-    reading: &Reading,
+    tree: &PResult<Tree>,
+    faults: &[Error],
 ) -> Result<(), AllocError>
     requires { length text.now < 2 ^ 32 }
     ensures { OnOk result
-        (out.new.items ≡ out.old.items
-        ++ told_text text.now reading.now.tree reading.now.faults.items) }
+        (out.new.items ≡ out.old.items ++ told_text text.now tree.now faults.now) }
 {
-    if reading.tree.is_ok() && reading.faults.is_empty() {
+    if tree.is_ok() && faults.is_empty() {
         return out.extend_from_slice(b"[]");
     }
-    push_told(alloc, out, text, reading)
+    push_told(alloc, out, text, tree, faults)
 }

@@ -1,12 +1,14 @@
 //! A tree and faults as one text.
 
 ghost use Rattle.std.specs.Prelude.{◌≡◌, ◌++◌, ◌<◌, ◌^◌, ℕ, List, IfOk, OnOk, length};
-ghost use Rattle.ecma_answers.specs.Listed.{IsAnswer, IsTree};
+ghost use Rattle.ecma_answers.specs.Listed.{IsAnswer, IsTree, more_text};
 
+use crate::cap::{front, left_out};
 use crate::faults::push_faults;
 use crate::options::Options;
 use crate::parsing::Reading;
 use crate::tree::write;
+use ecma_estree_text::push_count;
 use std::alloc::{AllocError, Global};
 
 /// Writes the tree, or `null` where there is none.
@@ -31,7 +33,19 @@ fn push_tree(
     }
 }
 
-/// The tree and the faults of a text as one object of JSON: `{"tree":..,"faults":[..]}`. It fails only where memory runs out.
+/// Writes how many more faults there are, if there are more.
+fn push_more(out: &mut Vec<u8>, more: usize) -> Result<(), AllocError>
+    ensures { OnOk result (out.new.items ≡ out.old.items ++ more_text more) }
+{
+    if more == 0 {
+        return Ok(());
+    }
+    out.extend_from_slice(b",\"more\":")?;
+    push_count(out, more as u64)
+}
+
+/// The tree and the faults of a text as one object of JSON: `{"tree":..,"faults":[..]}`, with a field `more` where there are more faults than
+/// are asked for. It fails only where memory runs out.
 pub fn answer(
     alloc: Global,
     options: Options,
@@ -45,7 +59,10 @@ pub fn answer(
     out.extend_from_slice(b"{\"tree\":")?;
     push_tree(alloc, &mut out, options, text, reading)?;
     out.extend_from_slice(b",\"faults\":")?;
-    push_faults(alloc, &mut out, text, reading)?;
+    let faults = reading.faults.as_slice();
+    let told = front(faults, options.max_faults);
+    push_faults(alloc, &mut out, text, &reading.tree, told)?;
+    push_more(&mut out, left_out(faults, options.max_faults))?;
     out.extend_from_slice(b"}")?;
     Ok(out)
 }

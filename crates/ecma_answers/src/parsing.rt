@@ -1,14 +1,12 @@
 //! A text, read.
 
-ghost use Rattle.std.specs.Prelude.{◌≡◌, ◌↔◌, ◌<◌, ◌^◌, false, IfOk, length};
-ghost use Rattle.swc_ecma_parser_error.specs.Kind.{faults_of, kind_of};
+ghost use Rattle.std.specs.Prelude.{◌≡◌, ◌<◌, ◌^◌, false, IfOk, length};
+ghost use Rattle.swc_ecma_parser_error.specs.Kind.{kind_of};
 ghost use Rattle.swc_ecma_parser_exactness.specs.Decides.{Lasts};
-ghost use Rattle.swc_ecma_parser_model.specs.Tree.{Tree as Model};
-ghost use Rattle.swc_ecma_parser_ast.specs.View.{view_module, view_program, view_script};
-ghost use Rattle.swc_ecma_parser.specs.Headline.{IsClean};
+ghost use Rattle.ecma_answers.specs.declared.parsing.Tree.TheVariants as tree;
 ghost use Rattle.ecma_answers.specs.Outcomes as outcomes;
 ghost use Rattle.ecma_answers.specs.Outcomes.{outcome_of};
-ghost use Rattle.ecma_answers.specs.Spelled.{Decides, IsRead};
+ghost use Rattle.ecma_answers.specs.Spelled.{Decides, wrapped};
 
 use crate::options::{Goal, Options};
 use std::alloc::{AllocError, Global};
@@ -105,9 +103,8 @@ impl Reading {
 
 /// What was read as a script.
 fn of_script(read: (PResult<Script>, Vec<Error>)) -> Reading
-    ensures tree { (x : Model) → IsRead result x
-        ↔ IsClean view_script read.0 (faults_of read.1.items) x }
-    ensures lasts { Lasts result.tree → Lasts read.0 }
+    ensures tree { result.tree ≡ wrapped tree.Script read.0 }
+    ensures faults { result.faults.items ≡ read.1.items }
 {
     let (tree, faults) = read;
     match tree {
@@ -124,9 +121,8 @@ fn of_script(read: (PResult<Script>, Vec<Error>)) -> Reading
 
 /// What was read as a module.
 fn of_module(read: (PResult<Module>, Vec<Error>)) -> Reading
-    ensures tree { (x : Model) → IsRead result x
-        ↔ IsClean view_module read.0 (faults_of read.1.items) x }
-    ensures lasts { Lasts result.tree → Lasts read.0 }
+    ensures tree { result.tree ≡ wrapped tree.Module read.0 }
+    ensures faults { result.faults.items ≡ read.1.items }
 {
     let (tree, faults) = read;
     match tree {
@@ -143,9 +139,8 @@ fn of_module(read: (PResult<Module>, Vec<Error>)) -> Reading
 
 /// What was read as a program.
 fn of_program(read: (PResult<Program>, Vec<Error>)) -> Reading
-    ensures tree { (x : Model) → IsRead result x
-        ↔ IsClean view_program read.0 (faults_of read.1.items) x }
-    ensures lasts { Lasts result.tree → Lasts read.0 }
+    ensures tree { result.tree ≡ wrapped tree.Program read.0 }
+    ensures faults { result.faults.items ≡ read.1.items }
 {
     let (tree, faults) = read;
     match tree {
@@ -186,8 +181,8 @@ fn lacks_memory(answer: &PResult<Tree>) -> bool
     }
 }
 
-/// Reads a text. A tree is read with no fault beside it exactly where the text spells it within the limit. It fails only where memory runs
-/// out.
+/// Reads a text. A tree is read with no fault beside it exactly where the text spells it within the limit, and what is read is a function of
+/// the text and of what is asked for. It fails only where memory runs out.
 pub fn read(alloc: Global, options: Options, text: &str) -> Result<Reading, AllocError>
     requires { length text.now < 2 ^ 32 }
     ensures { IfOk result (Decides options text.now) }

@@ -5,6 +5,7 @@ ghost use Rattle.ecma_answers.specs.declared.told.Told.{Told};
 ghost use Rattle.ecma_answers.specs.Listed.{lined};
 ghost use Rattle.ecma_answers.specs.Told.{AllTold, AreTold, IsRefusal, IsTold, point_at};
 
+use crate::cap::front;
 use crate::parsing::{Reading, Tree};
 use ecma_estree_text::Places;
 use ecma_faults::{Source, message};
@@ -109,25 +110,31 @@ fn push_refusal(
 }
 
 /// The faults of a text that has some, one by one.
-fn list_of(alloc: Global, text: &str, reading: &Reading) -> Result<Vec<Told>, AllocError>
+fn list_of(alloc: Global, most: u32, text: &str, reading: &Reading) -> Result<Vec<Told>, AllocError>
     requires { length text.now < 2 ^ 32 }
     ensures { IfOk result
-        (λ list. AllTold text.now reading.now.tree reading.now.faults.items list.items) }
+        (λ list. AllTold most text.now reading.now.tree reading.now.faults.items list.items) }
 {
     let source = Source::new(alloc, text)?;
-    let mut list = recorded(alloc, &source, reading.faults.as_slice())?;
+    let mut list = recorded(alloc, &source, front(reading.faults.as_slice(), most))?;
     push_refusal(alloc, &mut list, &source, &reading.tree)?;
     Ok(list)
 }
 
-/// The faults of a text one by one: those that were recorded, and why there is no tree. It fails only where memory runs out.
-pub fn told_faults(alloc: Global, text: &str, reading: &Reading) -> Result<Vec<Told>, AllocError>
+/// The faults of a text one by one: the first that were recorded, so many at most (all of them, where that is 0), and why there is no tree.
+/// It fails only where memory runs out.
+pub fn told_faults(
+    alloc: Global,
+    most: u32,
+    text: &str,
+    reading: &Reading,
+) -> Result<Vec<Told>, AllocError>
     requires { length text.now < 2 ^ 32 }
     ensures { IfOk result
-        (λ list. AllTold text.now reading.now.tree reading.now.faults.items list.items) }
+        (λ list. AllTold most text.now reading.now.tree reading.now.faults.items list.items) }
 {
     if reading.tree.is_ok() && reading.faults.is_empty() {
         return Ok(Vec::new(alloc));
     }
-    list_of(alloc, text, reading)
+    list_of(alloc, most, text, reading)
 }

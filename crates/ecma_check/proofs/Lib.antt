@@ -1,2 +1,5 @@
 mod Clean
+mod Files
+mod Names
 mod Results
+mod Sums

@@ -7,24 +7,13 @@ use Rattle.ecma_page.specs.Page.{page_text}
 use Rattle.ecma_page.specs.declared.frame.Frame.{Frame}
 use Rattle.ecma_page.specs.declared.page.Page.{Page}
 use Rattle.ecma_answers.specs.declared.options.Options.{Options}
-use Rattle.ecma_answers.specs.declared.parsing.Outcome.{Outcome}
 use Rattle.ecma_answers.specs.Written.{IsEstree}
-use Rattle.ecma_check.specs.declared.check.Checked.{Checked}
 use Rattle.ecma_check.specs.declared.command.Format.{Format}
 use Rattle.ecma_check.specs.declared.command.Format.TheVariants as format
 use Rattle.ecma_check.specs.declared.command.Settings.{Settings}
 use Rattle.ecma_check.specs.declared.sum.Sum.{Sum}
-use Rattle.ecma_check.specs.Printed.{IsChecked, without_extras}
+use Rattle.ecma_check.specs.Printed.{without_extras}
 use Rattle.ecma_check.specs.Sum as sum
-
--- what a text comes to was written
-pub record IsAnswered (s : Settings) (file text : List ℕ) (it : Outcome × ℕ) (before after : Option (List ℕ)) : Type 0 where
-  pub frame : Frame
-  pub checked : Checked
-  pub is_checked : IsChecked s frame file text checked
-  pub outcome : it.0 ≡ checked.outcome
-  pub faults : it.1 ≡ checked.faults
-  pub written : Appends before after checked.printed.out.items
 
 -- what is written behind all files: the line that sums them up, if people read it
 abbrev pub summed : Format → Sum → List ℕ

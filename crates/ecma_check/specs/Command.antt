@@ -1,8 +1,9 @@
 -- The words that a run is called with.
-use Rattle.std.specs.Prelude.{◌≡◌, ◌≤◌, ℕ, Bool, true, false, List, [], ◌∷◌, Option, Some, None, option_map, if◌then◌else◌, min, codes}
+use Rattle.std.specs.Prelude.{◌≡◌, ◌≤◌, ℕ, Bool, true, false, List, [], ◌∷◌, ◌==◌, ◌&&◌, ◌||◌, not, Option, Some, None, option_map, if◌then◌else◌, min, codes}
+use Rattle.std.specs.List.{flat_map, slice_split}
 use Rattle.std.specs.Str.{bytes_eq}
 use Rattle.std.specs.Str.Parse.{IsNumeral, digits_value, without_leading_plus}
-use Rattle.clap.specs.Matches.{matched_of, one_text, raw_values}
+use Rattle.clap.specs.Matches.{first_value, matched_of, one_text, raw_values}
 use Rattle.clap.specs.declared.parser.matches.Found.{Found}
 use Rattle.swc_ecma_parser_input.specs.declared.syntax.EsSyntax.{EsSyntax}
 use Rattle.swc_ecma_parser_input.specs.declared.syntax.Syntax.{Syntax}
@@ -13,6 +14,7 @@ use Rattle.ecma_answers.specs.declared.options.Goal.TheVariants as goal
 use Rattle.ecma_answers.specs.declared.options.Options.{Options}
 use Rattle.ecma_check.specs.declared.command.Format.{Format}
 use Rattle.ecma_check.specs.declared.command.Format.TheVariants as format
+use Rattle.ecma_check.specs.declared.command.Settings.{Settings}
 
 -- whether a word stands there that has no value
 abbrev pub IsSet : Found → (name : List ℕ) → Type 0
@@ -33,6 +35,17 @@ format_named (Some name) =
     else if bytes_eq name (codes "html") then format.Html
     else format.Text
 
+-- the names between the commas of some words
+abbrev pub names_in : (words : List (List ℕ)) → List (List ℕ)
+names_in words = flat_map (slice_split (λ b. b == 44)) words
+
+-- what there is to enable
+abbrev pub is_flag : (name : List ℕ) → Bool
+is_flag name =
+    bytes_eq name (codes "decorators") || bytes_eq name (codes "decorators-before-export") || bytes_eq name (codes "export-default-from")
+    || bytes_eq name (codes "import-attributes") || bytes_eq name (codes "return-outside-function") || bytes_eq name (codes "auto-accessors")
+    || bytes_eq name (codes "explicit-resource-management")
+
 -- what is read besides, with what a word names
 abbrev pub enabled : EsSyntax → (name : List ℕ) → EsSyntax
 enabled s name =
@@ -52,7 +65,7 @@ all_enabled s (name ∷ names) = all_enabled (enabled s name) names
 -- what is read besides ECMA-262, with all that words name
 abbrev pub syntax_named : Option (List (List ℕ)) → Syntax
 syntax_named None = plain
-syntax_named (Some names) = syntax.Es (all_enabled plain_setting names)
+syntax_named (Some words) = syntax.Es (all_enabled plain_setting (names_in words))
 
 -- what a file is read as: a script or a module, where that word stands there; else a program
 abbrev pub IsGoal : Found → Goal → Type 0
@@ -60,6 +73,16 @@ IsGoal f g =
     (IsSet f (codes "script") → g ≡ goal.Script)
     × (IsUnset f (codes "script") → IsSet f (codes "module") → g ≡ goal.Module)
     × (IsUnset f (codes "script") → IsUnset f (codes "module") → g ≡ goal.Program)
+
+-- one of three at most is so
+abbrev pub is_at_most_one : (first second third : Bool) → Bool
+is_at_most_one first second third = not (first && second || first && third || second && third)
+
+-- that is said by one word at most
+pub record IsOneGoal (f : Found) : Type 0 where
+  pub no_module : IsSet f (codes "script") → IsSet f (codes "module") → ⊥
+  pub no_program : IsSet f (codes "script") → IsSet f (codes "program") → ⊥
+  pub no_module_program : IsSet f (codes "module") → IsSet f (codes "program") → ⊥
 
 -- how many levels a number asks for: a thousand at most
 abbrev pub levels : (word : List ℕ) → ℕ
@@ -71,6 +94,11 @@ pub record IsLimit (f : Found) (n : ℕ) : Type 0 where
   pub unnamed : one_text f (codes "limit") ≡ None → n ≡ 1000
   pub named : (word : List ℕ) → one_text f (codes "limit") ≡ Some word → IsNumeral 10 (without_leading_plus word) → n ≡ levels word
 
+-- how many faults are told of a file: as many as the number behind `--max-faults` says; a thousand, where there is none
+pub record IsMost (f : Found) (n : ℕ) : Type 0 where
+  pub unnamed : one_text f (codes "max-faults") ≡ None → n ≡ 1000
+  pub named : (word : List ℕ) → one_text f (codes "max-faults") ≡ Some word → IsNumeral 10 (without_leading_plus word) → n ≡ digits_value 10 (without_leading_plus word)
+
 -- what the words ask of each file
 pub record AreOptions (f : Found) (o : Options) : Type 0 where
   pub goal : IsGoal f o.goal
@@ -80,3 +108,17 @@ pub record AreOptions (f : Found) (o : Options) : Type 0 where
   pub ranges : IsFlag f (codes "ranges") o.extras.ranges
   pub comments : IsFlag f (codes "comments") o.comments
   pub tokens : IsFlag f (codes "tokens") o.tokens
+  pub max_faults : IsMost f o.max_faults
+
+-- the files that words name; standard input, where they name none
+abbrev pub files_named : Option (List (List ℕ)) → List (List ℕ)
+files_named None = codes "-" ∷ []
+files_named (Some []) = codes "-" ∷ []
+files_named (Some (f ∷ fs)) = f ∷ fs
+
+-- what words ask for that name what to check
+pub record IsCheck (f : Found) (s : Settings) (named : List (List ℕ)) : Type 0 where
+  pub format : s.format ≡ format_named (first_value f (codes "format"))
+  pub options : AreOptions f s.options
+  pub goals : IsOneGoal f
+  pub files : named ≡ files_named (option_map raw_values (matched_of f (codes "FILE")))

@@ -1,5 +1,5 @@
 -- What is printed of a text, and what the text comes to.
-use Rattle.std.specs.Prelude.{◌≡◌, ℕ, ◌+◌, false, List, [], ◌++◌, codes, length, Result, Ok, Err}
+use Rattle.std.specs.Prelude.{◌≡◌, ℕ, false, List, [], ◌++◌, codes, length, Result, Ok, Err}
 use Rattle.swc_ecma_parser_error.specs.declared.error.Error.{Error}
 use Rattle.ecma_estree_text.specs.Quoted.{quoted}
 use Rattle.ecma_page.specs.Page.{page_text}
@@ -42,20 +42,15 @@ pub record IsPage (frame : Frame) (o : Options) (file text : List ℕ) (tree : R
 
 -- what is printed of a text that was read, on standard output and on standard error
 abbrev pub IsPrinted : Format → Options → Frame → (file text : List ℕ) → Result Tree Error → List Error → (out notes : List ℕ) → Type 0
-IsPrinted format.Text o frame file text x es out notes = (out ≡ told_in format.Text (lined text) file x es) × (notes ≡ [])
-IsPrinted format.Json o frame file text x es out notes = (out ≡ told_in format.Json (lined text) file x es) × (notes ≡ [])
-IsPrinted format.Estree o frame file text x es out notes = IsTreeLine o text x out × (notes ≡ told_in format.Estree (lined text) file x es)
-IsPrinted format.Html o frame file text x es out notes = IsPage frame o file text x (told_in format.Html (lined text) file x es) out × (notes ≡ [])
-
--- how many faults are told
-abbrev pub fault_count : {X : Type 0} → Result X Error → List Error → ℕ
-fault_count (Ok x) es = length es
-fault_count (Err e) es = length es + 1
+IsPrinted format.Text o frame file text x es out notes = (out ≡ told_in format.Text o.max_faults (lined text) file x es) × (notes ≡ [])
+IsPrinted format.Json o frame file text x es out notes = (out ≡ told_in format.Json o.max_faults (lined text) file x es) × (notes ≡ [])
+IsPrinted format.Estree o frame file text x es out notes = IsTreeLine o text x out × (notes ≡ told_in format.Estree o.max_faults (lined text) file x es)
+IsPrinted format.Html o frame file text x es out notes = IsPage frame o file text x (told_in format.Html o.max_faults (lined text) file x es) out × (notes ≡ [])
 
 -- what a text comes to that was read, and what is printed of it
 pub record IsCheckedReading (s : Settings) (frame : Frame) (file text : List ℕ) (r : Reading) (it : Checked) : Type 0 where
   pub outcome : it.outcome ≡ outcome_of r.tree r.faults.items
-  pub faults : it.faults ≡ fault_count r.tree r.faults.items
+  pub faults : it.faults ≡ length r.faults.items
   pub printed : IsPrinted s.format s.options frame file text r.tree r.faults.items it.printed.out.items it.printed.notes.items
 
 -- the same of a text: a tree was read without a fault exactly where the text spells it

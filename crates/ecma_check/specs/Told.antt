@@ -1,10 +1,13 @@
--- What is told of a text: the faults that were recorded, and why there is no tree.
-use Rattle.std.specs.Prelude.{ℕ, List, [], ◌++◌, true, false, codes, Result, Ok, Err}
+-- What is told of a text: the first faults that were recorded, how many more there are, and why there is no tree.
+use Rattle.std.specs.Prelude.{ℕ, List, [], ◌++◌, ◌==◌, if◌then◌else◌, true, false, codes, decimal, Result, Ok, Err}
 use Rattle.std.specs.List.{flat_map}
 use Rattle.swc_ecma_parser_error.specs.declared.error.Error.{Error}
 use Rattle.ecma_estree_text.specs.Places.{Placed}
+use Rattle.ecma_estree_text.specs.Quoted.{quoted}
 use Rattle.ecma_faults.specs.Json.{fault_json}
+use Rattle.ecma_faults.specs.Shown.{name_text}
 use Rattle.ecma_faults.specs.Text.{fault_text}
+use Rattle.ecma_answers.specs.Capped.{front, left_out}
 use Rattle.ecma_check.specs.declared.command.Format.{Format}
 use Rattle.ecma_check.specs.declared.command.Format.TheVariants as format
 
@@ -28,5 +31,23 @@ abbrev pub refusal_in : {X : Type 0} → Format → Placed → (file : List ℕ)
 refusal_in f p file (Ok x) = []
 refusal_in f p file (Err e) = fault_in f p file (codes "refused") e
 
-abbrev pub told_in : {X : Type 0} → Format → Placed → (file : List ℕ) → Result X Error → List Error → List ℕ
-told_in f p file tree es = faults_in f p file es ++ refusal_in f p file tree
+-- how many more faults there are, as a line of text and as one of JSON
+unfoldable pub more_text : (file : List ℕ) → ℕ → List ℕ
+more_text file n = name_text file ++ (codes ": note: more faults: " ++ (decimal n ++ codes "; --max-faults 0 reports all\n"))
+
+unfoldable pub more_json : (file : List ℕ) → ℕ → List ℕ
+more_json file n = codes "{\"file\":" ++ (quoted file ++ (codes ",\"severity\":\"more\",\"count\":" ++ (decimal n ++ codes "}\n")))
+
+abbrev pub counted_in : Format → (file : List ℕ) → ℕ → List ℕ
+counted_in format.Json file n = more_json file n
+counted_in format.Html file n = more_json file n
+counted_in format.Text file n = more_text file n
+counted_in format.Estree file n = more_text file n
+
+-- nothing, where there are no more
+abbrev pub more_in : Format → (file : List ℕ) → ℕ → List ℕ
+more_in f file n = if n == 0 then [] else counted_in f file n
+
+-- of the faults that were recorded the first, as many as are asked for; why there is no tree comes last, and in any case
+abbrev pub told_in : {X : Type 0} → Format → (most : ℕ) → Placed → (file : List ℕ) → Result X Error → List Error → List ℕ
+told_in f most p file tree es = faults_in f p file (front most es) ++ (more_in f file (left_out most es) ++ refusal_in f p file tree)

@@ -2,7 +2,7 @@
 
 ghost use Rattle.std.specs.Prelude.{◌≡◌, ◌<◌, ◌^◌, length, IfOk};
 ghost use Rattle.ecma_page.specs.declared.frame.Frame.{Frame as PageFrame};
-ghost use Rattle.ecma_check.specs.Printed.{IsChecked, IsCheckedReading, IsPrinted, IsTreeLine, fault_count};
+ghost use Rattle.ecma_check.specs.Printed.{IsChecked, IsCheckedReading, IsPrinted, IsTreeLine};
 
 use crate::command::{Format, Settings};
 use crate::fault::Fault;
@@ -26,7 +26,7 @@ pub struct Printed {
 #[derive(Drop)]
 pub struct Checked {
     pub outcome: Outcome,
-    /// How many faults are told, with that for which there is no tree.
+    /// How many faults were recorded.
     pub faults: usize,
     pub printed: Printed,
 }
@@ -65,7 +65,7 @@ fn printed_of(
         (λ it. IsPrinted settings.format settings.options frame.now file.now text.now
         reading.now.tree reading.now.faults.items it.out.items it.notes.items) }
 {
-    let told = told(alloc, settings.format, file, text, reading)?;
+    let told = told(alloc, settings, file, text, reading)?;
     let none = Vec::new(alloc);
     let options = settings.options;
     match settings.format {
@@ -92,17 +92,6 @@ fn printed_of(
     }
 }
 
-/// How many faults are told.
-fn count(reading: &Reading) -> usize
-    ensures { result ≡ fault_count reading.now.tree reading.now.faults.items }
-{
-    let recorded = reading.faults.len();
-    match &reading.tree {
-        Ok(_) => recorded,
-        Err(_) => recorded + 1,
-    }
-}
-
 /// What a text comes to that was read.
 fn checked_reading(
     alloc: Global,
@@ -118,7 +107,7 @@ fn checked_reading(
     let printed = printed_of(alloc, frame, settings, file, text, reading)?;
     Ok(Checked {
         outcome: reading.outcome(),
-        faults: count(reading),
+        faults: reading.faults.len(),
         printed,
     })
 }

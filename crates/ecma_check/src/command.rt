@@ -1,15 +1,20 @@
 //! The words that a run is called with.
 
-ghost use Rattle.std.specs.Prelude.{◌≡◌, codes, map, option_map};
+ghost use Rattle.std.specs.Prelude.{◌≡◌, ◌==◌, IfErr, IfOk, OnOk, codes, map, option_map, true};
+ghost use Rattle.std.specs.List.{slice_split};
 ghost use Rattle.clap.specs.Words.{first_value, found_of, matched_of, raw_values};
 ghost use Rattle.ecma_check.specs.Command as spec;
-ghost use Rattle.ecma_check.specs.Command.{AreOptions, IsGoal, IsLimit, syntax_named};
+ghost use Rattle.ecma_check.specs.Command.{AreOptions, IsGoal, IsLimit, IsMost, IsOneGoal, names_in, syntax_named};
 
+use crate::fault::Fault;
 use clap::{Arg, ArgAction, ArgMatches, Command, Error};
-use ecma_answers::{Goal, MAX_LIMIT, Options};
+use ecma_answers::{Goal, MAX_FAULTS, MAX_LIMIT, Options};
 use ecma_estree_text::Extras;
 use std::alloc::{AllocError, Global};
 use swc_ecma_parser::input::{EsSyntax, Syntax};
+
+/// The version of the program, that of the package in npm/.
+const VERSION: &str = "0.1.0";
 
 /// What is printed.
 #[derive(Clone, Copy, Debug, PartialEq, Eq)]
@@ -49,24 +54,24 @@ fn limit<'a>(alloc: Global) -> Arg<'a> {
         .help("how many levels deep a file may nest, 1000 by default and at most")
 }
 
+/// How many faults are told of a file.
+fn max_faults<'a>(alloc: Global) -> Arg<'a> {
+    Arg::new(alloc, "max-faults")
+        .long("max-faults")
+        .value_name("N")
+        .value_parser(clap::value_parser!(u32))
+        .help("how many faults are told of a file, 1000 by default; 0 for all")
+}
+
 /// What is read besides ECMA-262.
 fn enable<'a>(alloc: Global) -> Arg<'a> {
-    let flags = [
-        "decorators",
-        "decorators-before-export",
-        "export-default-from",
-        "import-attributes",
-        "return-outside-function",
-        "auto-accessors",
-        "explicit-resource-management",
-    ]
-    .as_slice();
     Arg::new(alloc, "enable")
         .long("enable")
-        .value_name("FLAG")
-        .value_parser(flags)
+        .value_name("FLAG,..")
         .action(ArgAction::Append)
-        .help("reads a proposal, or lets something pass")
+        .help(
+            "reads a proposal, or lets something pass: decorators, decorators-before-export, export-default-from, import-attributes, return-outside-function, auto-accessors, explicit-resource-management",
+        )
 }
 
 /// What is printed.
@@ -86,20 +91,17 @@ fn files<'a>(alloc: Global) -> Arg<'a> {
         .help("the files; standard input, where none or - is given")
 }
 
-/// The words that say what files are read as. Each excludes the others.
+/// The words that say what files are read as. Each excludes the others, which `settings_of` sees to.
 fn with_goals<'a>(alloc: Global, command: Command<'a>) -> Result<Command<'a>, AllocError> {
-    let script = flag(alloc, "script", "reads each file as a script")
-        .conflicts_with("module")?
-        .conflicts_with("program")?;
-    let module = flag(alloc, "module", "reads each file as a module")
-        .conflicts_with("script")?
-        .conflicts_with("program")?;
     let program = flag(
         alloc,
         "program",
         "reads each file as a module where it holds an import or export, the default",
     );
-    command.arg(script)?.arg(module)?.arg(program)
+    command
+        .arg(flag(alloc, "script", "reads each file as a script"))?
+        .arg(flag(alloc, "module", "reads each file as a module"))?
+        .arg(program)
 }
 
 /// The words that say what a tree has besides its nodes.
@@ -113,15 +115,34 @@ fn with_extras<'a>(alloc: Global, command: Command<'a>) -> Result<Command<'a>, A
 
 /// The command.
 fn command<'a>(alloc: Global) -> Result<Command<'a>, AllocError> {
-    let command = Command::new(alloc, "ecma-check").about(
+    let command = Command::new(alloc, "ecma-check").version(VERSION).about(
         "Tells the faults of JavaScript files, or writes their trees",
     );
     let command = with_goals(alloc, command)?;
     let command = command
         .arg(limit(alloc))?
+        .arg(max_faults(alloc))?
         .arg(enable(alloc))?
         .arg(format_word(alloc))?;
     with_extras(alloc, command)?.arg(files(alloc))
+}
+
+/// Whether one of three at most is so.
+fn is_at_most_one(first: bool, second: bool, third: bool) -> bool
+    ensures { result ≡ spec.is_at_most_one first second third }
+{
+    !(first && second || first && third || second && third)
+}
+
+/// Whether one word at most says what files are read as.
+#[tactic(auto, using(crate::proofs::Names::one_goal))]
+fn has_one_goal(matches: &ArgMatches<'_>) -> bool
+    ensures { result ≡ true → IsOneGoal (found_of matches.now) }
+{
+    let is_script = matches.get_flag("script");
+    let is_module = matches.get_flag("module");
+    let is_program = matches.get_flag("program");
+    is_at_most_one(is_script, is_module, is_program)
 }
 
 /// What a file is read as.
@@ -154,6 +175,44 @@ fn format_of(matches: &ArgMatches<'_>) -> Format
     ensures { result ≡ spec.format_named (first_value (found_of matches.now) (codes "format")) }
 {
     format_named(matches.get_str("format"))
+}
+
+/// Whether a name is one that can be enabled.
+fn is_flag(name: &str) -> bool
+    ensures { result ≡ spec.is_flag name.now }
+{
+    matches!(
+        name,
+        "decorators"
+            | "decorators-before-export"
+            | "export-default-from"
+            | "import-attributes"
+            | "return-outside-function"
+            | "auto-accessors"
+            | "explicit-resource-management"
+    )
+}
+
+/// The names between the commas of a word.
+fn parts_of(alloc: Global, word: &str) -> Result<Vec<&str>, AllocError>
+    ensures { IfOk result
+        (λ parts. map (λ part. part.now) parts.items ≡ slice_split (λ b. b == 44) word.now) }
+{
+    word.split(',').collect(alloc)
+}
+
+/// The names between the commas of some words.
+#[tactic(auto, using(crate::proofs::Names::names_more))]
+fn names_of<'a>(alloc: Global, words: &[&'a str]) -> Result<Vec<&'a str>, AllocError>
+    ensures { IfOk result
+        (λ names. map (λ name. name.now) names.items ≡ names_in (map (λ word. word.now) words.now)) }
+{
+    let mut names = Vec::new(alloc);
+    for word in words {
+        let parts = parts_of(alloc, word)?;
+        names.extend_from_slice(parts.as_slice())?;
+    }
+    Ok(names)
 }
 
 /// Turns on what a word names.
@@ -193,26 +252,42 @@ fn enabled(settings: EsSyntax, name: &str) -> EsSyntax
     }
 }
 
-/// Turns on what some words name.
-fn all_enabled(settings: EsSyntax, names: &[&str]) -> EsSyntax
-    ensures { result ≡ spec.all_enabled settings (map (λ name. name.now) names.now) }
+/// Turns on what some names say, if all of them are known.
+fn all_enabled(settings: EsSyntax, names: &[&str]) -> Result<EsSyntax, Fault>
+    ensures enabled { IfOk result
+        (λ it. it ≡ spec.all_enabled settings (map (λ name. name.now) names.now)) }
+    ensures unknown { IfErr result (λ fault. fault ≡ Fault.UnknownFlag) }
 {
     let mut settings = settings;
     for name in names {
+        if !is_flag(name) {
+            return Err(Fault::UnknownFlag);
+        }
         settings = enabled(settings, name);
     }
-    settings
+    Ok(settings)
+}
+
+/// Turns on what some words name, if all of it is known.
+fn with_named(alloc: Global, settings: EsSyntax, words: &[&str]) -> Result<EsSyntax, Fault>
+    ensures { IfOk result
+        (λ it. it ≡ spec.all_enabled settings (names_in (map (λ word. word.now) words.now))) }
+{
+    let names = names_of(alloc, words)?;
+    all_enabled(settings, names.as_slice())
 }
 
 /// What is read besides ECMA-262.
-fn syntax_of(matches: &ArgMatches<'_>) -> Syntax
-    ensures { result
-        ≡ syntax_named (option_map raw_values (matched_of (found_of matches.now) (codes "enable"))) }
+#[tactic(auto, using(crate::proofs::Names::named))]
+fn syntax_of(alloc: Global, matches: &ArgMatches<'_>) -> Result<Syntax, Fault>
+    ensures { IfOk result
+        (λ it. it
+        ≡ syntax_named (option_map raw_values (matched_of (found_of matches.now) (codes "enable")))) }
 {
     let plain = Syntax::default();
     match matches.get_strs("enable") {
-        Some(names) => Syntax::Es(all_enabled(plain.es(), names)),
-        None => plain,
+        Some(words) => Ok(Syntax::Es(with_named(alloc, plain.es(), words)?)),
+        None => Ok(plain),
     }
 }
 
@@ -226,33 +301,52 @@ fn limit_of(matches: &ArgMatches<'_>) -> u32
     }
 }
 
+/// How many faults are told of a file.
+fn max_faults_of(matches: &ArgMatches<'_>) -> u32
+    ensures { IsMost (found_of matches.now) result }
+{
+    match matches.get_one::<u32>("max-faults") {
+        Some(most) => most,
+        None => MAX_FAULTS,
+    }
+}
+
 /// How each file is read, and how its tree is written.
-fn options_of(matches: &ArgMatches<'_>) -> Options
+fn options_of(matches: &ArgMatches<'_>, syntax: Syntax) -> Options
+    requires { syntax
+        ≡ syntax_named (option_map raw_values (matched_of (found_of matches.now) (codes "enable"))) }
     ensures { AreOptions (found_of matches.now) result }
 {
     Options {
         goal: goal_of(matches),
         limit: limit_of(matches),
-        syntax: syntax_of(matches),
+        syntax,
         extras: Extras {
             locations: matches.get_flag("locations"),
             ranges: matches.get_flag("ranges"),
         },
         comments: matches.get_flag("comments"),
         tokens: matches.get_flag("tokens"),
+        max_faults: max_faults_of(matches),
     }
 }
 
 /// What is asked for, but for the files.
-pub fn settings_of(matches: &ArgMatches<'_>) -> Settings
-    ensures format { result.format
-        ≡ spec.format_named (first_value (found_of matches.now) (codes "format")) }
-    ensures options { AreOptions (found_of matches.now) result.options }
+pub fn settings_of(alloc: Global, matches: &ArgMatches<'_>) -> Result<Settings, Fault>
+    ensures format { IfOk result
+        (λ it. it.format
+        ≡ spec.format_named (first_value (found_of matches.now) (codes "format"))) }
+    ensures options { IfOk result (λ it. AreOptions (found_of matches.now) it.options) }
+    ensures goals { OnOk result (IsOneGoal (found_of matches.now)) }
 {
-    Settings {
-        format: format_of(matches),
-        options: options_of(matches),
+    if !has_one_goal(matches) {
+        return Err(Fault::ManyGoals);
     }
+    let syntax = syntax_of(alloc, matches)?;
+    Ok(Settings {
+        format: format_of(matches),
+        options: options_of(matches, syntax),
+    })
 }
 
 /// What the words ask for.

@@ -1,6 +1,7 @@
 //! The program `ecma-check`: it tells the faults of JavaScript files in sentences, or writes their trees as ESTree.
 #![tactic(auto)]
 
+mod call;
 mod check;
 mod command;
 mod fault;
@@ -8,23 +9,19 @@ mod page;
 mod read;
 mod run;
 mod sum;
+mod tell;
 #[cfg(test)]
 mod tests;
 mod told;
+mod words;
 
 use std::process::ExitCode;
-use std::rt::Env;
-use std::{env, io};
-
-/// The arguments, the program's name among them.
-fn words(rt: &(impl Env + AllocGlobal)) -> io::Result<Vec<String>> {
-    Ok(env::args(rt)?.collect(rt.alloc())?)
-}
 
 fn main(rt: HostRuntime) -> ExitCode {
+    let words = words::words(&rt);
     let status = run::run(
         &rt,
-        &words(&rt),
+        &call::asked(rt.alloc(), &words),
         &mut rt.stdin(),
         &mut rt.stdout(),
         &mut rt.stderr(),

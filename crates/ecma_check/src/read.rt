@@ -4,6 +4,7 @@ ghost use Rattle.std.specs.Prelude.{◌≡◌, IfOk, IfSome, OnOk, codes, string
 ghost use Rattle.std.specs.Io.KnownBytes.{IsAtEnd};
 
 use crate::fault::Fault;
+use crate::words::is_marked;
 use std::alloc::Global;
 use std::fs;
 use std::io::{ErrorKind, Read};
@@ -22,7 +23,7 @@ fn fault_of(kind: ErrorKind) -> Fault {
 }
 
 /// All that standard input has left.
-pub fn input_text<I: Read>(alloc: Global, input: &mut I) -> Result<String, Fault>
+fn input_text<I: Read>(alloc: Global, input: &mut I) -> Result<String, Fault>
     ensures whole { IfOk result
         (λ text. IfSome (I.remaining input.old) (λ xs. string_bytes text ≡ xs)) }
     ensures end { OnOk result (IsAtEnd (I.remaining input.new)) }
@@ -46,6 +47,9 @@ pub fn text_of<R: Files + AllocGlobal, I: Read>(
 {
     if file == "-" {
         return input_text(rt.alloc(), input);
+    }
+    if is_marked(file) {
+        return Err(Fault::BadName);
     }
     match fs::read_to_string(rt, file) {
         Ok(text) => Ok(text),

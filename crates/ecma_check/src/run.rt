@@ -1,85 +1,89 @@
-//! A run, from its words to its status.
+//! A run, from what the words ask for to its status.
 
-ghost use Rattle.std.specs.Prelude.{◌≡◌, ◌≤◌, ◌⊎◌, IfOk, IfErr, IfSome, OnOk, codes};
+ghost use Rattle.std.specs.Prelude.{◌≡◌, ◌≤◌, ◌⊎◌, ℕ, List, IfOk, IfErr, IfSome, OnOk, Ok, Err, codes, map};
 ghost use Rattle.std.specs.Io.KnownBytes.{Appends};
-ghost use Rattle.swc_ecma_parser_model.specs.Tree.{Tree};
-ghost use Rattle.ecma_answers.specs.Spelled.{Spells};
-ghost use Rattle.ecma_check.specs.Answered.{IsAnswered, Shows, summed};
+ghost use Rattle.ecma_page.specs.declared.frame.Frame.{Frame as PageFrame};
+ghost use Rattle.ecma_check.specs.Answered.{summed};
+ghost use Rattle.ecma_check.specs.Faults.{IsShown, fault_line};
+ghost use Rattle.ecma_check.specs.Printed.{IsChecked};
+ghost use Rattle.ecma_check.specs.Runs.{AreAnswered, Ends, EndsRun, IsRun};
 ghost use Rattle.ecma_check.specs.Sum as spec;
 
-use crate::check::check;
-use crate::command::{Format, Settings, matches_of, settings_of};
+use crate::call::Call;
+use crate::check::{Checked, Printed, check};
+use crate::command::{Format, Settings};
 use crate::fault::Fault;
-use crate::read::{input_text, text_of};
+use crate::read::text_of;
 use crate::sum::{Sum, added, empty, line, status};
-use clap::Error;
+use crate::tell::{cut_off, tell, write_bytes, write_fault, write_notes};
+use crate::words::shown;
 use ecma_answers::Outcome;
-use ecma_faults::push_name;
-use std::alloc::{AllocError, Global};
-use std::io::{self, ErrorKind, Read, Write};
+use std::alloc::Global;
+use std::io::{Read, Write};
 use std::rt::Files;
 
-/// Writes all of some bytes.
-fn write_bytes<W: Write>(output: &mut W, bytes: &[u8]) -> Result<(), Fault>
-    ensures ok { OnOk result (Appends (W.contents output.old) (W.contents output.new) bytes.now) }
-    ensures err { IfErr result (λ fault. fault ≡ Fault.CannotWrite) }
-{
-    if output.write_all(bytes).is_err() {
-        return Err(Fault::CannotWrite);
-    }
-    Ok(())
-}
-
-/// Prints what a text comes to. The answer is how it comes out, and how many faults are told.
-fn answer_text<W: Write, E: Write>(
-    alloc: Global,
-    settings: Settings,
-    file: &str,
-    text: &str,
-    output: &mut W,
-    errors: &mut E,
-) -> Result<(Outcome, usize), Fault>
-    ensures { IfOk result
-        (λ it. IsAnswered settings file.now text.now it (W.contents output.old)
-        (W.contents output.new)) }
-{
-    let checked = check(alloc, settings, file, text)?;
-    write_bytes(output, checked.printed.out.as_slice())?;
-    // There is no place left to say that this fails.
-    let _ = errors.write_all(checked.printed.notes.as_slice());
-    Ok((checked.outcome, checked.faults))
-}
-
-/// Reads a file, and prints what it comes to.
-fn answer<R: Files + AllocGlobal, I: Read, W: Write, E: Write>(
+/// What a file, or standard input for `-`, comes to. Nothing is written.
+fn checked_file<R: Files + AllocGlobal, I: Read>(
     rt: &R,
     settings: Settings,
     file: &str,
     input: &mut I,
+) -> Result<Checked, Fault>
+    ensures { IfOk result
+        (λ it. (text : List ℕ)
+        × (file.now ≡ codes "-" → IfSome (I.remaining input.old) (λ xs. text ≡ xs))
+        × ((frame : PageFrame) × IsChecked settings frame file.now text it)) }
+{
+    let text = text_of(rt, input, file)?;
+    check(rt.alloc(), settings, file, text.as_str())
+}
+
+/// What a file comes to: how its text comes out, and how many faults were recorded.
+fn answer_of(checked: &Result<Checked, Fault>) -> Result<(Outcome, usize), Fault>
+    ensures read { IfOk checked.now (λ it. result ≡ Ok (it.outcome, it.faults)) }
+    ensures unread { IfErr checked.now (λ fault. result ≡ Err fault) }
+{
+    match checked {
+        Ok(checked) => Ok((checked.outcome, checked.faults)),
+        Err(fault) => Err(*fault),
+    }
+}
+
+/// Prints what a text comes to.
+fn write_printed<W: Write, E: Write>(
     output: &mut W,
     errors: &mut E,
-) -> Result<(Outcome, usize), Fault> {
-    let text = text_of(rt, input, file)?;
-    answer_text(rt.alloc(), settings, file, text.as_str(), output, errors)
+    printed: &Printed,
+) -> Result<(), Fault>
+    ensures out { OnOk result
+        (Appends (W.contents output.old) (W.contents output.new) printed.now.out.items) }
+    ensures notes { OnOk result
+        (Appends (E.contents errors.old) (E.contents errors.new) printed.now.notes.items) }
+{
+    write_bytes(output, printed.out.as_slice())?;
+    write_notes(errors, printed.notes.as_slice())
 }
 
-/// Writes lines of a text as a terminal may show them.
-fn push_lines(out: &mut Vec<u8>, text: &str) -> Result<(), AllocError> {
-    for line in text.lines() {
-        push_name(out, line)?;
-        out.push(b'\n')?;
+/// Prints what a file comes to, or tells why it is not read. It fails where nothing can be written any more.
+fn write_answer<W: Write, E: Write>(
+    alloc: Global,
+    output: &mut W,
+    errors: &mut E,
+    file: &str,
+    checked: &Result<Checked, Fault>,
+) -> Result<(), Fault>
+    ensures read { OnOk result (IfOk checked.now
+        (λ it. Appends (W.contents output.old) (W.contents output.new) it.printed.out.items
+        × Appends (E.contents errors.old) (E.contents errors.new) it.printed.notes.items)) }
+    ensures unread { OnOk result (IfErr checked.now
+        (λ fault. (W.contents output.new ≡ W.contents output.old)
+        × ((name : List ℕ) × IsShown file.now name
+        × Appends (E.contents errors.old) (E.contents errors.new) (fault_line name fault)))) }
+{
+    match checked {
+        Ok(checked) => write_printed(output, errors, &checked.printed),
+        Err(fault) => tell(alloc, errors, shown(file), *fault),
     }
-    Ok(())
-}
-
-/// Tells why a file, or the program, comes to no answer.
-fn tell<E: Write>(alloc: Global, errors: &mut E, name: &str, fault: Fault) {
-    let mut shown = Vec::new(alloc);
-    // There is no place left to say that one of these fails.
-    if push_name(&mut shown, name).is_ok() {
-        let _ = errors.write_all(shown.as_slice());
-    }
-    let _ = writeln!(errors, ": {fault}");
 }
 
 /// Writes the line that sums up a run, if people read it, and sees to it that all is written.
@@ -91,65 +95,10 @@ fn finish<W: Write>(alloc: Global, output: &mut W, format: Format, sum: Sum) -> 
         let line = line(alloc, sum)?;
         write_bytes(output, line.as_slice())?;
     }
-    if output.flush().is_err() {
-        return Err(Fault::CannotWrite);
+    match output.flush() {
+        Ok(()) => Ok(()),
+        Err(error) => Err(write_fault(&error)),
     }
-    Ok(())
-}
-
-/// Prints what standard input comes to.
-fn answer_input<I: Read, W: Write, E: Write>(
-    alloc: Global,
-    settings: Settings,
-    input: &mut I,
-    output: &mut W,
-    errors: &mut E,
-) -> Result<(Outcome, usize), Fault>
-    ensures { IfOk result (λ it. IfSome (I.remaining input.old)
-        (λ xs. IsAnswered settings (codes "-") xs it (W.contents output.old)
-        (W.contents output.new))) }
-{
-    let text = input_text(alloc, input)?;
-    answer_text(alloc, settings, "-", text.as_str(), output, errors)
-}
-
-/// Tells why a file comes to no answer, if it comes to none. It fails where nothing can be written any more.
-fn tell_answer<E: Write>(
-    alloc: Global,
-    errors: &mut E,
-    file: &str,
-    answer: &Result<(Outcome, usize), Fault>,
-) -> Result<(), Fault> {
-    match answer {
-        Err(Fault::CannotWrite) => Err(Fault::CannotWrite),
-        Err(fault) => {
-            tell(alloc, errors, file, *fault);
-            Ok(())
-        }
-        Ok(_) => Ok(()),
-    }
-}
-
-/// What standard input comes to, with all printed that was asked for.
-fn input_sum<I: Read, W: Write, E: Write>(
-    alloc: Global,
-    settings: Settings,
-    input: &mut I,
-    output: &mut W,
-    errors: &mut E,
-) -> Result<Sum, Fault>
-    ensures clean { IfOk result (λ sum. spec.status sum ≡ 0
-        → IfSome (I.remaining input.old) (λ xs. (x : Tree) × Spells settings.options xs x
-        × Shows settings xs x (W.contents output.old) (W.contents output.new))) }
-    ensures spelled { IfOk result (λ sum. IfSome (I.remaining input.old)
-        (λ xs. (x : Tree) → Spells settings.options xs x
-        → (spec.status sum ≡ 0) ⊎ (spec.status sum ≡ 3))) }
-{
-    let answer = answer_input(alloc, settings, input, output, errors);
-    tell_answer(alloc, errors, "-", &answer)?;
-    let sum = added(empty(), answer);
-    finish(alloc, output, settings.format, sum)?;
-    Ok(sum)
 }
 
 /// The status of a run, and a line on standard error where it came to no end.
@@ -160,33 +109,12 @@ fn ended<E: Write>(alloc: Global, errors: &mut E, sum: Result<Sum, Fault>) -> u8
 {
     match sum {
         Ok(sum) => status(sum),
-        Err(fault) => {
-            tell(alloc, errors, "ecma-check", fault);
-            3
-        }
+        Err(fault) => cut_off(alloc, errors, fault),
     }
 }
 
-/// A run over standard input. It answers the status: 0 where the text spells a tree and all that was asked for is written.
-fn run_input<I: Read, W: Write, E: Write>(
-    alloc: Global,
-    settings: Settings,
-    input: &mut I,
-    output: &mut W,
-    errors: &mut E,
-) -> u8
-    ensures status { result ≤ 3 }
-    ensures clean { result ≡ 0
-        → IfSome (I.remaining input.old) (λ xs. (x : Tree) × Spells settings.options xs x
-        × Shows settings xs x (W.contents output.old) (W.contents output.new)) }
-    ensures spelled { IfSome (I.remaining input.old)
-        (λ xs. (x : Tree) → Spells settings.options xs x → (result ≡ 0) ⊎ (result ≡ 3)) }
-{
-    let sum = input_sum(alloc, settings, input, output, errors);
-    ended(alloc, errors, sum)
-}
-
-/// Reads each file and prints what it comes to, or says that nothing can be printed.
+/// Reads each file and prints what it comes to. It fails where nothing can be written any more.
+#[tactic(auto, using(crate::proofs::Files::answered_none, crate::proofs::Files::answered_more))]
 fn answers<R: Files + AllocGlobal, I: Read, W: Write, E: Write>(
     rt: &R,
     settings: Settings,
@@ -194,13 +122,36 @@ fn answers<R: Files + AllocGlobal, I: Read, W: Write, E: Write>(
     input: &mut I,
     output: &mut W,
     errors: &mut E,
-) -> Result<Sum, Fault> {
+) -> Result<Sum, Fault>
+    ensures { IfOk result
+        (AreAnswered settings (map (λ file. file.now) files.now) (I.remaining input.old)
+        (I.remaining input.new) (W.contents output.old) (W.contents output.new)
+        (E.contents errors.old) (E.contents errors.new)) }
+{
     let mut sum = empty();
     for file in files {
-        let answer = answer(rt, settings, file, input, output, errors);
-        tell_answer(rt.alloc(), errors, file, &answer)?;
-        sum = added(sum, answer);
+        let checked = checked_file(rt, settings, file, input);
+        write_answer(rt.alloc(), output, errors, file, &checked)?;
+        sum = added(sum, answer_of(&checked));
     }
+    Ok(sum)
+}
+
+/// The same, and the line that sums up.
+fn summed_answers<R: Files + AllocGlobal, I: Read, W: Write, E: Write>(
+    rt: &R,
+    settings: Settings,
+    files: &[&str],
+    input: &mut I,
+    output: &mut W,
+    errors: &mut E,
+) -> Result<Sum, Fault>
+    ensures { IfOk result
+        (IsRun settings (map (λ file. file.now) files.now) (I.remaining input.old)
+        (W.contents output.old) (W.contents output.new) (E.contents errors.old)
+        (E.contents errors.new)) }
+{
+    let sum = answers(rt, settings, files, input, output, errors)?;
     finish(rt.alloc(), output, settings.format, sum)?;
     Ok(sum)
 }
@@ -213,7 +164,8 @@ fn is_of_one_file(format: Format) -> bool {
     }
 }
 
-/// A run over files. It answers the status.
+/// A run over files. It answers the status, which is 3 where the run comes to no end.
+#[tactic(auto, using(crate::proofs::Files::cut_run, crate::proofs::Files::ended_run))]
 fn run_files<R: Files + AllocGlobal, I: Read, W: Write, E: Write>(
     rt: &R,
     settings: Settings,
@@ -222,81 +174,53 @@ fn run_files<R: Files + AllocGlobal, I: Read, W: Write, E: Write>(
     output: &mut W,
     errors: &mut E,
 ) -> u8
-    ensures { result ≤ 3 }
+    ensures bound { result ≤ 3 }
+    ensures ends { EndsRun settings (map (λ file. file.now) files.now) (I.remaining input.old)
+        (W.contents output.old) (W.contents output.new) (E.contents errors.old)
+        (E.contents errors.new) result }
 {
     if is_of_one_file(settings.format) && files.len() != 1 {
-        tell(rt.alloc(), errors, "ecma-check", Fault::ManyFiles);
-        return 3;
+        return cut_off(rt.alloc(), errors, Fault::ManyFiles);
     }
-    let sum = answers(rt, settings, files, input, output, errors);
+    let sum = summed_answers(rt, settings, files, input, output, errors);
     ended(rt.alloc(), errors, sum)
 }
 
-/// Writes what the words come to that ask for no run.
-fn print_words<W: Write>(alloc: Global, output: &mut W, error: &Error) -> Result<(), Fault> {
-    let text = format!(in alloc; "{error}")?;
-    let mut shown = Vec::new(alloc);
-    push_lines(&mut shown, text.as_str())?;
-    write_bytes(output, shown.as_slice())
-}
-
-/// Tells what is wrong with the words, or prints the help that they ask for.
-fn tell_words<W: Write, E: Write>(
-    alloc: Global,
-    output: &mut W,
-    errors: &mut E,
-    error: &Error,
-) -> u8
-    ensures { result ≤ 3 }
+/// Prints a text that is asked for. It answers the status.
+fn print<W: Write, E: Write>(alloc: Global, output: &mut W, errors: &mut E, text: &[u8]) -> u8
+    ensures bound { result ≤ 3 }
+    ensures printed { ((result ≡ 0)
+        × Appends (W.contents output.old) (W.contents output.new) text.now) ⊎ (result ≡ 3) }
 {
-    if error.use_stderr() {
-        // There is no place left to say that this fails.
-        let _ = print_words(alloc, errors, error);
-        return 3;
-    }
-    match print_words(alloc, output, error) {
+    match write_bytes(output, text) {
         Ok(()) => 0,
-        Err(fault) => {
-            tell(alloc, errors, "ecma-check", fault);
-            3
-        }
+        Err(fault) => cut_off(alloc, errors, fault),
     }
 }
 
-/// Why there are no words.
-fn word_fault(error: &io::Error) -> Fault {
-    match error.kind() {
-        ErrorKind::OutOfMemory => Fault::OutOfMemory,
-        _ => Fault::BadWord,
-    }
-}
-
-/// A run over its words, a reader and two writers. It answers the status: 0 where each file is clean, 1 where one has faults, 2 where one has
-/// no tree, 3 where one cannot be read, nothing can be written, or the words are no command.
+/// Does what the words ask for, with a reader and two writers. It answers the status: 0 where each file is clean, 1 where one has faults, 2 where
+/// one has no tree, 3 where one cannot be read, nothing can be written, or the words are no command.
 pub fn run<R: Files + AllocGlobal, I: Read, W: Write, E: Write>(
     rt: &R,
-    words: &io::Result<Vec<String>>,
+    call: &Call<'_>,
     input: &mut I,
     output: &mut W,
     errors: &mut E,
 ) -> u8
     ensures status { result ≤ 3 }
-    ensures wordless { IfErr words.now (λ _. result ≡ 3) }
+    ensures ends { Ends call.now (I.remaining input.old) (W.contents output.old)
+        (W.contents output.new) (E.contents errors.old) (E.contents errors.new) result }
 {
-    let words = match words {
-        Ok(words) => words,
-        Err(error) => {
-            tell(rt.alloc(), errors, "ecma-check", word_fault(error));
-            return 3;
+    match call {
+        Call::Check(settings, files) => {
+            run_files(rt, *settings, files.as_slice(), input, output, errors)
         }
-    };
-    let matches = match matches_of(rt.alloc(), words.as_slice()) {
-        Ok(matches) => matches,
-        Err(error) => return tell_words(rt.alloc(), output, errors, &error),
-    };
-    let settings = settings_of(&matches);
-    match matches.get_strs("FILE") {
-        Some(files) if !files.is_empty() => run_files(rt, settings, files, input, output, errors),
-        _ => run_input(rt.alloc(), settings, input, output, errors),
+        Call::Print(text) => print(rt.alloc(), output, errors, text.as_slice()),
+        Call::Refuse(text) => {
+            // There is no place left to say that this fails.
+            let _ = write_notes(errors, text.as_slice());
+            3
+        }
+        Call::Fail(fault) => cut_off(rt.alloc(), errors, *fault),
     }
 }

@@ -1,7 +1,8 @@
 //! Runs over readers and writers in memory.
 
+use crate::call::asked;
 use crate::run::run;
-use std::alloc::Global;
+use std::alloc::{AllocError, Global};
 use std::io::{Read, Write};
 use std::test::Fail;
 use std::{io, str};
@@ -28,13 +29,14 @@ impl Read for Source<'_> {
 struct Target {
     taken: Vec<u8>,
     room: usize,
+    failure: io::ErrorKind,
 }
 
 impl Write for Target {
     fn write(&mut self, buf: &[u8]) -> io::Result<usize> {
         let count = buf.len().min(self.room).min(3);
         if count == 0 {
-            return Err(io::Error::from(io::ErrorKind::BrokenPipe));
+            return Err(io::Error::from(self.failure));
         }
         self.room -= count;
         self.taken.extend_from_slice(&buf[..count])?;
@@ -44,13 +46,13 @@ impl Write for Target {
     /// It fails where no room is left.
     fn flush(&mut self) -> io::Result<()> {
         if self.room == 0 {
-            return Err(io::Error::from(io::ErrorKind::BrokenPipe));
+            return Err(io::Error::from(self.failure));
         }
         Ok(())
     }
 }
 
-/// What a run is given: its words, standard input, and the room on standard output and on standard error.
+/// What a run is given: its words, standard input, the room on standard output and on standard error, and how they fail where it ends.
 #[derive(Clone, Copy)]
 struct Given<'a> {
     words: &'a [&'a str],
@@ -58,6 +60,7 @@ struct Given<'a> {
     is_broken: bool,
     room: usize,
     note_room: usize,
+    failure: io::ErrorKind,
 }
 
 /// A reader that does not fail, and writers with room.
@@ -68,11 +71,12 @@ fn plain<'a>(words: &'a [&'a str], input: &'a [u8]) -> Given<'a> {
         is_broken: false,
         room: 100_000,
         note_room: 1000,
+        failure: io::ErrorKind::Other,
     }
 }
 
 /// The words of a call, the program's name among them.
-fn called(alloc: Global, given: &[&str]) -> io::Result<Vec<String>> {
+fn called(alloc: Global, given: &[&str]) -> Result<Vec<String>, AllocError> {
     let mut words = Vec::new(alloc);
     words.push(String::from_str(alloc, "ecma-check")?)?;
     for word in given {
@@ -84,7 +88,7 @@ fn called(alloc: Global, given: &[&str]) -> io::Result<Vec<String>> {
 /// What a run over some words prints, on both outputs, and its status.
 fn ended(
     rt: &HostRuntime,
-    words: io::Result<Vec<String>>,
+    words: Result<Vec<String>, AllocError>,
     given: Given<'_>,
 ) -> Result<String, Fail> {
     let alloc = rt.alloc();
@@ -95,12 +99,15 @@ fn ended(
     let mut output = Target {
         taken: Vec::new(alloc),
         room: given.room,
+        failure: given.failure,
     };
     let mut errors = Target {
         taken: Vec::new(alloc),
         room: given.note_room,
+        failure: given.failure,
     };
-    let status = run(rt, &words, &mut input, &mut output, &mut errors);
+    let call = asked(alloc, &words);
+    let status = run(rt, &call, &mut input, &mut output, &mut errors);
     let output = str::from_utf8(output.taken.as_slice())?;
     let errors = str::from_utf8(errors.taken.as_slice())?;
     Ok(format!(in alloc; "{output}|{errors}|{status}")?)
@@ -121,7 +128,7 @@ fn faults_as_text(rt: HostRuntime) -> Result<(), Fail> {
         ),
         (
             "a\r\n'\u{1d4b3}\u{4e00}'; throw\n;/*\u{7}*/",
-            "-:3:1: refused: the line ends behind `throw`; write what is thrown on the same line (ECMA-262, 14.14)\n;/*\u{fffd}*/\n^\nfiles: 1, faults: 1, refused: 1, unread: 0\n||2",
+            "-:3:1: refused: the line ends behind `throw`; write what is thrown on the same line (ECMA-262, 14.14)\n;/*\u{fffd}*/\n^\nfiles: 1, faults: 0, refused: 1, unread: 0\n||2",
         ),
     ];
     for (text, wanted) in rows {
@@ -136,7 +143,7 @@ fn an_earlier_place(rt: HostRuntime) -> Result<(), Fail> {
     let found = printed(&rt, plain(&[], b"\ta b"))?;
     assert_eq!(rt;
         found.as_str(),
-        "-:1:4: refused: expected an operator, `;` or a line break behind `a`, found `b`\n\ta b\n\t  ^\n-:1:2: note: the expression stands here\n\ta b\n\t^\nfiles: 1, faults: 1, refused: 1, unread: 0\n||2"
+        "-:1:4: refused: expected an operator, `;` or a line break behind `a`, found `b`\n\ta b\n\t  ^\n-:1:2: note: the expression stands here\n\ta b\n\t^\nfiles: 1, faults: 0, refused: 1, unread: 0\n||2"
     );
     Ok(())
 }
@@ -167,6 +174,46 @@ fn a_tree_with_all_its_extras(rt: HostRuntime) -> Result<(), Fail> {
         found.as_str(),
         "{\"type\":\"Program\",\"start\":0,\"end\":3,\"range\":[0,3],\"body\":[{\"type\":\"ExpressionStatement\",\"start\":0,\"end\":1,\"range\":[0,1],\"expression\":{\"type\":\"Identifier\",\"start\":0,\"end\":1,\"range\":[0,1],\"name\":\"a\"}}],\"sourceType\":\"script\",\"comments\":[{\"type\":\"Line\",\"value\":\"\",\"start\":1,\"end\":3,\"range\":[1,3]}],\"tokens\":[{\"type\":\"Identifier\",\"value\":\"a\",\"start\":0,\"end\":1,\"range\":[0,1]}]}\n||0"
     );
+    Ok(())
+}
+
+#[test]
+fn values_of_literals(rt: HostRuntime) -> Result<(), Fail> {
+    let rows = [
+        ("'\\ud83d'", "\"value\":\"\\ud83d\",\"raw\":"),
+        ("'\\ud83d\\ude00'", "\"value\":\"\u{1f600}\",\"raw\":"),
+        (
+            "'\\uDE00\\u{d83d}a'",
+            "\"value\":\"\\ude00\\ud83da\",\"raw\":",
+        ),
+        (
+            "'\\ud83d\\\n\\ude00\\ufffd'",
+            "\"value\":\"\u{1f600}\u{fffd}\",\"raw\":",
+        ),
+        (
+            "'\\0\\x41\\n\\\"\\ud800'",
+            "\"value\":\"\\u0000A\\n\\\"\\ud800\",\"raw\":",
+        ),
+        (
+            "({'\\udfff': 1})",
+            "\"end\":10,\"value\":\"\\udfff\",\"raw\":",
+        ),
+        ("0x20000000000001", "\"value\":9007199254740993,\"raw\":"),
+        (
+            "0o2000000000000000000000",
+            "\"value\":18446744073709551616,\"raw\":",
+        ),
+        ("0x0000000000000000000001", "\"value\":1,\"raw\":"),
+        (
+            "0xffff_ffff_ffff_ffff_ffn",
+            "\"bigint\":\"4722366482869645213695\"}",
+        ),
+        ("0b1010n", "\"bigint\":\"10\"}"),
+    ];
+    for (text, value) in rows {
+        let found = printed(&rt, plain(&["--format", "estree"], text.as_bytes()))?;
+        assert!(rt; found.as_str().contains(value), "{text:?}");
+    }
     Ok(())
 }
 
@@ -212,7 +259,7 @@ fn faults_beside_a_tree(rt: HostRuntime) -> Result<(), Fail> {
             ..plain(&words, b"break")
         },
     )?;
-    let wanted = format!(in rt.alloc(); "{tree}|-:1:1|1")?;
+    let wanted = format!(in rt.alloc(); "{tree}|-:1:1|3")?;
     assert_eq!(rt; found.as_str(), wanted.as_str());
     let found = printed(&rt, plain(&words, b"throw\na"))?;
     assert_eq!(rt;
@@ -242,6 +289,7 @@ fn texts_that_cannot_be_read(rt: HostRuntime) -> Result<(), Fail> {
             "nosuch\u{fffd}file: there is no such file",
         ),
         ("/", "/: it is a directory"),
+        ("\0a\\xff", "a\\xff: its name is not UTF-8"),
     ];
     for (file, told) in rows {
         let found = printed(&rt, plain(&[file], b"\xff"))?;
@@ -260,7 +308,14 @@ fn texts_that_cannot_be_read(rt: HostRuntime) -> Result<(), Fail> {
 
 #[test]
 fn writers_that_fail(rt: HostRuntime) -> Result<(), Fail> {
-    let unwritten = "ecma-check: cannot write standard output\n|3";
+    let failures = [
+        (
+            io::ErrorKind::Other,
+            "ecma-check: cannot write standard output\n|3",
+        ),
+        // Nobody reads on.
+        (io::ErrorKind::BrokenPipe, "|3"),
+    ];
     let rows: [(&[&str], &[u8], usize, &str); 4] = [
         // Within a fault; the next file is not read.
         (&["--format", "json", "-", "nosuch"], b"break", 4, "{\"fi"),
@@ -271,26 +326,25 @@ fn writers_that_fail(rt: HostRuntime) -> Result<(), Fail> {
         (&["--help"], b"", 4, "Tell"),
     ];
     for (words, input, room, begin) in rows {
-        let found = printed(
-            &rt,
-            Given {
-                room,
-                ..plain(words, input)
-            },
-        )?;
-        let wanted = format!(in rt.alloc(); "{begin}|{unwritten}")?;
-        assert_eq!(rt; found.as_str(), wanted.as_str());
+        for (failure, end) in failures {
+            let found = printed(
+                &rt,
+                Given {
+                    room,
+                    failure,
+                    ..plain(words, input)
+                },
+            )?;
+            let wanted = format!(in rt.alloc(); "{begin}|{end}")?;
+            assert_eq!(rt; found.as_str(), wanted.as_str());
+        }
     }
     Ok(())
 }
 
 #[test]
 fn words_that_cannot_be_had(rt: HostRuntime) -> Result<(), Fail> {
-    let words = Err(io::Error::from(io::ErrorKind::InvalidData));
-    let found = ended(&rt, words, plain(&[], b"a"))?;
-    assert_eq!(rt; found.as_str(), "|ecma-check: a word is not UTF-8\n|3");
-    let words = Err(io::Error::from(io::ErrorKind::OutOfMemory));
-    let found = ended(&rt, words, plain(&[], b"a"))?;
+    let found = ended(&rt, Err(AllocError), plain(&[], b"a"))?;
     assert_eq!(rt; found.as_str(), "|ecma-check: out of memory\n|3");
     Ok(())
 }
@@ -333,6 +387,36 @@ fn the_other_files_go_on(rt: HostRuntime) -> Result<(), Fail> {
 }
 
 #[test]
+fn no_more_faults_than_are_asked_for(rt: HostRuntime) -> Result<(), Fail> {
+    let first = "{\"file\":\"-\",\"severity\":\"fault\",\"kind\":\"TS1105\",";
+    let rows = [
+        ("3", first, "\"endColumn\":18}\n||1"),
+        (
+            "2",
+            first,
+            "\"endColumn\":13}\n{\"file\":\"-\",\"severity\":\"more\",\"count\":1}\n||1",
+        ),
+        ("0", first, "\"endColumn\":18}\n||1"),
+    ];
+    for (most, begin, end) in rows {
+        let words = ["--max-faults", most, "--format", "json"];
+        let found = printed(&rt, plain(&words, b"break;break;break"))?;
+        let found = found.as_str();
+        assert!(rt;
+            found.starts_with(begin) && found.ends_with(end),
+            "{found:?}"
+        );
+    }
+    let found = printed(&rt, plain(&["--max-faults", "1"], b"break;break;break;a b"))?;
+    let found = found.as_str();
+    let middle =
+        "\n^^^^^^\n-: note: more faults: 2; --max-faults 0 reports all\n-:1:21: refused: ";
+    let end = "files: 1, faults: 3, refused: 1, unread: 0\n||2";
+    assert!(rt; found.contains(middle) && found.ends_with(end), "{found:?}");
+    Ok(())
+}
+
+#[test]
 fn goals_and_limits(rt: HostRuntime) -> Result<(), Fail> {
     let rows = [
         (
@@ -371,7 +455,7 @@ fn what_is_wrong_in_a_condition(rt: HostRuntime) -> Result<(), Fail> {
     let found = printed(&rt, plain(&["--script"], b"if ()"))?;
     assert_eq!(rt;
         found.as_str(),
-        "-:1:5: refused: expected an expression behind `(`, found `)`\nif ()\n    ^\n-:1:1: note: it stands in the condition of this `if`\nif ()\n^^\nfiles: 1, faults: 1, refused: 1, unread: 0\n||2"
+        "-:1:5: refused: expected an expression behind `(`, found `)`\nif ()\n    ^\n-:1:1: note: it stands in the condition of this `if`\nif ()\n^^\nfiles: 1, faults: 0, refused: 1, unread: 0\n||2"
     );
     let found = printed(&rt, plain(&["--script", "--format", "json"], b"{a"))?;
     assert_eq!(rt;
@@ -386,8 +470,15 @@ fn what_is_enabled(rt: HostRuntime) -> Result<(), Fail> {
     let found = printed(
         &rt,
         plain(
-            &["--enable", "return-outside-function", "--format", "json"],
-            b"return",
+            &[
+                "--enable",
+                "decorators,return-outside-function",
+                "--enable",
+                "auto-accessors",
+                "--format",
+                "json",
+            ],
+            b"return; class A { @b accessor c }",
         ),
     )?;
     assert_eq!(rt; found.as_str(), "||0");
@@ -399,11 +490,15 @@ fn words_that_are_no_command(rt: HostRuntime) -> Result<(), Fail> {
     let rows = [
         (
             ["--script", "--module"],
-            "|error: the argument '--script' cannot be used with '--module'\n",
+            "|ecma-check: --script, --module and --program exclude each other\n",
         ),
         (
             ["--\u{1b}x", "a"],
             "|error: unexpected argument '--\u{fffd}x' found\n",
+        ),
+        (
+            ["--enable", "decorators,decorator"],
+            "|ecma-check: --enable knows no such flag; ",
         ),
     ];
     for (words, begin) in rows {
@@ -415,6 +510,8 @@ fn words_that_are_no_command(rt: HostRuntime) -> Result<(), Fail> {
         );
     }
     let found = printed(&rt, plain(&["--help"], b""))?;
-    assert!(rt; found.as_str().contains("--enable <FLAG>") && found.as_str().ends_with("||0"));
+    assert!(rt; found.as_str().contains("--enable <FLAG,..>") && found.as_str().ends_with("||0"));
+    let found = printed(&rt, plain(&["--version"], b""))?;
+    assert_eq!(rt; found.as_str(), "ecma-check 0.1.0\n||0");
     Ok(())
 }

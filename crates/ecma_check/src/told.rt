@@ -1,11 +1,12 @@
-//! What is told of a text: the faults that were recorded, and why there is no tree.
+//! What is told of a text: the first faults that were recorded, how many more there are, and why there is no tree.
 
 ghost use Rattle.std.specs.Prelude.{◌≡◌, ◌<◌, ◌++◌, ◌^◌, length, IfOk, OnOk};
-ghost use Rattle.ecma_check.specs.Told.{fault_in, faults_in, lined, refusal_in, told_in};
+ghost use Rattle.ecma_check.specs.Told.{counted_in, fault_in, faults_in, lined, more_in, more_json, more_text, refusal_in, told_in};
 
-use crate::command::Format;
-use ecma_answers::{Reading, Tree};
-use ecma_faults::{Source, push_json, push_text};
+use crate::command::{Format, Settings};
+use ecma_answers::{Reading, Tree, front, left_out};
+use ecma_estree_text::{push_count, push_quoted};
+use ecma_faults::{Source, push_json, push_name, push_text};
 use std::alloc::{AllocError, Global};
 use swc_ecma_parser::error::{Error, PResult};
 
@@ -46,6 +47,54 @@ fn push_faults(
     Ok(())
 }
 
+/// Writes how many more faults there are, as a line of text.
+#[tactic(auto, unfolding(crate::specs::Told::more_text))]
+fn push_more_text(out: &mut Vec<u8>, file: &str, more: usize) -> Result<(), AllocError>
+    ensures { OnOk result (out.new.items ≡ out.old.items ++ more_text file.now more) }
+{
+    push_name(out, file)?;
+    out.extend_from_slice(b": note: more faults: ")?;
+    push_count(out, more as u64)?;
+    out.extend_from_slice(b"; --max-faults 0 reports all\n")
+}
+
+/// Writes how many more faults there are, as a line of JSON.
+#[tactic(auto, unfolding(crate::specs::Told::more_json))]
+fn push_more_json(out: &mut Vec<u8>, file: &str, more: usize) -> Result<(), AllocError>
+    ensures { OnOk result (out.new.items ≡ out.old.items ++ more_json file.now more) }
+{
+    out.extend_from_slice(b"{\"file\":")?;
+    push_quoted(out, file)?;
+    out.extend_from_slice(b",\"severity\":\"more\",\"count\":")?;
+    push_count(out, more as u64)?;
+    out.extend_from_slice(b"}\n")
+}
+
+/// Writes how many more faults there are, in the format that is asked for.
+fn push_counted(
+    out: &mut Vec<u8>,
+    format: Format,
+    file: &str,
+    more: usize,
+) -> Result<(), AllocError>
+    ensures { OnOk result (out.new.items ≡ out.old.items ++ counted_in format file.now more) }
+{
+    match format {
+        Format::Json | Format::Html => push_more_json(out, file, more),
+        Format::Text | Format::Estree => push_more_text(out, file, more),
+    }
+}
+
+/// Writes how many more faults there are, if there are more.
+fn push_more(out: &mut Vec<u8>, format: Format, file: &str, more: usize) -> Result<(), AllocError>
+    ensures { OnOk result (out.new.items ≡ out.old.items ++ more_in format file.now more) }
+{
+    if more == 0 {
+        return Ok(());
+    }
+    push_counted(out, format, file, more)
+}
+
 /// Writes why there is no tree, if there is none.
 fn push_refusal(
     out: &mut Vec<u8>,
@@ -67,7 +116,7 @@ fn push_refusal(
 /// What is told of a text. Lines are counted only where there is a fault.
 pub fn told(
     alloc: Global,
-    format: Format,
+    settings: Settings,
     file: &str,
     text: &str,
     reading: &Reading,
@@ -75,14 +124,20 @@ pub fn told(
     requires { length text.now < 2 ^ 32 }
     ensures { IfOk result
         (λ out. out.items
-        ≡ told_in format (lined text.now) file.now reading.now.tree reading.now.faults.items) }
+        ≡ told_in settings.format settings.options.max_faults (lined text.now) file.now
+        reading.now.tree reading.now.faults.items) }
 {
     let mut out = Vec::new(alloc);
     if reading.tree.is_ok() && reading.faults.is_empty() {
         return Ok(out);
     }
     let source = Source::new(alloc, text)?;
-    push_faults(&mut out, format, file, &source, reading.faults.as_slice())?;
+    let Settings { format, options } = settings;
+    let faults = reading.faults.as_slice();
+    let told = front(faults, options.max_faults);
+    push_faults(&mut out, format, file, &source, told)?;
+    let more = left_out(faults, options.max_faults);
+    push_more(&mut out, format, file, more)?;
     push_refusal(&mut out, format, file, &source, &reading.tree)?;
     Ok(out)
 }

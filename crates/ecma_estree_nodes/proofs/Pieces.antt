@@ -5,11 +5,12 @@ use Rattle.ecma_estree_text.specs.Number.{digits_text}
 use Rattle.ecma_estree_text.specs.Places.{Placed, offset, spot_text, spots_text, loc_text, range_text, place_fields}
 use Rattle.ecma_estree_text.specs.Quoted.{quoted, inner_quoted}
 use Rattle.ecma_estree_text.specs.Spots.{spot_at}
+use Rattle.ecma_estree_text.specs.Strings.{string_text}
 use Rattle.ecma_estree_text.specs.declared.spot.Spot.{Spot}
 use Rattle.ecma_estree_nodes.specs.Nodes.{node_of, at, method_value}
 use Rattle.ecma_estree_nodes.specs.Reading.{Node, inside, to_quote, from_quote, behind, named, started, ended, read_from, read, IsClosed}
 use Rattle.ecma_estree_nodes.proofs.Numbers.{stops, Digits, digits_of_decimal, number_stops, offset_small}
-use Rattle.ecma_estree_nodes.proofs.Scan.{all_calm, and_yes, calm, calm_tests, calm_outside, calm_inside, decimal_calm, digits_calm, wrapped_read}
+use Rattle.ecma_estree_nodes.proofs.Scan.{all_calm, and_yes, calm, calm_tests, calm_outside, calm_inside, decimal_calm, digits_calm, wrapped_read, string_closed}
 use Rattle.ecma_estree_writer.specs.Estree.{accessor, function_fields, member_head, property}
 use Rattle.ecma_estree_writer.specs.Parts.{node_at, key, word_field, bool_field, end, open_list, end_list, nothing, comma, identifier, word_name, literal, big_literal, directive, phase_field}
 use Rattle.ecma_estree_writer.specs.Source.{Source}
@@ -121,6 +122,9 @@ calm_read xs h = record { reads = λ rest. calm_outside xs rest h }
 pub quoted_mark : (s : List ℕ) → Mark (quoted s)
 unfolding quoted
 quoted_mark s = record { quiet = record { reads = λ rest. wrapped_read s rest }; stop = λ rest. refl }
+
+pub string_read : (value raw : Text) → Reads (string_text value raw) []
+string_read value raw = record { reads = λ rest. string_closed value raw rest }
 
 pub inner_read : (s : List ℕ) → Reads (inner_quoted s) []
 unfolding inner_quoted

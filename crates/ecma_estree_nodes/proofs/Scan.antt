@@ -1,10 +1,13 @@
 -- How pieces of a text are read that hold no node.
-use Rattle.std.proofs.Common.{◌≡◌, ℕ, List, [], ◌∷◌, ◌++◌, ◌<◌, ◌%◌, ◌/◌, Bool, true, false, not, ◌&&◌, ◌||◌, ◌==◌, ◌^◌, zero, suc, drop, inl, inr, Option, Some, None, nat_lt, if◌then◌else◌, arith, refl, ap, ◌∙◌, append_assoc, codes, decimal}
+use Rattle.std.proofs.Common.{◌≡◌, ℕ, List, [], ◌∷◌, ◌++◌, ◌+◌, ◌<◌, ◌%◌, ◌/◌, Bool, true, false, not, ◌&&◌, ◌||◌, ◌==◌, ◌^◌, zero, suc, drop, inl, inr, Option, Some, None, nat_lt, if◌then◌else◌, arith, refl, ap, ◌∙◌, append_assoc, codes, decimal, map, encode_utf8}
 use Rattle.std.specs.Fmt.{digits, digits_onto, digit_glyph}
 use Rattle.std.proofs.lemmas.Bool.Decides.{nat_tests, eqb_tells}
 use Rattle.std.specs.List.{flat_map}
-use Rattle.ecma_estree_text.specs.Number.{is_numeral, is_mark, is_between, point_byte, is_point_next, point_behind, starts_with_point, bare_byte, bare_text, within_64_bits, value_behind, radix_of, number_by, digits_by, number_text, digits_text}
+use Rattle.std.specs.Int.Digits.{digits_of, AllBelowBase}
+use Rattle.std.proofs.lemmas.Int.Digits.{all_below_base_digits_of}
+use Rattle.ecma_estree_text.specs.Number.{is_numeral, is_mark, is_between, point_byte, is_point_next, point_behind, starts_with_point, bare_byte, bare_text, whole_text, double_text, least_short, value_behind, radix_of, number_by, digits_by, number_text, digits_text}
 use Rattle.ecma_estree_text.specs.Quoted.{hex_digit, escaped, wrapped}
+use Rattle.ecma_estree_text.specs.Strings.{alone_text, character, character_text, four_digits, is_high, is_low, is_read, paired, point_text, points, points_text, string_text, text_at, waiting_behind}
 use Rattle.ecma_estree_nodes.specs.Reading.{outside, inside, found, read_from, read}
 
 -- a byte that is no quote, no backslash and no brace
@@ -104,14 +107,26 @@ bare_calm : (bs : List ℕ) → all_calm (bare_text bs) ≡ true
 bare_calm [] = refl
 bare_calm (b ∷ bs) = calm_append (bare_byte b) (bare_text bs) (if_calm (is_mark b) [] (numeral b) (λ _. refl) (λ _. numeral_read b)) (bare_calm bs)
 
-within_calm : (n : ℕ) (other : List ℕ) → all_calm other ≡ true → all_calm (within_64_bits n other) ≡ true
-within_calm n other h = if_calm (nat_lt n (2 ^ 64)) (decimal n) other (λ _. decimal_calm n) (λ _. h)
+calm_glyph : (d : ℕ) → d < 10 → calm (48 + d) ≡ true
+calm_glyph d h = grind (arith, nat_tests)
+
+calm_glyphs : (ds : List ℕ) → AllBelowBase 10 ds → all_calm (map (λ d. 48 + d) ds) ≡ true
+calm_glyphs [] h = refl
+calm_glyphs (d ∷ ds) h = rw (calm_glyph d h.0) (calm_glyphs ds h.1)
+
+whole_calm : (n : ℕ) → all_calm (whole_text n) ≡ true
+whole_calm n =
+    if_calm (n == 0) (codes "0") (map (λ d. 48 + d) (digits_of 10 n)) (λ _. refl)
+    (λ _. calm_glyphs (digits_of 10 n) (all_below_base_digits_of 10 n (omega arith)))
+
+double_calm : (n : ℕ) → all_calm (double_text n) ≡ true
+double_calm n = if_calm (nat_lt n least_short) (whole_text n) (codes "1e400") (λ _. whole_calm n) (λ _. refl)
 
 number_calm_by : (raw : List ℕ) (o : Option ℕ) → all_calm (number_by raw o) ≡ true
 number_calm_by raw None =
     calm_append (if starts_with_point raw then codes "0" else []) (point_behind false raw)
     (if_calm (starts_with_point raw) (codes "0") [] (λ _. refl) (λ _. refl)) (points_calm false raw)
-number_calm_by raw (Some radix) = within_calm (value_behind radix 0 (drop 2 raw)) (codes "null") refl
+number_calm_by raw (Some radix) = double_calm (value_behind radix 0 (drop 2 raw))
 
 pub number_calm : (raw : List ℕ) → all_calm (number_text raw) ≡ true
 unfolding number_text
@@ -119,7 +134,7 @@ number_calm raw = number_calm_by raw (radix_of raw)
 
 digits_calm_by : (raw : List ℕ) (o : Option ℕ) → all_calm (digits_by raw o) ≡ true
 digits_calm_by raw None = bare_calm raw
-digits_calm_by raw (Some radix) = within_calm (value_behind radix 0 (drop 2 raw)) (bare_text raw) (bare_calm raw)
+digits_calm_by raw (Some radix) = whole_calm (value_behind radix 0 (drop 2 raw))
 
 pub digits_calm : (raw : List ℕ) → all_calm (digits_text raw) ≡ true
 unfolding digits_text
@@ -175,3 +190,51 @@ text_inside (b ∷ bs) rest = ap (read_from inside) (append_assoc (escaped b) (f
 
 pub wrapped_read : (s rest : List ℕ) → read (wrapped s ++ rest) ≡ read rest
 wrapped_read s rest = ap (read_from inside) (append_assoc (flat_map escaped s) (34 ∷ []) rest) ∙ text_inside s (34 ∷ rest)
+
+-- ---- the value of a string literal, which is read from what was written
+
+if_inside : (t : Bool) (xs ys rest : List ℕ) → Inside xs rest → Inside ys rest → Inside (if t then xs else ys) rest
+if_inside true xs ys rest x y = x
+if_inside false xs ys rest x y = y
+
+both_inside : (xs ys rest : List ℕ) → Inside xs (ys ++ rest) → Inside ys rest → Inside (xs ++ ys) rest
+both_inside xs ys rest x y = ap (read_from inside) (append_assoc xs ys rest) ∙ x ∙ y
+
+four_inside : (c : ℕ) (rest : List ℕ) → Inside (four_digits c) rest
+four_inside c rest =
+    rw (hex_quote (c / 4096 % 16), hex_backslash (c / 4096 % 16), hex_quote (c / 256 % 16), hex_backslash (c / 256 % 16), hex_quote (c / 16 % 16), hex_backslash (c / 16 % 16), hex_quote (c % 16), hex_backslash (c % 16)) refl
+
+character_inside : (k : Option ℕ) (c : ℕ) (rest : List ℕ) → Inside (character_text k c) rest
+character_inside None c rest = four_inside c rest
+character_inside (Some k) c rest = text_inside (encode_utf8 k) rest
+
+point_inside : (c : ℕ) (rest : List ℕ) → Inside (point_text c) rest
+point_inside c rest = character_inside (character c) c rest
+
+alone_inside : (c : ℕ) (rest : List ℕ) → Inside (alone_text c) rest
+alone_inside c rest = if_inside (is_high c) [] (point_text c) rest refl (point_inside c rest)
+
+at_inside : (waiting : Option ℕ) (c : ℕ) (rest : List ℕ) → Inside (text_at waiting c) rest
+at_inside None c rest = alone_inside c rest
+at_inside (Some high) c rest =
+    if_inside (is_low c) (point_text (paired high c)) (four_digits high ++ alone_text c) rest (point_inside (paired high c) rest)
+    (both_inside (four_digits high) (alone_text c) rest (four_inside high (alone_text c ++ rest)) (alone_inside c rest))
+
+points_inside : (waiting : Option ℕ) (cs rest : List ℕ) → Inside (points_text waiting cs) rest
+points_inside None [] rest = refl
+points_inside (Some high) [] rest = four_inside high rest
+points_inside waiting (c ∷ cs) rest =
+    both_inside (text_at waiting c) (points_text (waiting_behind waiting c) cs) rest
+    (at_inside waiting c (points_text (waiting_behind waiting c) cs ++ rest)) (points_inside (waiting_behind waiting c) cs rest)
+
+points_read : (cs rest : List ℕ) → read ((34 ∷ (points_text None cs ++ 34 ∷ [])) ++ rest) ≡ read rest
+points_read cs rest = ap (read_from inside) (append_assoc (points_text None cs) (34 ∷ []) rest) ∙ points_inside None cs (34 ∷ rest)
+
+either_read : (t : Bool) (xs ys rest : List ℕ) → read (xs ++ rest) ≡ read rest → read (ys ++ rest) ≡ read rest → read ((if t then xs else ys) ++ rest) ≡ read rest
+either_read true xs ys rest x y = x
+either_read false xs ys rest x y = y
+
+pub string_closed : (value raw rest : List ℕ) → read (string_text value raw ++ rest) ≡ read rest
+unfolding string_text
+string_closed value raw rest =
+    either_read (is_read value raw) (34 ∷ (points_text None (points raw) ++ 34 ∷ [])) (wrapped value) rest (points_read (points raw) rest) (wrapped_read value rest)

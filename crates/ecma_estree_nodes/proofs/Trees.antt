@@ -1,11 +1,11 @@
 -- The text of a tree is read as its nodes.
 use Rattle.std.proofs.Common.{◌≡◌, ◌+◌, ◌-◌, Bool, true, false, not, cond, refl, codes, length, Some, None}
 use Rattle.ecma_estree_text.specs.Number.{number_text}
-use Rattle.ecma_estree_text.specs.Quoted.{quoted}
+use Rattle.ecma_estree_text.specs.Strings.{string_text}
 use Rattle.ecma_estree_nodes.specs.Law.{ReadsBack}
 use Rattle.ecma_estree_nodes.specs.Nodes.{nodes, all_nodes}
 use Rattle.ecma_estree_nodes.specs.Reading.{read}
-use Rattle.ecma_estree_nodes.proofs.Pieces.{Reads, Fits, both, skip, past, last, none_read, either, neither, by_itself, as_read, key_mark, word_mark, bool_read, bool_mark, end_mark, open_list_mark, end_list_mark, nothing_mark, comma_read, calm_read, quoted_mark, begin, begin_function, alone, fields_read, identifier_read, word_name_read, literal_read, big_literal_read, property_read, member_head_read, fields_mark, named_fields_read, accessor_read, phase_read, directive_read}
+use Rattle.ecma_estree_nodes.proofs.Pieces.{Reads, Fits, both, skip, past, last, none_read, either, neither, by_itself, as_read, key_mark, word_mark, bool_read, bool_mark, end_mark, open_list_mark, end_list_mark, nothing_mark, comma_read, calm_read, quoted_mark, string_read, begin, begin_function, alone, fields_read, identifier_read, word_name_read, literal_read, big_literal_read, property_read, member_head_read, fields_mark, named_fields_read, accessor_read, phase_read, directive_read}
 use Rattle.ecma_estree_nodes.proofs.Scan.{all_calm, number_calm}
 use Rattle.ecma_estree_nodes.proofs.Words.{function_kind_calm, class_kind_calm, kind_calm, using_calm, method_calm, unary_calm, update_calm, binary_calm, binary_kind_calm, assign_calm}
 use Rattle.ecma_estree_writer.specs.Estree.{Role, plain, directives, members, attributes, bare, argument, declared, function, class, json, jsons, is_bare, is_attributes, is_directives, function_kind, class_kind, is_zero, skips, next, end_of, expr_end, brace, method_role}
@@ -42,7 +42,7 @@ mutual
   tree_reads t r (tree.list ts) f g = trees_read t r true ts f g
   -- names and literals
   tree_reads t r (tree.ident s name) f g = identifier_read t s name f
-  tree_reads t r (tree.str s value raw) f g = literal_read t s (quoted value) raw f (quoted_mark value).quiet
+  tree_reads t r (tree.str s value raw) f g = literal_read t s (string_text value raw) raw f (string_read value raw)
   tree_reads t r (tree.bool s b) f g = literal_read t s (bool_word b) (bool_word b) f (bool_read b)
   tree_reads t r (tree.null s) f g = literal_read t s (codes "null") (codes "null") f (calm_read (codes "null") refl)
   tree_reads t r (tree.num s raw) f g = literal_read t s (number_text raw) raw f (calm_read (number_text raw) (number_calm raw))

@@ -1,3 +1,5 @@
 mod Counts
+mod Digits
+mod Points
 mod Spots
 mod Value

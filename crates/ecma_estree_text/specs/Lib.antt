@@ -3,3 +3,5 @@ pub mod Spots
 pub mod Places
 pub mod Bracket
 pub mod Number
+pub mod Strings
+pub mod Digits

@@ -1,15 +1,17 @@
 //! What a numeric literal says, as JSON: ECMA-262, "Numeric Literals" (section 12.9.3).
 
-ghost use Rattle.std.specs.Prelude.{◌≡◌, ◌++◌, ◌<◌, ◌≤◌, ◌^◌, OnOk, MatchOption, decimal, drop, false};
+ghost use Rattle.std.specs.Prelude.{◌≡◌, ◌++◌, ◌<◌, ◌≤◌, ◌^◌, OnOk, IfSome, MatchOption, decimal, drop, false};
 ghost use Rattle.ecma_estree_text.specs.Number as number;
 ghost use Rattle.ecma_estree_text.specs.Number.{bare_text, decimal_text, digit_value, digits_text, number_text, radix_of, value_behind};
 
+use crate::long::{push_double, push_whole};
 use itoa::Buffer;
 use std::alloc::AllocError;
 
 /// The radix that the letter behind a 0 tells.
 fn letter_radix(letter: u8) -> Option<u64>
-    ensures { result ≡ number.letter_radix letter }
+    ensures radix { result ≡ number.letter_radix letter }
+    ensures bound { IfSome result (λ radix. (2 ≤ radix) × (radix ≤ 16)) }
 {
     match letter {
         b'x' | b'X' => Some(16),
@@ -21,7 +23,8 @@ fn letter_radix(letter: u8) -> Option<u64>
 
 /// The radix that a literal's first two bytes tell; none of a decimal one.
 fn radix(bytes: &[u8]) -> Option<u64>
-    ensures { result ≡ radix_of bytes.now }
+    ensures radix { result ≡ radix_of bytes.now }
+    ensures bound { IfSome result (λ radix. (2 ≤ radix) × (radix ≤ 16)) }
 {
     match bytes {
         [b'0', letter, ..] => letter_radix(*letter),
@@ -36,9 +39,17 @@ fn is_numeral(byte: u8) -> bool
     matches!(byte, b'0'..=b'9' | b'a'..=b'z' | b'A'..=b'Z' | b'+' | b'-')
 }
 
+/// Whether a byte is no digit of a literal: `_`, or the `n` of a big integer.
+pub(crate) fn is_mark(byte: u8) -> bool
+    ensures { result ≡ number.is_mark byte }
+{
+    matches!(byte, b'_' | b'n')
+}
+
 /// The value of a digit.
-fn digit(byte: u8) -> u64
-    ensures { result ≡ digit_value byte }
+pub(crate) fn digit(byte: u8) -> u64
+    ensures value { result ≡ digit_value byte }
+    ensures bound { result < 16 }
 {
     if b'0' <= byte && byte <= b'9' {
         (byte - b'0') as u64
@@ -56,7 +67,7 @@ fn next_value(sum: u64, radix: u64, byte: u8) -> Option<u64>
     ensures { MatchOption result (2 ^ 64 ≤ number.next_value radix sum byte)
         (λ n. n ≡ number.next_value radix sum byte) }
 {
-    if byte == b'_' || byte == b'n' {
+    if is_mark(byte) {
         return Some(sum);
     }
     let Some(shifted) = sum.checked_mul(radix) else {
@@ -149,7 +160,7 @@ fn push_decimal(out: &mut Vec<u8>, bytes: &[u8]) -> Result<(), AllocError>
 fn push_bare_byte(out: &mut Vec<u8>, byte: u8) -> Result<(), AllocError>
     ensures { OnOk result (out.new.items ≡ out.old.items ++ number.bare_byte byte) }
 {
-    if byte == b'_' || byte == b'n' {
+    if is_mark(byte) {
         return Ok(());
     }
     if is_numeral(byte) {
@@ -168,22 +179,6 @@ fn push_bare(out: &mut Vec<u8>, bytes: &[u8]) -> Result<(), AllocError>
     Ok(())
 }
 
-/// Writes the value of a number literal, which is given as it is written. What has a radix of its own and is no number of 64 bits is
-/// `null`.
-#[tactic(auto, unfolding(crate::specs::Number::number_text))]
-pub fn push_number(out: &mut Vec<u8>, raw: &str) -> Result<(), AllocError>
-    ensures { OnOk result (out.new.items ≡ out.old.items ++ number_text raw.now) }
-{
-    let bytes = raw.as_bytes();
-    let Some(radix) = radix(bytes) else {
-        return push_decimal(out, bytes);
-    };
-    match value(digits(bytes), radix) {
-        Some(value) => push_count(out, value),
-        None => out.extend_from_slice(b"null"),
-    }
-}
-
 /// What stands behind the first two bytes.
 fn digits(bytes: &[u8]) -> &[u8]
     ensures { result.now ≡ drop 2 bytes.now }
@@ -194,9 +189,24 @@ fn digits(bytes: &[u8]) -> &[u8]
     }
 }
 
-/// Writes the digits of a big integer literal, which is given as it is written with its `n`: decimal ones, where it has no radix of its own
-/// or is a number of 64 bits, and else those that are written.
-#[tactic(auto, unfolding(crate::specs::Number::digits_text))]
+/// Writes the value of a number literal, which is given as it is written. One with a radix of its own is written as the integer that it is, in
+/// decimal digits; past 400 of them as `1e400`, since both are infinite to JavaScript.
+#[tactic(auto, unfolding(crate::specs::Number::number_text), using(crate::proofs::Digits::decimal_double))]
+pub fn push_number(out: &mut Vec<u8>, raw: &str) -> Result<(), AllocError>
+    ensures { OnOk result (out.new.items ≡ out.old.items ++ number_text raw.now) }
+{
+    let bytes = raw.as_bytes();
+    let Some(radix) = radix(bytes) else {
+        return push_decimal(out, bytes);
+    };
+    match value(digits(bytes), radix) {
+        Some(value) => push_count(out, value),
+        None => push_double(out, digits(bytes), radix),
+    }
+}
+
+/// Writes the value of a big integer literal in decimal digits. The literal is given as it is written with its `n`.
+#[tactic(auto, unfolding(crate::specs::Number::digits_text), using(crate::proofs::Digits::decimal_whole))]
 pub fn push_digits(out: &mut Vec<u8>, raw: &str) -> Result<(), AllocError>
     ensures { OnOk result (out.new.items ≡ out.old.items ++ digits_text raw.now) }
 {
@@ -206,6 +216,6 @@ pub fn push_digits(out: &mut Vec<u8>, raw: &str) -> Result<(), AllocError>
     };
     match value(digits(bytes), radix) {
         Some(value) => push_count(out, value),
-        None => push_bare(out, bytes),
+        None => push_whole(out, digits(bytes), radix),
     }
 }

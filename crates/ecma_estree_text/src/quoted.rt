@@ -1,12 +1,13 @@
 //! JSON strings.
 
 ghost use Rattle.std.specs.Prelude.{◌≡◌, ◌++◌, ◌<◌, ◌∷◌, [], OnOk};
+ghost use Rattle.std.specs.List.{flat_map};
 ghost use Rattle.ecma_estree_text.specs.Quoted.{escaped, hex_digit, inner_quoted, quoted, wrapped};
 
 use std::alloc::AllocError;
 
 /// A hexadecimal digit.
-fn digit_of(value: u8) -> u8
+pub(crate) fn digit_of(value: u8) -> u8
     requires { value < 16 }
     ensures { result ≡ hex_digit value }
 {
@@ -54,14 +55,22 @@ fn push_escaped(out: &mut Vec<u8>, byte: u8) -> Result<(), AllocError>
     }
 }
 
+/// Writes bytes of UTF-8 as they stand in a JSON string.
+pub(crate) fn push_escaped_bytes(out: &mut Vec<u8>, bytes: &[u8]) -> Result<(), AllocError>
+    ensures { OnOk result (out.new.items ≡ out.old.items ++ flat_map escaped bytes.now) }
+{
+    for byte in bytes {
+        push_escaped(out, *byte)?;
+    }
+    Ok(())
+}
+
 /// Writes bytes of UTF-8 as a JSON string.
 pub fn push_quoted_bytes(out: &mut Vec<u8>, bytes: &[u8]) -> Result<(), AllocError>
     ensures { OnOk result (out.new.items ≡ out.old.items ++ wrapped bytes.now) }
 {
     out.push(b'"')?;
-    for byte in bytes {
-        push_escaped(out, *byte)?;
-    }
+    push_escaped_bytes(out, bytes)?;
     out.push(b'"')?;
     Ok(())
 }

@@ -4,6 +4,7 @@ use Rattle.std.specs.Prelude.{ℕ, zero, suc, List, [], ◌++◌, ◌+◌, ◌-�
 use Rattle.ecma_estree_text.specs.Quoted.{quoted}
 use Rattle.ecma_estree_text.specs.Bracket.{bracket}
 use Rattle.ecma_estree_text.specs.Number.{number_text}
+use Rattle.ecma_estree_text.specs.Strings.{string_text}
 use Rattle.ecma_estree_writer.specs.Source.{Source}
 use Rattle.ecma_estree_writer.specs.Words.{bool_word, kind_word, using_word, method_word, unary_word, update_word, binary_word, binary_kind, assign_word}
 use Rattle.ecma_estree_writer.specs.Parts.{node, node_at, key, word_field, bool_field, end, open_list, end_list, nothing, comma, identifier, word_name, literal, big_literal, directive, end_of_last, phase_field, is_namespace_alone, is_import, is_empty_member, is_empty}
@@ -118,7 +119,7 @@ abbrev mutual
   json t r (tree.list ts) = jsons t r true ts
   -- names and literals
   json t r (tree.ident s name) = identifier t s name
-  json t r (tree.str s value raw) = literal t s (quoted value) raw
+  json t r (tree.str s value raw) = literal t s (string_text value raw) raw
   json t r (tree.bool s b) = literal t s (bool_word b) (bool_word b)
   json t r (tree.null s) = literal t s (codes "null") (codes "null")
   json t r (tree.num s raw) = literal t s (number_text raw) raw

@@ -102,7 +102,7 @@ pub fn write_str(w: &mut Writer<'_>, literal: &Str) -> Result<(), AllocError>
 {
     w.open("Literal", literal.span)?;
     w.key("value")?;
-    w.quoted(literal.value.as_str())?;
+    w.string(literal.value.as_str(), literal.raw.as_str())?;
     w.key("raw")?;
     w.quoted(literal.raw.as_str())?;
     w.end()

@@ -4,13 +4,16 @@ ghost use Rattle.std.specs.Prelude.{◌≡◌, ◌++◌, [], OnOk, IfOk, MatchOp
 ghost use Rattle.ecma_estree_text.specs.Bracket.{bracket};
 ghost use Rattle.ecma_estree_text.specs.Number.{digits_text, number_text};
 ghost use Rattle.ecma_estree_text.specs.Quoted.{inner_quoted, quoted};
+ghost use Rattle.ecma_estree_text.specs.Strings.{string_text};
 ghost use Rattle.ecma_estree_writer.specs.Parts as parts;
 ghost use Rattle.ecma_estree_writer.specs.Work.{work_text};
 ghost use Rattle.ecma_estree_writer.specs.Writing.{Appends, Pushes};
 
 use crate::words::bool_word;
 use crate::work::Work;
-use ecma_estree_text::{Places, find, push_digits, push_inner, push_number, push_quoted};
+use ecma_estree_text::{
+    Places, find, push_digits, push_inner, push_number, push_quoted, push_string,
+};
 use std::alloc::{AllocError, Global};
 use std::marker::Model;
 use swc_ecma_parser_ast::Span;
@@ -208,6 +211,13 @@ impl<'a> Writer<'a> {
         ensures { OnOk result (Appends self.old self.new (quoted text.now)) }
     {
         push_quoted(&mut self.out, text)
+    }
+
+    /// Writes the value of a string literal, which is given with what was written, as a JSON string.
+    pub fn string(&mut self, value: &str, raw: &str) -> Result<(), AllocError>
+        ensures { OnOk result (Appends self.old self.new (string_text value.now raw.now)) }
+    {
+        push_string(&mut self.out, value, raw)
     }
 
     /// Writes what stands between the quotes of a string literal, as a JSON string.

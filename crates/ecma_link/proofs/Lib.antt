@@ -1,2 +1,3 @@
 mod Reasons
+mod Same
 mod Words

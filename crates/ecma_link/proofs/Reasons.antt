@@ -1,10 +1,11 @@
 -- How a call ends, by what it came to.
-use Rattle.std.proofs.Common.{◌≡◌, ◌∙◌, ◌≤◌, ◌<◌, ℕ, List, Err, None, Ok, Some, ap, arith, inl, inr, length, refl, subst, sym, take}
+use Rattle.std.proofs.Common.{◌≡◌, ◌∙◌, ◌≤◌, ◌<◌, ℕ, List, ◌++◌, Err, None, Ok, Some, ap, arith, drop, inl, inr, length, refl, subst, sym}
 use Rattle.std.specs.Prelude.{IsUtf8}
 use Rattle.ecma_answers.specs.declared.options.Options.{Options}
 use Rattle.ecma_answers.specs.declared.parsing.Outcome.{Outcome}
 use Rattle.ecma_answers.specs.declared.parsing.Reading.{Reading}
 use Rattle.ecma_answers.specs.declared.told.Told.{Told}
+use Rattle.ecma_answers.specs.Capped.{left_out}
 use Rattle.ecma_answers.specs.Outcomes.{outcome_of}
 use Rattle.ecma_answers.specs.Spelled.{Decides}
 use Rattle.ecma_answers.specs.Told.{AllTold}
@@ -39,13 +40,12 @@ pub called : (w : Wanted) (given : EcmaOptions) (text chars : List ℕ) (o : Opt
 called w given text chars o r outcome bytes e f utf8 decides out written =
     (utf8, (o, e, (r, subst (λ it. Decides o it r) f decides, out, subst (λ it. IsWritten w o it r bytes) f written)))
 
-pub unanswered : (w : Wanted) (given : EcmaOptions) (text : List ℕ) (f : Failure) (old : List ℕ) (needed : ℕ) → IsReason given text f
-    → Ends w given text (Err f) old old needed
-unanswered w given text failure.TooShort old needed h = absurd h
-unanswered w given text failure.OutOfMemory old needed h = (refl, h)
-unanswered w given text failure.NotUtf8 old needed h = (refl, h)
-unanswered w given text failure.TooLong old needed h = (refl, h)
-unanswered w given text failure.UnknownOption old needed h = (refl, h)
+pub unanswered : (w : Wanted) (given : EcmaOptions) (text : List ℕ) (f : Failure) (old : List ℕ) → IsReason given text f → Ends w given text (Err f) old old 0
+unanswered w given text failure.TooShort old h = absurd h
+unanswered w given text failure.OutOfMemory old h = (refl, refl, h)
+unanswered w given text failure.NotUtf8 old h = (refl, refl, h)
+unanswered w given text failure.TooLong old h = (refl, refl, h)
+unanswered w given text failure.UnknownOption old h = (refl, refl, h)
 
 pub too_short : (w : Wanted) (given : EcmaOptions) (text : List ℕ) (f : Failure) (outcome : Outcome) (bytes items old new : List ℕ) (needed : ℕ)
     → f ≡ failure.TooShort → new ≡ old → length old < length items → IsCall w given text outcome bytes → items ≡ bytes → needed ≡ length items
@@ -56,19 +56,19 @@ too_short w given text f outcome bytes items old new needed e kept short h same 
     subst (λ it. Ends w given text (Err it) old new needed) (sym e) (kept, is_too_short, sized)
 
 pub answered : (w : Wanted) (given : EcmaOptions) (text : List ℕ) (outcome : Outcome) (bytes items old new : List ℕ) (needed : ℕ)
-    → IsCall w given text outcome bytes → items ≡ bytes → needed ≡ length items → length items ≤ length new → take (length items) new ≡ items
+    → IsCall w given text outcome bytes → items ≡ bytes → needed ≡ length items → length items ≤ length old → new ≡ items ++ drop (length items) old
     → Ends w given text (Ok outcome) old new needed
 answered w given text outcome bytes items old new needed h same e fits front =
-    let whole = subst (λ it. IsCall w given text outcome it) (sym (front ∙ same)) h in
-    subst (λ n. Ends w given text (Ok outcome) old new n) (sym e) (fits, whole)
+    let whole = subst (λ it. IsCall w given text outcome it) (sym same) h in
+    (items, whole, e, subst (λ n. n ≤ length old) (sym e) fits, front ∙ ap (λ n. items ++ drop n old) (sym e))
 
 -- ---- a room of faults and one of bytes
 
 pub called_faults : (given : EcmaOptions) (text chars : List ℕ) (o : Options) (r : Reading) (outcome : Outcome) (told slice : List Told)
-    → (its : List EcmaFault) (words : List ℕ) → asked given ≡ Some o → chars ≡ text → IsUtf8 text → Decides o chars r
-    → outcome ≡ outcome_of r.tree r.faults.items → AllTold chars r.tree r.faults.items told → slice ≡ told → faults.AreFaults words slice its
-    → faults.IsCall given text outcome its words
-called_faults given text chars o r outcome told slice its words e f utf8 decides out all same are = (
+    → (its : List EcmaFault) (words : List ℕ) (more : ℕ) → asked given ≡ Some o → chars ≡ text → IsUtf8 text → Decides o chars r
+    → outcome ≡ outcome_of r.tree r.faults.items → AllTold o.max_faults chars r.tree r.faults.items told → slice ≡ told → faults.AreFaults words slice its
+    → more ≡ left_out o.max_faults r.faults.items → faults.IsCall given text outcome its words more
+called_faults given text chars o r outcome told slice its words more e f utf8 decides out all same are left = (
   utf8,
   (
     o,
@@ -77,50 +77,52 @@ called_faults given text chars o r outcome told slice its words e f utf8 decides
       r,
       subst (λ it. Decides o it r) f decides,
       out,
-      (told, subst (λ it. AllTold it r.tree r.faults.items told) f all, subst (λ it. faults.AreFaults words it its) same are),
+      (told, subst (λ it. AllTold o.max_faults it r.tree r.faults.items told) f all, subst (λ it. faults.AreFaults words it its) same are),
+      left,
     ),
   ),
 )
 
-pub unanswered_faults : (given : EcmaOptions) (text : List ℕ) (f : Failure) (room : List EcmaFault) (words : List ℕ) (needed : EcmaNeeded)
-    → IsReason given text f → faults.Ends given text (Err f) room room words words needed
-unanswered_faults given text failure.TooShort room words needed h = absurd h
-unanswered_faults given text failure.OutOfMemory room words needed h = (refl, refl, h)
-unanswered_faults given text failure.NotUtf8 room words needed h = (refl, refl, h)
-unanswered_faults given text failure.TooLong room words needed h = (refl, refl, h)
-unanswered_faults given text failure.UnknownOption room words needed h = (refl, refl, h)
+pub unanswered_faults : (given : EcmaOptions) (text : List ℕ) (f : Failure) (room : List EcmaFault) (words : List ℕ) → IsReason given text f
+    → faults.Ends given text (Err f) room room words words faults.nothing
+unanswered_faults given text failure.TooShort room words h = absurd h
+unanswered_faults given text failure.OutOfMemory room words h = (refl, refl, refl, h)
+unanswered_faults given text failure.NotUtf8 room words h = (refl, refl, refl, h)
+unanswered_faults given text failure.TooLong room words h = (refl, refl, refl, h)
+unanswered_faults given text failure.UnknownOption room words h = (refl, refl, refl, h)
 
-sized : (given : EcmaOptions) (text : List ℕ) (outcome : Outcome) (its items : List EcmaFault) (words bytes : List ℕ) (needed : EcmaNeeded)
-    → faults.IsCall given text outcome its words → items ≡ its → bytes ≡ words → needed ≡ record { faults = length items; words = length bytes }
+sized : (given : EcmaOptions) (text : List ℕ) (outcome : Outcome) (its items : List EcmaFault) (words bytes : List ℕ) (more : ℕ) (needed : EcmaNeeded)
+    → faults.IsCall given text outcome its words more → items ≡ its → bytes ≡ words → needed ≡ record { faults = length items; words = length bytes; more = more }
     → faults.HasSize given text needed
-sized given text outcome its items words bytes needed h same_faults same_words e =
+sized given text outcome its items words bytes more needed h same_faults same_words e =
     subst (λ n. faults.HasSize given text n) (sym e) (outcome, its, words, ap length (sym same_faults), ap length (sym same_words), h)
 
 pub too_short_for_faults : (given : EcmaOptions) (text : List ℕ) (outcome : Outcome) (its items room : List EcmaFault) (words bytes kept : List ℕ)
-    → (needed : EcmaNeeded) → length room < length items → faults.IsCall given text outcome its words → items ≡ its → bytes ≡ words
-    → needed ≡ record { faults = length items; words = length bytes } → faults.Ends given text (Err failure.TooShort) room room kept kept needed
-too_short_for_faults given text outcome its items room words bytes kept needed short h same_faults same_words e =
+    → (more : ℕ) (needed : EcmaNeeded) → length room < length items → faults.IsCall given text outcome its words more → items ≡ its → bytes ≡ words
+    → needed ≡ record { faults = length items; words = length bytes; more = more } → faults.Ends given text (Err failure.TooShort) room room kept kept needed
+too_short_for_faults given text outcome its items room words bytes kept more needed short h same_faults same_words e =
     let is_too_short = subst (λ n. length room < n.faults) (sym e) short in
-    (refl, refl, inl is_too_short, sized given text outcome its items words bytes needed h same_faults same_words e)
+    (refl, refl, inl is_too_short, sized given text outcome its items words bytes more needed h same_faults same_words e)
 
 pub too_short_for_words : (given : EcmaOptions) (text : List ℕ) (f : Failure) (outcome : Outcome) (its items room : List EcmaFault)
-    → (words bytes old new : List ℕ) (needed : EcmaNeeded) → f ≡ failure.TooShort → new ≡ old → length old < length bytes
-    → faults.IsCall given text outcome its words → items ≡ its → bytes ≡ words → needed ≡ record { faults = length items; words = length bytes }
+    → (words bytes old new : List ℕ) (more : ℕ) (needed : EcmaNeeded) → f ≡ failure.TooShort → new ≡ old → length old < length bytes
+    → faults.IsCall given text outcome its words more → items ≡ its → bytes ≡ words → needed ≡ record { faults = length items; words = length bytes; more = more }
     → faults.Ends given text (Err f) room room old new needed
-too_short_for_words given text f outcome its items room words bytes old new needed e kept short h same_faults same_words n =
+too_short_for_words given text f outcome its items room words bytes old new more needed e kept short h same_faults same_words n =
     let is_too_short = subst (λ n. length old < n.words) (sym n) short in
-    let size = sized given text outcome its items words bytes needed h same_faults same_words n in
+    let size = sized given text outcome its items words bytes more needed h same_faults same_words n in
     subst (λ it. faults.Ends given text (Err it) room room old new needed) (sym e) (refl, kept, inr is_too_short, size)
 
 pub answered_faults : (given : EcmaOptions) (text : List ℕ) (outcome : Outcome) (its items : List EcmaFault) (words bytes : List ℕ)
-    → (old_faults new_faults : List EcmaFault) (old_words new_words : List ℕ) (needed : EcmaNeeded)
-    → faults.IsCall given text outcome its words → items ≡ its → bytes ≡ words → needed ≡ record { faults = length items; words = length bytes }
-    → length items ≤ length new_faults → length bytes ≤ length new_words → take (length items) new_faults ≡ items
-    → take (length bytes) new_words ≡ bytes → faults.Ends given text (Ok outcome) old_faults new_faults old_words new_words needed
-answered_faults given text outcome its items words bytes old_faults new_faults old_words new_words needed h same_faults same_words e fits_faults fits_words f g =
-    let first = subst (λ it. faults.IsCall given text outcome it words) (sym (f ∙ same_faults)) h in
-    let whole = subst (λ it. faults.IsCall given text outcome (take (length items) new_faults) it) (sym (g ∙ same_words)) first in
-    subst (λ n. faults.Ends given text (Ok outcome) old_faults new_faults old_words new_words n) (sym e) (fits_faults, fits_words, whole)
+    → (old_faults new_faults : List EcmaFault) (old_words new_words : List ℕ) (more : ℕ) (needed : EcmaNeeded)
+    → faults.IsCall given text outcome its words more → items ≡ its → bytes ≡ words → needed ≡ record { faults = length items; words = length bytes; more = more }
+    → length items ≤ length old_faults → length bytes ≤ length old_words → new_faults ≡ items ++ drop (length items) old_faults
+    → new_words ≡ bytes ++ drop (length bytes) old_words → faults.Ends given text (Ok outcome) old_faults new_faults old_words new_words needed
+answered_faults given text outcome its items words bytes old_faults new_faults old_words new_words more needed h same_faults same_words e fits_faults fits_words f g =
+    let first = subst (λ it. faults.IsCall given text outcome it words more) (sym same_faults) h in
+    let whole = subst (λ it. faults.IsCall given text outcome items it more) (sym same_words) first in
+    subst (λ n. faults.Ends given text (Ok outcome) old_faults new_faults old_words new_words n) (sym e)
+    (items, bytes, whole, refl, fits_faults, f, refl, fits_words, g)
 
 -- a room that was long enough is not too short
 pub no_room : (given : EcmaOptions) (text : List ℕ) (f : Failure) (old_faults new_faults : List EcmaFault) (old_words new_words : List ℕ)

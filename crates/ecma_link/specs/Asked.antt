@@ -42,6 +42,7 @@ options_of o g = record {
   extras = record { locations = has o.flags 256; ranges = has o.flags 512 };
   comments = has o.flags 1024;
   tokens = has o.flags 2048;
+  max_faults = o.max_faults;
 }
 
 abbrev pub with_goal : EcmaOptions → Option Goal → Option Options

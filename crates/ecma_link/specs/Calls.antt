@@ -1,5 +1,5 @@
 -- What a call answers.
-use Rattle.std.specs.Prelude.{◌≡◌, ◌<◌, ◌≤◌, ◌^◌, ℕ, List, [], None, Some, Result, Ok, Err, IsUtf8, length, take}
+use Rattle.std.specs.Prelude.{◌≡◌, ◌<◌, ◌≤◌, ◌^◌, ℕ, List, [], ◌++◌, None, Some, Result, Ok, Err, IsUtf8, drop, length}
 use Rattle.swc_ecma_parser_error.specs.declared.error.Error.{Error}
 use Rattle.ecma_answers.specs.declared.options.Options.{Options}
 use Rattle.ecma_answers.specs.declared.parsing.Outcome.{Outcome}
@@ -50,8 +50,10 @@ IsCall w given text outcome out =
 abbrev pub HasSize : Wanted → EcmaOptions → List ℕ → ℕ → Type 0
 HasSize w given text size = (outcome : Outcome) × (out : List ℕ) × (length out ≡ size) × IsCall w given text outcome out
 
--- How a call ends that has a room of bytes: its front is the answer; or the room stays as it was, where an answer is longer or for another reason.
+-- How a call ends that has a room of bytes. Its front is the answer, so many bytes as are needed, and what stands behind stays; or the whole room
+-- stays as it was: where an answer is longer, of which the length is told, or for another reason, where nothing is needed.
 abbrev pub Ends : Wanted → EcmaOptions → List ℕ → Result Outcome Failure → (old new : List ℕ) → (needed : ℕ) → Type 0
-Ends w given text (Ok outcome) old new needed = (needed ≤ length new) × IsCall w given text outcome (take needed new)
+Ends w given text (Ok outcome) old new needed =
+    (out : List ℕ) × IsCall w given text outcome out × (needed ≡ length out) × (needed ≤ length old) × (new ≡ out ++ drop needed old)
 Ends w given text (Err failure.TooShort) old new needed = (new ≡ old) × (length old < needed) × HasSize w given text needed
-Ends w given text (Err f) old new needed = (new ≡ old) × IsReason given text f
+Ends w given text (Err f) old new needed = (new ≡ old) × (needed ≡ 0) × IsReason given text f

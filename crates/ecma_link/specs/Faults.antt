@@ -6,6 +6,7 @@ use Rattle.ecma_answers.specs.declared.parsing.Outcome.{Outcome}
 use Rattle.ecma_answers.specs.declared.parsing.Reading.{Reading}
 use Rattle.ecma_answers.specs.declared.told.Point.{Point}
 use Rattle.ecma_answers.specs.declared.told.Told.{Told}
+use Rattle.ecma_answers.specs.Capped.{left_out}
 use Rattle.ecma_answers.specs.Outcomes.{outcome_of}
 use Rattle.ecma_answers.specs.Spelled.{Decides}
 use Rattle.ecma_answers.specs.Told.{AllTold}
@@ -42,26 +43,32 @@ pub record IsFault (words : List ℕ) (told : Told) (it : EcmaFault) : Type 0 wh
 abbrev pub AreFaults : (words : List ℕ) → List Told → List EcmaFault → Type 0
 AreFaults words ts its = AllZip (IsFault words) ts its
 
--- a text that was read as it is asked for: how it comes out, its faults and their words
-abbrev pub IsCall : EcmaOptions → List ℕ → Outcome → List EcmaFault → List ℕ → Type 0
-IsCall given text outcome faults words =
+-- a text that was read as it is asked for: how it comes out, the faults of it that are asked for and their words, and how many more there are
+abbrev pub IsCall : EcmaOptions → List ℕ → Outcome → List EcmaFault → List ℕ → (more : ℕ) → Type 0
+IsCall given text outcome faults words more =
     IsUtf8 text × ((o : Options) × (asked given ≡ Some o) × ((r : Reading) × Decides o text r
-    × (outcome ≡ outcome_of r.tree r.faults.items) × ((told : List Told) × AllTold text r.tree r.faults.items told × AreFaults words told faults)))
+    × (outcome ≡ outcome_of r.tree r.faults.items) × ((told : List Told) × AllTold o.max_faults text r.tree r.faults.items told × AreFaults words told faults)
+    × (more ≡ left_out o.max_faults r.faults.items)))
 
 -- some answer takes so much room
 abbrev pub HasSize : EcmaOptions → List ℕ → EcmaNeeded → Type 0
 HasSize given text needed =
     (outcome : Outcome) × (its : List EcmaFault) × (words : List ℕ) × (length its ≡ needed.faults) × (length words ≡ needed.words)
-    × IsCall given text outcome its words
+    × IsCall given text outcome its words needed.more
 
--- How a call ends that has a room of faults and one of bytes: their fronts are the answer; or both stay as they were, where one is too short for
--- an answer or for another reason.
+-- what an answer takes that has nothing
+abbrev pub nothing : EcmaNeeded
+nothing = record { faults = 0; words = 0; more = 0 }
+
+-- How a call ends that has a room of faults and one of bytes. Their fronts are the answer, as much as is needed, and what stands behind stays; or
+-- both stay as they were: where one is too short for an answer, of which the size is told, or for another reason, where nothing is needed.
 abbrev pub Ends : EcmaOptions → List ℕ → Result Outcome Failure → (old_faults new_faults : List EcmaFault) → (old_words new_words : List ℕ) → EcmaNeeded → Type 0
 Ends given text (Ok outcome) old_faults new_faults old_words new_words needed =
-    (needed.faults ≤ length new_faults) × (needed.words ≤ length new_words)
-    × IsCall given text outcome (take needed.faults new_faults) (take needed.words new_words)
+    (its : List EcmaFault) × (words : List ℕ) × IsCall given text outcome its words needed.more
+    × (needed.faults ≡ length its) × (needed.faults ≤ length old_faults) × (new_faults ≡ its ++ drop needed.faults old_faults)
+    × (needed.words ≡ length words) × (needed.words ≤ length old_words) × (new_words ≡ words ++ drop needed.words old_words)
 Ends given text (Err failure.TooShort) old_faults new_faults old_words new_words needed =
     (new_faults ≡ old_faults) × (new_words ≡ old_words) × ((length old_faults < needed.faults) ⊎ (length old_words < needed.words))
     × HasSize given text needed
 Ends given text (Err f) old_faults new_faults old_words new_words needed =
-    (new_faults ≡ old_faults) × (new_words ≡ old_words) × IsReason given text f
+    (new_faults ≡ old_faults) × (new_words ≡ old_words) × (needed ≡ nothing) × IsReason given text f

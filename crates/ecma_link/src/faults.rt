@@ -9,7 +9,7 @@ use crate::failure::Failure;
 use crate::given::text_of;
 use crate::options::{EcmaOptions, options_of};
 use crate::room::put;
-use ecma_answers::{Outcome, Point, Told, read, told_faults};
+use ecma_answers::{Outcome, Point, Told, left_out, read, told_faults};
 use std::alloc::{AllocError, Global};
 
 /// A place.
@@ -50,6 +50,8 @@ pub struct EcmaNeeded {
     pub faults: usize,
     /// How many bytes their words have.
     pub words: usize,
+    /// How many more faults were recorded, and are not among these.
+    pub more: usize,
 }
 
 /// A place as C takes it.
@@ -91,12 +93,15 @@ struct Found {
     outcome: Outcome,
     faults: Vec<EcmaFault>,
     words: Vec<u8>,
+    /// How many more faults were recorded.
+    more: usize,
 }
 
 /// What is told, as C takes it.
 #[tactic(auto, using(crate::proofs::Words::faults_more))]
-fn listed(alloc: Global, outcome: Outcome, told: &[Told]) -> Result<Found, AllocError>
+fn listed(alloc: Global, outcome: Outcome, told: &[Told], more: usize) -> Result<Found, AllocError>
     ensures outcome { IfOk result (λ it. it.outcome ≡ outcome) }
+    ensures more { IfOk result (λ it. it.more ≡ more) }
     ensures faults { IfOk result (λ it. AreFaults it.words.items told.now it.faults.items) }
 {
     let mut faults = Vec::new(alloc);
@@ -109,6 +114,7 @@ fn listed(alloc: Global, outcome: Outcome, told: &[Told]) -> Result<Found, Alloc
         outcome,
         faults,
         words,
+        more,
     })
 }
 
@@ -116,16 +122,18 @@ fn listed(alloc: Global, outcome: Outcome, told: &[Told]) -> Result<Found, Alloc
 #[tactic(auto, using(crate::proofs::Reasons::unknown, crate::proofs::Reasons::no_memory, crate::proofs::Reasons::bad_text))]
 fn read_faults(alloc: Global, text: &[u8], options: &EcmaOptions) -> Result<Found, Failure>
     ensures found { IfOk result
-        (λ it. IsCall options.now text.now it.outcome it.faults.items it.words.items) }
+        (λ it. IsCall options.now text.now it.outcome it.faults.items it.words.items it.more) }
     ensures failure { IfErr result (IsReason options.now text.now) }
 {
     let options = options_of(options)?;
     let text = text_of(text)?;
     let reading = read(alloc, options, text)?;
     let outcome = reading.outcome();
-    let told = told_faults(alloc, text, &reading);
+    let most = options.max_faults;
+    let told = told_faults(alloc, most, text, &reading);
+    let more = left_out(reading.faults.as_slice(), most);
     reading.discard();
-    Ok(listed(alloc, outcome, told?.as_slice())?)
+    Ok(listed(alloc, outcome, told?.as_slice(), more)?)
 }
 
 /// Writes the faults of a text and their words to the fronts of two rooms, if both are long enough. `needed` becomes how much they take.
@@ -144,6 +152,7 @@ pub(crate) fn put_faults(
     *needed = EcmaNeeded {
         faults: 0,
         words: 0,
+        more: 0,
     };
     let found = read_faults(alloc, text, options)?;
     let items = found.faults.as_slice();
@@ -151,6 +160,7 @@ pub(crate) fn put_faults(
     *needed = EcmaNeeded {
         faults: items.len(),
         words: bytes.len(),
+        more: found.more,
     };
     if faults.len() < items.len() {
         return Err(Failure::TooShort);

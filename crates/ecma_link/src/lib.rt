@@ -8,6 +8,7 @@ ghost use Rattle.ecma_answers.specs.declared.parsing.Outcome.{Outcome};
 ghost use Rattle.ecma_link.specs.declared.failure.Failure.{Failure};
 ghost use Rattle.ecma_link.specs.Calls.{Ends};
 ghost use Rattle.ecma_link.specs.Faults.{Ends as EndsWithFaults};
+ghost use Rattle.ecma_link.specs.Same.{OneStatus, OneTree};
 ghost use Rattle.ecma_link.specs.Statuses.{number_of};
 
 mod bytes;
@@ -72,3 +73,10 @@ pub extern "C" fn ecma_parse_faults(
 {
     status_of(put_faults(alloc, text, options, faults, words, needed))
 }
+
+/// A law: two calls for one text with one setting have one status, unless memory runs out or the room is too short; and a tree without comments
+/// has one text.
+pub fn one_answer()
+    ensures statuses { OneStatus }
+    ensures trees { OneTree }
+{}

@@ -19,6 +19,8 @@ pub struct EcmaOptions {
     pub limit: u32,
     /// Bits: what is read besides ECMA-262, and what is written besides nodes.
     pub flags: u32,
+    /// How many recorded faults are told at most; 0 for all.
+    pub max_faults: u32,
 }
 
 const DECORATORS: u32 = 0x1;
@@ -94,5 +96,6 @@ pub(crate) fn options_of(options: &EcmaOptions) -> Result<Options, Failure>
         },
         comments: flags & COMMENTS != 0,
         tokens: flags & TOKENS != 0,
+        max_faults: options.max_faults,
     })
 }

@@ -1,7 +1,7 @@
 -- What is read of a text, with one byte more and at its end.
 use Rattle.std.proofs.Common.{◌≡◌, ℕ, List, [], ◌∷◌, ◌++◌, ◌+◌, ◌≤◌, ◌<◌, arith, refl, ap, sym, ◌∙◌, get_or, take, length}
 use Rattle.std.proofs.lemmas.List.{get_or_past, get_or_read, take_all, take_more}
-use Rattle.ecma_outline.specs.Outline.{IsOutline, IsRead, Scanned, count_at, empty_at, finish, lexeme_at, no_lexeme, no_open, open_at, outlined, outset, scan, scanned, start, step}
+use Rattle.ecma_outline.specs.Outline.{IsOutline, Scanned, count_at, empty_at, finish, lexeme_at, no_lexeme, no_open, open_at, outlined, scan, scanned, start, step}
 use Rattle.ecma_outline.specs.declared.outline.Lexeme.{Lexeme}
 use Rattle.ecma_outline.specs.declared.outline.Open.{Open}
 use Rattle.ecma_outline.specs.declared.outline.Outline.{Outline}
@@ -15,27 +15,15 @@ pub scan_more : (text : List ℕ) (i : ℕ) (r : Scanned) → i < length text �
     → step r (get_or text i 0) ≡ scan start (take (i + 1) text)
 scan_more text i r h e = ap (λ q. step q (get_or text i 0)) e ∙ sym (scan_push start (take i text) (get_or text i 0)) ∙ ap (scan start) (sym (take_more text i 0 h))
 
-pub taken : (text : List ℕ) (i b : ℕ) (s t : State) (o p : Outline) → i < length text → IsRead text i s o → b ≡ get_or text i 0
-    → scanned t p ≡ step (scanned s o) b → t.at ≡ s.at + 1 → t.indent ≤ s.indent + 1 → IsRead text (i + 1) t p
-taken text i b s t o p h r e k at indent =
-    let here = r.at in
-    let before = r.indent in
-    record {
-      read = k ∙ ap (step (scanned s o)) e ∙ scan_more text i (scanned s o) h r.read;
-      at = omega arith;
-      indent = omega arith;
-    }
-
-pub none_taken : (text : List ℕ) (o : Outline) → scanned outset o ≡ start → IsRead text 0 outset o
-none_taken text o e = record { read = e; at = refl; indent = omega arith }
+pub scan_all : (text : List ℕ) (i : ℕ) (r : Scanned) → length text ≤ i → r ≡ scan start (take i text) → r ≡ scan start text
+scan_all text i r h e = e ∙ ap (scan start) (take_all i text h)
 
 -- what is kept at the end
-pub finished : (text : List ℕ) (s t : State) (o p q : Outline) → IsRead text (length text) s o → scanned t p ≡ step (scanned s o) 10
+pub finished : (text : List ℕ) (s t : State) (o p q : Outline) → scanned s o ≡ scan start text → scanned t p ≡ step (scanned s o) 10
     → q.lexemes.items ≡ p.lexemes.items ++ empty_at t ∷ [] → q.opens ≡ p.opens → q.counts ≡ p.counts → IsOutline text q
 unfolding outlined scanned
 finished text s t o p q read last lexemes opens counts =
-    let whole = ap (scan start) (take_all (length text) text (omega arith)) in
-    let all : scanned t p ≡ step (scan start text) 10 = last ∙ ap (λ r. step r 10) (read.read ∙ whole) in
+    let all : scanned t p ≡ step (scan start text) 10 = last ∙ ap (λ r. step r 10) read in
     record {
       lexemes = lexemes ∙ ap (λ r. (finish r).lexemes) all;
       opens = ap (λ v. v.items) opens ∙ ap (λ r. (finish r).opens) all;

@@ -1,5 +1,5 @@
 -- The tokens of a text, and which brackets are open at each, told by single bytes.
-use Rattle.std.specs.Prelude.{◌≡◌, ℕ, List, [], ◌∷◌, ◌++◌, ◌+◌, ◌≤◌, ◌==◌, ◌&&◌, ◌||◌, Bool, true, false, not, cond, nat_lt, if◌then◌else◌, length, get_or, take}
+use Rattle.std.specs.Prelude.{◌≡◌, ℕ, List, [], ◌∷◌, ◌++◌, ◌+◌, ◌==◌, ◌&&◌, ◌||◌, Bool, true, false, not, cond, nat_lt, if◌then◌else◌, length, get_or}
 use Rattle.ecma_outline.specs.Bytes.{begun, ends_before, is_blank, is_newline, is_token, next_mode}
 use Rattle.ecma_outline.specs.declared.bytes.Mode.{Mode}
 use Rattle.ecma_outline.specs.declared.bytes.Mode.TheVariants as mode
@@ -156,12 +156,6 @@ finish r = record { lexemes = r.lexemes ++ empty_at r.state ∷ []; opens = r.op
 -- the end is read as a line's end
 unfoldable pub outlined : List ℕ → Outlined
 outlined text = finish (step (scan start text) 10)
-
--- so many bytes of a text are read
-pub record IsRead (text : List ℕ) (i : ℕ) (s : State) (o : Outline) : Type 0 where
-  pub read : scanned s o ≡ scan start (take i text)
-  pub at : s.at ≡ i
-  pub indent : s.indent ≤ i
 
 -- what is kept of a text
 pub record IsOutline (text : List ℕ) (o : Outline) : Type 0 where

@@ -2,7 +2,7 @@
 
 ghost use Rattle.std.specs.Prelude.{◌≡◌, ◌++◌, ◌+◌, ◌<◌, ◌≤◌, ◌^◌, IfOk, OnOk, length};
 ghost use Rattle.ecma_outline.specs.Outline as outline;
-ghost use Rattle.ecma_outline.specs.Outline.{IsOutline, IsRead, scanned, start, step};
+ghost use Rattle.ecma_outline.specs.Outline.{IsOutline, scan, scanned, start, step};
 
 use crate::bytes::{Mode, ends_before, is_blank, is_newline, is_token, next_mode};
 use std::alloc::{AllocError, Global};
@@ -367,29 +367,18 @@ impl Outline {
     }
 }
 
-/// Takes a byte of a text in, by its offset.
-#[tactic(auto, using(crate::proofs::Outlines::taken))]
-fn take_one(it: &mut Outline, text: &str, i: usize, state: State) -> Result<State, AllocError>
-    requires text { length text.now < 2 ^ 32 }
-    requires within { i < length text.now }
-    requires read { IsRead text.now i state it.old }
-    ensures { IfOk result (λ next. IsRead text.now (i + 1) next it.new) }
-{
-    let byte = text.as_bytes()[i];
-    let next = it.step(state, byte)?;
-    Ok(next)
-}
-
 /// Takes all bytes of a text in.
-#[tactic(auto, using(crate::proofs::Outlines::none_taken))]
+#[tactic(auto, using(crate::proofs::Outlines::scan_more, crate::proofs::Outlines::scan_all))]
 fn take_all(it: &mut Outline, text: &str) -> Result<State, AllocError>
     requires text { length text.now < 2 ^ 32 }
     requires empty { scanned outline.outset it.old ≡ start }
-    ensures { IfOk result (λ state. IsRead text.now (length text.now) state it.new) }
+    ensures read { IfOk result (λ state. scanned state it.new ≡ scan start text.now) }
+    ensures at { IfOk result (λ state. state.at ≤ length text.now) }
+    ensures indent { IfOk result (λ state. state.indent ≤ length text.now) }
 {
     let mut state = outset();
-    for i in 0..text.len() {
-        let next = take_one(it, text, i, state)?;
+    for byte in text.as_bytes() {
+        let next = it.step(state, *byte)?;
         state = next;
     }
     Ok(state)
@@ -398,8 +387,9 @@ fn take_all(it: &mut Outline, text: &str) -> Result<State, AllocError>
 /// Ends the last token of a text, and adds one without bytes at its end.
 #[tactic(auto, using(crate::proofs::Outlines::finished))]
 fn close(it: &mut Outline, text: &str, state: State) -> Result<(), AllocError>
-    requires text { length text.now < 2 ^ 32 }
-    requires read { IsRead text.now (length text.now) state it.old }
+    requires at { state.at < 2 ^ 33 }
+    requires indent { state.indent < 2 ^ 33 }
+    requires read { scanned state it.old ≡ scan start text.now }
     ensures { OnOk result (IsOutline text.now it.new) }
 {
     let last = it.step(state, b'\n')?;

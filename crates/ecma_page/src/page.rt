@@ -17,7 +17,8 @@ pub struct Page<'a> {
     /// The tree as ESTree; `null`, where there is none.
     pub tree: &'a [u8],
     /// The faults, an object a line: `start` and `end` are offsets in code units of UTF-16, `line` and `column` count from 1, and `severity`,
-    /// `kind` and `message` are strings. Another place that a fault speaks of is an object `note` with `start`, `end` and `message`.
+    /// `kind` and `message` are strings. Another place that a fault speaks of is an object `note` with `start`, `end` and `message`. An object
+    /// whose `severity` is `more` has a `count` alone: how many faults there are besides.
     pub faults: &'a [u8],
 }
 

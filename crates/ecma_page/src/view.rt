@@ -45,7 +45,10 @@ function take(name) {
 const find = (id) => document.getElementById(id);
 const name = JSON.parse(take('name'));
 const text = JSON.parse(take('source'));
-const faults = new Faults(find('list'), take('faults').split('\n').filter((line) => line).map((line) => JSON.parse(line)));
+const told = take('faults').split('\n').filter((line) => line).map((line) => JSON.parse(line));
+// How many more faults there are than are told.
+const more = told.find((line) => line.severity === 'more')?.count ?? 0;
+const faults = new Faults(find('list'), told.filter((line) => line.severity !== 'more'));
 const source = new Source(find('text'), text, faults.faults);
 let tree = null;
 // The offset that one points at.
@@ -260,7 +263,8 @@ function start() {
     document.title = `${name} - ecma-check`;
     find('file').textContent = name;
     const lines = source.lines[source.rows.count - 1] || source.lines.findLast((line) => line);
-    find('sum').textContent = `lines: ${lines}, faults: ${faults.faults.length}`;
+    const all = more ? ` of ${faults.faults.length + more}` : '';
+    find('sum').textContent = `lines: ${lines}, faults: ${faults.faults.length}${all}`;
     document.addEventListener('keydown', keyDown);
     find('text').addEventListener('pointermove', pointAtSource);
     find('text').addEventListener('pointerleave', () => tellFaults(-1));

@@ -2,4 +2,6 @@
 #![tactic(auto)]
 
 #[cfg(test)]
+mod headlines;
+#[cfg(test)]
 mod parsers;

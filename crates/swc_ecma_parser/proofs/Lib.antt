@@ -1,2 +1,3 @@
 mod Kept
 mod Answered
+pub mod Same

@@ -1,2 +1,4 @@
 pub mod Parsing
+pub mod Reading
 pub mod Headline
+pub mod Same

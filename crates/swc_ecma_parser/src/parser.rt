@@ -17,6 +17,7 @@ ghost use Rattle.swc_ecma_parser_reader.specs.State as reader;
 ghost use Rattle.swc_ecma_parser_reader.specs.Entry.{unmarked, SoundScript, SoundStatement, IsRestored, Stays, script_walk, statement_walk};
 ghost use Rattle.swc_ecma_parser_reader.specs.Calls.{Leaves, MemoryLasts, TellsMark, lacks_ahead};
 ghost use Rattle.swc_ecma_parser_reader.specs.Limits.{IsToldBy};
+ghost use Rattle.swc_ecma_parser_grammar.specs.language.Programs as programs;
 ghost use Rattle.swc_ecma_parser_exactness.specs.Completes.{CompletesScript, CompletesModule, CompletesProgram, CompletesItem, CompletesStatement};
 ghost use Rattle.swc_ecma_parser_exactness.specs.Decides.{DecidesScript, DecidesStatement};
 ghost use Rattle.swc_ecma_parser_exactness.specs.ModuleDecides.{DecidesModule, DecidesItem, DecidesProgram};
@@ -27,6 +28,7 @@ ghost use Rattle.swc_ecma_parser_state.specs.Keeps.{Keeps};
 ghost use Rattle.swc_ecma_parser_state.specs.Opened.{fresh, opened};
 ghost use Rattle.swc_ecma_parser_token.specs.declared.token.Token.TheVariants as token;
 ghost use Rattle.swc_ecma_parser_token.specs.declared.token.TokenAndSpan.{TokenAndSpan};
+ghost use Rattle.swc_ecma_parser.specs.Reading.{IsReading};
 
 use std::alloc::Global;
 use std::marker::Model;
@@ -115,6 +117,11 @@ impl<I: Tokens> Parser<I> {
     pub fn parse_script(&mut self) -> PResult<Script>
         ensures limit { self.new.limit ≡ self.old.limit }
 
+        // Whatever comes, unless memory ran out: the tree, or the refusal, and every fault that is recorded are what the reader comes to,
+        // which is a function of the tokens, the code and the limit.
+        ensures reads { IsReading view_script programs.script self.old.limit (unmarked self.old.state) result
+            self.new.state }
+
         // Of any answer: it takes the whole list, and its statements stand on its tokens; with no fault recorded the list
         // spells it within the limit; and its tabled faults are its walk where no error token stands and nothing was dropped.
         ensures sound { IfOk result
@@ -193,6 +200,11 @@ impl<I: Tokens> Parser<I> {
     /// was held back until it is one is recorded before anything is read.
     pub fn parse_module(&mut self) -> PResult<Module>
         ensures limit { self.new.limit ≡ self.old.limit }
+
+        // Whatever comes, unless memory ran out: the tree, or the refusal, and every fault that is recorded are what the reader comes to,
+        // which is a function of the tokens, the code and the limit.
+        ensures reads { IsReading view_module programs.«module» self.old.limit (unmarked self.old.state) result
+            self.new.state }
 
         // Of any answer, from the state `u` on in which module code begins: it takes the whole list; with no fault recorded the
         // list spells it within the limit; and its tabled faults are its walk where no error token stands and nothing was dropped.
@@ -277,6 +289,11 @@ impl<I: Tokens> Parser<I> {
     pub fn parse_program(&mut self) -> PResult<Program>
         ensures limit { self.new.limit ≡ self.old.limit }
 
+        // Whatever comes, unless memory ran out: the tree, or the refusal, and every fault that is recorded are what the reader comes to,
+        // which is a function of the tokens, the code and the limit.
+        ensures reads { IsReading view_program programs.program self.old.limit (unmarked self.old.state) result
+            self.new.state }
+
         // Of any answer: it takes the whole list; with no fault recorded but what had been held back before, the list spells it
         // within the limit; and its tabled faults are its walk where no error token stands and nothing was dropped.
         ensures sound { IfOk result
@@ -360,6 +377,11 @@ impl<I: Tokens> Parser<I> {
     /// At the end of the list it is refused with `Eof`.
     pub fn parse_module_item(&mut self) -> PResult<ModuleItem>
         ensures limit { self.new.limit ≡ self.old.limit }
+
+        // Whatever comes, unless memory ran out: the tree, or the refusal, and every fault that is recorded are what the reader comes to,
+        // which is a function of the tokens, the code and the limit.
+        ensures reads { IsReading view_module_item programs.module_item self.old.limit (unmarked self.old.state) result
+            self.new.state }
 
         // Of any answer: with no fault recorded but what had been held back, and nothing held back by decorators before its word, the
         // tokens that were taken spell it within the limit, and its walk is empty; where no error token was read and nothing was
@@ -447,6 +469,11 @@ impl<I: Tokens> Parser<I> {
     pub fn parse_stmt(&mut self, top_level: bool) -> PResult<Stmt>
         ensures limit { self.new.limit ≡ self.old.limit }
 
+        // Whatever comes, unless memory ran out: the tree, or the refusal, and every fault that is recorded are what the reader comes to,
+        // which is a function of the tokens, the code and the limit.
+        ensures reads { IsReading view_stmt (programs.stmt top_level) self.old.limit (unmarked self.old.state) result
+            self.new.state }
+
         // Of any answer: it stands on the tokens that were taken; with no fault recorded they spell it within the limit, and its walk
         // is empty; where no error token was read and nothing was dropped, its tabled faults are its walk.
         ensures sound { IfOk result
@@ -531,6 +558,11 @@ impl<I: Tokens> Parser<I> {
     /// The same of a statement or a declaration: StatementListItem of section 14.2.
     pub fn parse_stmt_list_item(&mut self, top_level: bool) -> PResult<Stmt>
         ensures limit { self.new.limit ≡ self.old.limit }
+
+        // Whatever comes, unless memory ran out: the tree, or the refusal, and every fault that is recorded are what the reader comes to,
+        // which is a function of the tokens, the code and the limit.
+        ensures reads { IsReading view_stmt (programs.stmt_list_item top_level) self.old.limit (unmarked self.old.state) result
+            self.new.state }
 
         // Of any answer: it stands on the tokens that were taken; with no fault recorded they spell it within the limit, and its walk
         // is empty; where no error token was read and nothing was dropped, its tabled faults are its walk.

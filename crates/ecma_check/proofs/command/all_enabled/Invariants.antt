@@ -1,4 +1,4 @@
--- The words that are left turn on the rest.
+-- The names that are left turn on the rest.
 use Rattle.std.proofs.Common.{◌≡◌, drop, map}
 use Rattle.ecma_check.specs.Command.{all_enabled}
 use Rattle.ecma_check.proofs.command.all_enabled.Given as goal
