@@ -409,8 +409,7 @@ fn no_more_faults_than_are_asked_for(rt: HostRuntime) -> Result<(), Fail> {
     }
     let found = printed(&rt, plain(&["--max-faults", "1"], b"break;break;break;a b"))?;
     let found = found.as_str();
-    let middle =
-        "\n^^^^^^\n-: note: more faults: 2; --max-faults 0 reports all\n-:1:21: refused: ";
+    let middle = "\n^^^^^^\n-: note: more faults: 2; --max-faults 0 reports all\n-:1:21: refused: ";
     let end = "files: 1, faults: 3, refused: 1, unread: 0\n||2";
     assert!(rt; found.contains(middle) && found.ends_with(end), "{found:?}");
     Ok(())

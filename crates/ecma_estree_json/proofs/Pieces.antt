@@ -157,7 +157,7 @@ further_reads x a b h l = loc_reads x a b h (range_reads x a b h l x.has_ranges)
 
 pub place_leaves : (x : Placed) (a b : ℕ) {ys zs : List ℕ} {p : Option Fields} → length x.text < 2 ^ 63 → Leaves ys p zs
     → Leaves (codes ",\"start\":" ++ (decimal (offset x.text a) ++ (codes ",\"end\":" ++ (decimal (offset x.text b)
-        ++ (cond x.has_locations (loc_text x a b) [] ++ (cond x.has_ranges (range_text x a b) [] ++ ys)))))) (place x a b p) zs
+    ++ (cond x.has_locations (loc_text x a b) [] ++ (cond x.has_ranges (range_text x a b) [] ++ ys)))))) (place x a b p) zs
 unfolding place
 place_leaves x a b h l =
     field_leaves (codes "start") refl (decimal_spells (offset x.text a) (offset_small x.text a h))

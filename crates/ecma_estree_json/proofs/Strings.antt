@@ -42,13 +42,20 @@ two_digits : (c : ℕ) → (c / 16 % 16) * 16 + c % 16 ≡ c % 256
 two_digits c = omega arith
 
 further_digits : (c : ℕ) → c / 4096 % 16 ≡ c / 256 / 16 % 16
-further_digits c = ap (λ n. n % 16) (omega arith)
+further_digits c = let same : c / 4096 ≡ c / 256 / 16 = omega arith in ap (λ n. n % 16) same
 
-four_digits_sum : (c : ℕ) → (c / 256 % 256) * 256 + c % 256 ≡ c % 65536
-four_digits_sum c = omega arith
+first_digits : (c : ℕ) → (c / 4096 % 16) * 16 + c / 256 % 16 ≡ c / 256 % 256
+first_digits c = ap (λ n. n * 16 + c / 256 % 16) (further_digits c) ∙ two_digits (c / 256)
+
+halves : (c : ℕ) → (c / 256 % 256) * 256 + c % 256 ≡ c % 65536
+halves c = omega arith
+
+joined : (x y z w m p q : ℕ) → z * 16 + w ≡ m → x * 16 + y ≡ p → p * 256 + m ≡ q → (((0 + x) * 16 + y) * 16 + z) * 16 + w ≡ q
+joined x y z w m p q a b c = omega arith
 
 four_digits_whole : (c : ℕ) → (((0 + c / 4096 % 16) * 16 + c / 256 % 16) * 16 + c / 16 % 16) * 16 + c % 16 ≡ c % 65536
-four_digits_whole c = omega (arith, two_digits c, two_digits (c / 256), further_digits c, four_digits_sum c)
+four_digits_whole c =
+    joined (c / 4096 % 16) (c / 256 % 16) (c / 16 % 16) (c % 16) (c % 256) (c / 256 % 256) (c % 65536) (two_digits c) (first_digits c) (halves c)
 
 four_adds : (c : ℕ) → Adds (four_digits c) (unit_bytes (c % 65536))
 four_adds c = record {

@@ -1,7 +1,6 @@
 //! What stands around a fault of a text.
 
 ghost use Rattle.std.specs.Prelude.{◌≡◌, ◌≤◌};
-ghost use Rattle.ecma_outline.specs.Outline.{outlined};
 ghost use Rattle.ecma_sentences.specs.Look as spec;
 ghost use Rattle.ecma_sentences.specs.Look.{look_at};
 ghost use Rattle.ecma_situations.specs.Looked.{looked};

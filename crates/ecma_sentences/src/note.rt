@@ -9,7 +9,7 @@ use crate::look::{index_of, lexeme_of, look, opener_of};
 use crate::messages::situation_of;
 use crate::payload::inner_of;
 use ecma_outline::Source;
-use ecma_situations::{Beside, Look, beside};
+use ecma_situations::{Beside, Look, place_beside};
 use swc_ecma_parser_common::{BytePos, Span};
 use swc_ecma_parser_error::{Error, SyntaxError};
 
@@ -200,7 +200,12 @@ fn situation_note(source: &Source<'_>, error: &Error) -> Option<Note>
     ensures { noted result ≡ spec.situation_note source.now.text error.now }
 {
     let l = look(source, error);
-    note_beside(source, error, &l, beside(situation_of(&error.kind, &l)))
+    note_beside(
+        source,
+        error,
+        &l,
+        place_beside(situation_of(&error.kind, &l)),
+    )
 }
 
 /// The other place of a fault, if it has one: a bracket that is open or was closed too early, an earlier `default`, or where an expression or a

@@ -48,7 +48,7 @@ is_in_switch l = bytes_eq l.wanted (codes "}") && bytes_eq l.head (codes ")") &&
 
 -- A key of an object without a value
 unfoldable pub is_bare_key : Looked → Bool
-is_bare_key l = bytes_eq l.opener (codes "{") && bytes_eq l.wanted (codes ",") && (bytes_eq l.earlier (codes "{") || bytes_eq l.earlier (codes ","))
+is_bare_key l = bytes_eq l.opener (codes "{") && bytes_eq l.wanted (codes ",") && is_name l.before && (bytes_eq l.earlier (codes "{") || bytes_eq l.earlier (codes ","))
 
 -- an element of JSX
 unfoldable pub is_element : Looked → Bool

@@ -104,7 +104,10 @@ fn is_in_switch(l: &Look<'_>) -> bool
 fn is_bare_key(l: &Look<'_>) -> bool
     ensures { result ≡ spec.is_bare_key (looked l.now) }
 {
-    l.opener == "{" && l.wanted == "," && (l.earlier == "{" || l.earlier == ",")
+    l.opener == "{"
+        && l.wanted == ","
+        && is_name(l.before)
+        && (l.earlier == "{" || l.earlier == ",")
 }
 
 /// An element of JSX.

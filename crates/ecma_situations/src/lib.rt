@@ -12,4 +12,4 @@ pub use decided::{
 };
 pub use look::Look;
 pub use numbers::number;
-pub use situation::{Beside, Situation, beside, words};
+pub use situation::{Beside, Situation, place_beside, words};

@@ -355,7 +355,7 @@ macro_rules! beside {
 }
 
 /// Where else to look in a situation.
-pub fn beside(situation: Situation) -> Beside
+pub fn place_beside(situation: Situation) -> Beside
     ensures { result ≡ spec.beside situation }
 {
     beside!(
