@@ -6,7 +6,8 @@ class FaultList {
     Object.assign(this, { list, button, tells, faults: [], count: 0, cursor: -1, refusal: null, then: null });
     list.addEventListener('click', event => this.clicked(event));
     list.addEventListener('keydown', event => this.key(event));
-    list.addEventListener('focus', () => this.move(Math.max(0, this.cursor)));
+    // By a key: a click goes to the item that is clicked.
+    list.addEventListener('focus', () => list.matches(':focus-visible') && this.move(Math.max(0, this.cursor)));
     button.addEventListener('click', () => this.further(from => this.choose(from)));
   }
 

@@ -10,7 +10,8 @@ class TreeView {
   constructor(pane, tells) {
     Object.assign(this, { pane, tells, listed: [], cursor: 0, lit: -1, root: null, isDue: false });
     this.rows = new Rows(pane, index => this.row(index));
-    pane.addEventListener('click', event => this.clicked(event));
+    // A row that is painted anew between press and release gets no click.
+    pane.addEventListener('mousedown', event => this.clicked(event));
     pane.addEventListener('keydown', event => this.key(event));
   }
 
@@ -151,7 +152,7 @@ class TreeView {
 
   clicked(event) {
     const row = event.target.closest('.row');
-    if (!row) return;
+    if (!row || event.button !== 0) return;
     const index = Number(row.dataset.index);
     const { entry } = this.listed[index];
     if (isRest(entry)) return this.widen(index);
