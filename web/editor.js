@@ -131,7 +131,14 @@ class Editor {
     this.layer.style.transform = `translate(${-scrollLeft}px, ${top}px)`;
     this.gutter.replaceChildren(...numbers);
     this.gutter.style.transform = `translateY(${top}px)`;
-    this.gutter.parentElement.style.width = `calc(${String(this.lineOf(this.starts.length - 1)).length}ch + 20px)`;
+    this.widen(String(this.lineOf(this.starts.length - 1)).length);
+  }
+
+  /** Makes room for the numbers of lines. The text is laid out anew only where that changes. */
+  widen(digits) {
+    if (this.digits === digits) return;
+    this.digits = digits;
+    this.gutter.parentElement.style.width = `calc(${digits}ch + 20px)`;
   }
 
   /** The width of a character of a text of one width. */
