@@ -90,10 +90,10 @@ async function underlined(page) {
     const wrong = document.querySelector('#layer .wrong').getBoundingClientRect();
     const line = [...$('numbers').children].find(it => it.textContent === '121').getBoundingClientRect();
     const area = text.getBoundingClientRect();
-    return [wrong.top - line.top, wrong.left > area.left && wrong.right < area.right, wrong.top > area.top && wrong.bottom < area.bottom,
-      Math.round(wrong.left - area.left - 12 - 300 * editor.width() + text.scrollLeft)]; })()`;
-  const [below, isAcross, isDown, off] = await page.value(places);
-  assert.ok(Math.abs(below) < 6 && isAcross && isDown && Math.abs(off) <= 1, JSON.stringify([below, isAcross, isDown, off]));
+    const off = wrong.left - area.left - 12 - 300 * editor.width() + text.scrollLeft;
+    return JSON.stringify({ isBeside: Math.abs(wrong.top - line.top) < 6 && Math.abs(off) <= 1, isAcross: wrong.left > area.left && wrong.right < area.right,
+      isDown: wrong.top > area.top && wrong.bottom < area.bottom }); })()`;
+  await comes(page, places, JSON.stringify({ isBeside: true, isAcross: true, isDown: true }));
   await page.key('Home');
   await page.type('\r');
   await page.settled();
@@ -126,6 +126,19 @@ async function faultsByKeys(page) {
   await page.key('F8', SHIFT);
   assert.strictEqual(await page.value('text.selectionStart'), 628 * 7);
   assert.strictEqual(await page.value(button), '');
+}
+
+/** Why there is no tree stands last in the list, before further faults are shown and behind them. */
+async function refused(page) {
+  await page.given(`${'break;\n'.repeat(150)}b c;\n`);
+  const shown = `[${LIST}.childElementCount, ${LIST}.lastChild.querySelector('.severity').textContent, $('further').hidden, $('none').hidden, ${LIST}.querySelectorAll('#fault-150').length]`;
+  assert.deepStrictEqual(await page.value(shown), [101, 'refused', false, false, 1]);
+  await tabTo(page, 'further');
+  await page.key('Enter');
+  await comes(page, `${LIST}.childElementCount`, 151);
+  assert.deepStrictEqual(await page.value(shown), [151, 'refused', true, false, 1]);
+  await page.key('F8', SHIFT);
+  assert.strictEqual(await page.value('text.selectionStart'), 99 * 7, 'the first of the further ones was gone to');
 }
 
 /** A long message is wrapped, and seen as a whole. */
@@ -255,7 +268,7 @@ async function fits(page, width) {
   assert.ok(high[0] >= 100 && high[1] >= 100 && high[2] >= 20, JSON.stringify(high));
 }
 
-const POINTS = { lights, follows, clicked, underlined, faultsByKeys, wrapped, searched, copied, named, linked, colored, fits };
+const POINTS = { lights, follows, clicked, underlined, faultsByKeys, refused, wrapped, searched, copied, named, linked, colored, fits };
 
 async function pointsAt(page, width) {
   await page.resize(width, HEIGHT);

@@ -8,7 +8,10 @@ class FaultList {
     list.addEventListener('keydown', event => this.key(event));
     // By a key: a click goes to the item that is clicked.
     list.addEventListener('focus', () => list.matches(':focus-visible') && this.move(Math.max(0, this.cursor)));
-    button.addEventListener('click', () => this.further(from => this.choose(from)));
+    button.addEventListener('click', () => this.further(from => {
+      this.choose(from);
+      list.focus();
+    }));
   }
 
   show(faults, count) {

@@ -92,7 +92,7 @@ function moved(after = REST_MS) {
   moving = setTimeout(() => asks({ at: [text.selectionStart, text.selectionEnd], unfolds: $('follow').checked }), after);
 }
 
-/** Opens the tree to the cursor, and goes there. */
+/** Opens the tree to the cursor, and goes there: once the text is answered. */
 function goToTree() {
   clearTimeout(moving);
   isGoing = true;
@@ -106,11 +106,10 @@ function lightAt({ tree: root, path, way, start, end }) {
   $('path').textContent = way.length > MOST_NAMED ? `\u2026 \u203a ${last}` : last;
   if (way.length > 1) editor.light(start, end);
   else editor.light(0, 0);
-  if (isGoing && path) {
-    tree.goTo(path);
-    $('tree').focus();
-  } else tree.light(path);
+  if (!isGoing || !root) return tree.light(path);
   isGoing = false;
+  tree.goTo(path);
+  $('tree').focus();
 }
 
 // The search.
@@ -183,13 +182,14 @@ function show({ ms, count, faults: first, tree: root, failure, generation: shown
   for (const id of ['copy', 'copy-node']) $(id).disabled = !root;
   $('state').textContent = failure ?? `${count} ${count === 1 ? 'fault' : 'faults'}, ${ms.toFixed(1)} ms`;
   document.documentElement.dataset.shown = answered;
-  if (document.activeElement === text) moved(TYPED_MS);
+  if (isGoing && root) goToTree();
+  else if (document.activeElement === text) moved(TYPED_MS);
 }
 
 /** What is done with an answer about the last text, by the name of its part. */
 const SHOWN = {
   marks: ({ marks }) => editor.mark(marks),
-  toggled: ({ toggled, entries }) => tree.fill(toggled, entries),
+  toggled: ({ toggled, isOpen, entries }) => tree.fill(toggled, isOpen ? entries : undefined),
   way: lightAt,
   path: ({ path, tree: root }) => { tree.show(root); tree.goTo(path); },
   hits: ({ words, hits, count }) => { found = { words, hits, count, generation }; goToHit(0); },
@@ -216,6 +216,7 @@ function send(source) {
   number += 1;
   document.documentElement.dataset.asked = number;
   clearTimeout(moving);
+  isGoing = false;
   keep();
   ask();
 }

@@ -59,11 +59,11 @@ class TreeView {
     return this.listed.length > 0 ? 0 : -1;
   }
 
-  /** Shows what stands in an entry that was opened or closed. */
+  /** Shows what stands in an entry that was opened, or that nothing does where it was closed. */
   fill(id, entries) {
     const row = this.listed.find(({ entry }) => entry.id === id);
     if (!row) return;
-    row.entry.entries = entries.length > 0 || this.isWanted === id ? entries : undefined;
+    row.entry.entries = entries;
     this.show(this.root);
   }
 
@@ -125,7 +125,6 @@ class TreeView {
   toggle(index) {
     const { entry } = this.listed[index];
     if (entry.id === undefined || entry.label === '[]') return;
-    this.isWanted = entry.entries ? undefined : entry.id;
     this.tells.toggle(entry.id, entry.entries === undefined);
   }
 

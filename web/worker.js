@@ -156,8 +156,8 @@ function toggled(id, isNowOpen) {
 
 /** What a page asks besides, by the names of its questions. */
 const ANSWERS = {
-  toggled: ({ toggled: id, isOpen: isNowOpen }) => ({ toggled: id, entries: toggled(id, isNowOpen) }),
-  more: ({ more: id, isBefore }) => ({ toggled: id, entries: seek.widened(id, isBefore) }),
+  toggled: ({ toggled: id, isOpen: isNowOpen }) => ({ toggled: id, isOpen: isNowOpen, entries: toggled(id, isNowOpen) }),
+  more: ({ more: id, isBefore }) => ({ toggled: id, isOpen: true, entries: seek.widened(id, isBefore) }),
   at: ({ at, unfolds }) => seek.around(at, unfolds),
   path: ({ path }) => seek.unfolded(path),
   words: ({ words }) => seek.searched(words),
