@@ -1,12 +1,13 @@
 'use strict';
 // Drives the page in web/ in a headless Chromium, by its pipe for debugging: keys, clicks, answers, a picture.
 //
-// usage: node scripts/page.js [--picture FILE] [--times] [--most MS] [--requests FILE]
+// usage: node scripts/page.js [--points] [--picture FILE] [--times [--beside FILE]] [--most MS] [--requests FILE]
 //
-// It types, opens the tree, clicks a fault, loads the page anew, has memory run out, tries what nests, and measures how long texts of 100 KB take
-// from a key to their answer. With --times it only measures; with --most it fails where a usual text takes longer, which says something on a quiet
-// machine. With --picture it keeps a picture of the page. With --requests it answers those in FILE (texts with the numbers of their options) as the
-// page's worker does, and writes the answers to standard output.
+// It types, opens the tree, clicks a fault, loads the page anew, tries at three widths what the page has for a reader (scripts/page_points.js), has
+// memory run out, tries what nests, and measures how long texts of 100 KB take from a key to their answer. With --points it only tries the widths,
+// with --times it only measures, in turns with the page in FILE where there is one; with --most it fails where a usual text takes longer, which says
+// something on a quiet machine. With --picture it keeps a picture of the page and does no more. With --requests it answers those in FILE (texts with
+// the numbers of their options) as the page's worker does, and writes the answers to standard output.
 
 const assert = require('node:assert');
 const fs = require('node:fs');
@@ -14,6 +15,7 @@ const path = require('node:path');
 const { pathToFileURL } = require('node:url');
 const { Browser, Tab } = require('./browser.js');
 const { textsWithin } = require('./nests.js');
+const { pointsAt, WIDTHS } = require('./page_points.js');
 
 const PAGE = pathToFileURL(path.join(__dirname, '../web/index.html')).href;
 const CHUNK = 200;
@@ -22,9 +24,9 @@ const SIZE = 100_000;
 const word = name => (process.argv.includes(name) ? process.argv[process.argv.indexOf(name) + 1] : undefined);
 
 class Playground extends Tab {
-  static async open(browser) {
+  static async open(browser, url = PAGE) {
     const page = await browser.open(Playground);
-    await page.send('Page.navigate', { url: PAGE });
+    await page.send('Page.navigate', { url });
     await page.until('document.documentElement?.dataset.shown !== undefined');
     return page;
   }
@@ -49,7 +51,21 @@ class Playground extends Tab {
   async type(text) {
     for (const key of text) await this.send('Input.dispatchKeyEvent', { type: 'char', text: key });
   }
+
+  /** Presses a key that has a code of its own (of Windows, as the protocol has them), or that is a character. */
+  async key(key, modifiers = 0) {
+    const text = key === 'Enter' ? '\r' : key.length === 1 ? key : undefined;
+    const of = { key, code: key, windowsVirtualKeyCode: CODES[key] ?? key.toUpperCase().charCodeAt(0), modifiers };
+    await this.send('Input.dispatchKeyEvent', { type: 'keyDown', ...of, text });
+    await this.send('Input.dispatchKeyEvent', { type: 'keyUp', ...of });
+  }
+
+  resize(width, height) {
+    return this.send('Emulation.setDeviceMetricsOverride', { width, height, deviceScaleFactor: 1, mobile: false });
+  }
 }
+
+const CODES = { Tab: 9, Enter: 13, Escape: 27, ' ': 32, PageUp: 33, PageDown: 34, End: 35, Home: 36, ArrowLeft: 37, ArrowUp: 38, ArrowRight: 39, ArrowDown: 40, F2: 113, F8: 119, '/': 191 };
 
 const PICTURED = `const limit = 100;
 function total(items) {
@@ -77,10 +93,11 @@ async function used(page) {
   assert.deepStrictEqual(await page.value('[text.value, asked, number - before]'), ['q', 'q', 1], 'a key is asked for once');
   await page.given('f(\u00e9, 1n)');
   assert.strictEqual(await page.value(`$('faults').childElementCount`), 0);
-  await page.clickOn('#tree > details > details:nth-of-type(1) > summary');
+  await page.clickOn('#node-1 .kind');
   await page.until(`$('tree').textContent.includes('ExpressionStatement')`);
   await page.given('f(\u00e9, 1n);');
-  assert.ok(await page.value(`$('tree').textContent.includes('ExpressionStatement 0\u20139')`), 'what is open stays open, and tells its new place');
+  // What is open stays open, and tells its new place.
+  await page.until(`$('tree').textContent.includes('ExpressionStatement 0\u20139')`);
   await page.given('f(\u00e9, 1n)');
   await page.until(`unpacked(location.hash.slice(1)).then(it => it === text.value, () => false)`);
   await page.value('self.isOld = true; location.reload()');
@@ -130,15 +147,22 @@ async function measuredIn(page, name, source) {
   const times = await page.value('times');
   const [answered, seen] = [0, 1].map(part => times.map(it => Math.round(it[part])).sort((a, b) => a - b));
   const middleOf = sorted => sorted[ROUNDS >> 1];
-  console.error(`${name}, ${source.length} bytes: answered after ${middleOf(answered)} ms (${answered[0]} at least), seen after ${middleOf(seen)} ms; ${Math.round(each)} ms of processors`);
+  console.error(`${name}${page.label ?? ''}, ${source.length} bytes: answered after ${middleOf(answered)} ms (${answered[0]} at least), seen after ${middleOf(seen)} ms; ${Math.round(each)} ms of processors`);
   return middleOf(answered);
 }
 
-/** From a key to its answer in texts of 100 KB. */
-async function measured(page) {
-  await page.value(WATCH);
+/** From a key to its answer in texts of 100 KB, in turns with another page where there is one. */
+async function measured(page, beside) {
+  const pages = beside ? [Object.assign(beside, { label: ' (beside)' }), page, beside, page] : [page];
+  for (const it of new Set(pages)) await it.value(WATCH);
   const took = [];
-  for (const [name, source] of Object.entries(measuredTexts())) took.push(await measuredIn(page, name, source));
+  for (const [name, source] of Object.entries(measuredTexts())) {
+    for (const it of pages) {
+      await it.send('Page.bringToFront');
+      const found = await measuredIn(it, name, source);
+      if (it === page) took.push(found);
+    }
+  }
   assert.ok(took[0] <= Number(word('--most') ?? Infinity), `${took[0]} ms from a key to its answer`);
 }
 
@@ -201,15 +225,13 @@ async function answered(page, requests) {
   return answers;
 }
 
-/** Keeps a picture of the page, with a part of the tree opened and a fault clicked. */
+/** Keeps a picture of the page: the next fault is gone to, and the tree is opened to it. */
 async function pictured(page, file) {
+  await page.resize(1200, 640);
   await page.given(PICTURED);
-  const body = '#tree > details > details:nth-of-type(1)', second = `${body} > details:nth-of-type(2)`;
-  for (const opened of [body, second, `${second} > details:nth-last-of-type(1)`]) {
-    await page.clickOn(`${opened} > summary`);
-    await page.until(`document.querySelector('${opened}').childElementCount > 1`);
-  }
-  await page.clickOn('#faults li');
+  await page.key('F8');
+  await page.key('F2');
+  await page.until(`document.activeElement.id === 'tree' && document.querySelector('#layer .lit') !== null`);
   await page.picture(file);
 }
 
@@ -218,17 +240,13 @@ async function main() {
   try {
     const page = await Playground.open(browser);
     const requests = word('--requests');
-    if (requests) {
-      console.log(JSON.stringify(await answered(page, JSON.parse(fs.readFileSync(requests, 'utf8')))));
-      return;
-    }
-    if (process.argv.includes('--times')) {
-      await measured(page);
-      return;
-    }
-    await used(page);
-    const picture = word('--picture');
-    if (picture) await pictured(page, picture);
+    if (requests) return console.log(JSON.stringify(await answered(page, JSON.parse(fs.readFileSync(requests, 'utf8')))));
+    const [beside, picture] = [word('--beside'), word('--picture')];
+    if (process.argv.includes('--times')) return await measured(page, beside && await Playground.open(browser, pathToFileURL(path.resolve(beside)).href));
+    if (picture) return await pictured(page, picture);
+    if (!process.argv.includes('--points')) await used(page);
+    for (const width of WIDTHS) await pointsAt(page, width);
+    if (process.argv.includes('--points')) return;
     await starved(page);
     await nested(page);
     await measured(page);

@@ -1,5 +1,4 @@
 // The part of the page that is seen. The worker parses, so nothing here waits.
-'use strict';
 
 const FLAGS = {
   decorators: 'decorators',
@@ -11,22 +10,22 @@ const FLAGS = {
   explicitResourceManagement: 'using',
 };
 const EXTRAS = { locations: 'lines and columns', ranges: 'ranges', comments: 'comments', tokens: 'tokens' };
-const KEPT_BYTES = 65536;
+const BOXES = { ...FLAGS, ...EXTRAS };
 const FIRST = 'while (a) b;\nbreak\n';
+/** The options that an address does not tell. */
+const FIRST_OPTIONS = { goal: 'program', limit: 200 };
+/** How long the cursor and the search rest before they are asked for, and how long behind a key. */
+const [REST_MS, TYPED_MS] = [40, 200];
+/** How many of the nodes around the cursor are named. */
+const MOST_NAMED = 8;
 
 const $ = id => document.getElementById(id);
 const text = $('text');
+const editor = new Editor(text, $('layer'), $('numbers'));
 
-function made(tag, className, content) {
-  const it = document.createElement(tag);
-  if (className) it.className = className;
-  if (content !== undefined) it.textContent = content;
-  return it;
-}
-
-for (const [name, label] of Object.entries({ ...FLAGS, ...EXTRAS })) {
-  const box = Object.assign(made('input'), { type: 'checkbox', id: name });
-  const line = made('label');
+for (const [name, label] of Object.entries(BOXES)) {
+  const box = Object.assign(make('input'), { type: 'checkbox', id: name });
+  const line = make('label');
   line.append(box, ` ${label}`);
   $('flags').append(line);
 }
@@ -37,131 +36,166 @@ function optionsNow() {
   return options;
 }
 
-// The text, packed into the address.
-
-async function piped(bytes, stream) {
-  return new Uint8Array(await new Response(new Blob([bytes]).stream().pipeThrough(stream)).arrayBuffer());
-}
-
-async function packed(source) {
-  const bytes = await piped(new TextEncoder().encode(source), new CompressionStream('deflate-raw'));
-  if (bytes.length > KEPT_BYTES) return '';
-  let letters = '';
-  for (const byte of bytes) letters += String.fromCharCode(byte);
-  return btoa(letters).replaceAll('+', '-').replaceAll('/', '_').replaceAll('=', '');
-}
-
-async function unpacked(letters) {
-  const bytes = Uint8Array.from(atob(letters.replaceAll('-', '+').replaceAll('_', '/')), it => it.charCodeAt(0));
-  return new TextDecoder().decode(await piped(bytes, new DecompressionStream('deflate-raw')));
-}
+// The text and the options, kept in the address.
 
 let keeping;
 
-/** Keeps the text in the address once typing rests. */
+/** Keeps them once typing rests. */
 function keep() {
   clearTimeout(keeping);
   keeping = setTimeout(async () => {
-    const hash = await packed(text.value);
+    const boxes = Object.keys(BOXES).filter(it => $(it).checked);
+    const hash = await packed(text.value) + optionsPacked({ goal: $('goal').value, limit: Number($('limit').value), boxes }, FIRST_OPTIONS);
     history.replaceState(null, '', hash ? `#${hash}` : location.pathname + location.search);
   }, 300);
 }
 
-// What the worker found.
-
-function select(start, end) {
-  text.focus();
-  text.setSelectionRange(start, Math.max(end, start + 1));
+/** Shows what an address keeps. */
+async function opened() {
+  const { source = FIRST, goal, limit, boxes } = await linkRead(location.hash, FIRST_OPTIONS);
+  $('goal').value = goal;
+  $('limit').value = limit;
+  for (const name of Object.keys(BOXES)) $(name).checked = boxes.includes(name);
+  text.value = source;
+  changed();
 }
 
-function faultShown(fault) {
-  const it = made('li');
-  const { line, column } = fault.loc.start;
-  it.append(made('span', 'place', `${line}:${column + 1}`), ' ', made('span', 'severity', fault.isRefusal ? 'refused' : 'fault'), ` ${fault.message} `, made('span', 'place', `[${fault.kind}]`));
-  it.addEventListener('click', () => select(fault.start, fault.end));
-  return it;
-}
+// What is asked of the worker about the last answer. An answer of another is let go.
 
-// The tree. An element of it keeps what it shows as `entry`, and a new answer is shown in the elements that are there: to make them takes longer.
-
-const waiting = new Map();
 let generation = 0;
 
-const nameOf = ({ name }) => (name === '' ? '' : `${name}: `);
+const asks = question => worker.postMessage({ ...question, generation });
 
-const placeOf = ({ start, end }) => (start === undefined ? '' : ` ${start}\u2013${end}`);
+const faults = new FaultList($('faults'), $('further'), {
+  light: ({ start, end }) => editor.show(start, end),
+  select: ({ start, end }) => editor.select(start, end),
+  further: furtherFrom => asks({ furtherFrom }),
+});
 
-/** A field whose value is no node and no list. */
-function valueShown(entry) {
-  const line = made('div');
-  line.append(made('span', 'key', nameOf(entry)), made('span', 'field', entry.label));
-  return Object.assign(line, { entry });
+const tree = new TreeView($('tree'), {
+  light: it => it && editor.show(it.start, it.end),
+  select: it => it && editor.select(it.start, it.end),
+  toggle: (toggled, isOpen) => asks({ toggled, isOpen }),
+  widen: (more, isBefore) => asks({ more, isBefore }),
+  copy: () => copyNode(),
+  search: () => $('search').focus(),
+});
+
+// The cursor.
+
+let moving;
+let isGoing = false;
+
+/** Asks for the node around the cursor once it rests. */
+function moved(after = REST_MS) {
+  clearTimeout(moving);
+  moving = setTimeout(() => asks({ at: [text.selectionStart, text.selectionEnd], unfolds: $('follow').checked }), after);
 }
 
-/** A field that can be opened. It tells the worker when it is opened or closed, and is answered what stands in it. */
-function nodeShown(entry) {
-  const details = Object.assign(made('details'), { entry, open: entry.entries !== undefined });
-  const summary = made('summary');
-  const place = made('span', 'place', placeOf(entry));
-  place.addEventListener('click', event => { event.preventDefault(); select(details.entry.start, details.entry.end); });
-  summary.append(made('span', 'key', nameOf(entry)), made('span', 'kind', entry.label), place);
-  details.append(summary, ...(entry.entries ?? []).map(entryShown));
-  let isOpen = details.open;
-  details.addEventListener('toggle', () => {
-    if (details.open === isOpen) return;
-    isOpen = details.open;
-    if (details.childElementCount === 1) waiting.set(details.entry.id, details);
-    worker.postMessage({ toggled: details.entry.id, isOpen, generation });
-  });
-  return details;
+/** Opens the tree to the cursor, and goes there: once the text is answered. */
+function goToTree() {
+  clearTimeout(moving);
+  isGoing = true;
+  asks({ at: [text.selectionStart, text.selectionEnd], unfolds: true });
 }
 
-function entryShown(entry) {
-  return entry.id === undefined ? valueShown(entry) : nodeShown(entry);
+/** Lights the node around the cursor. Around what is in no statement is the whole, which is not lit in the text. */
+function lightAt({ tree: root, path, way, start, end }) {
+  if (root) tree.show(root);
+  const last = way.slice(-MOST_NAMED).join(' \u203a ');
+  $('path').textContent = way.length > MOST_NAMED ? `\u2026 \u203a ${last}` : last;
+  if (way.length > 1) editor.light(start, end);
+  else editor.light(0, 0);
+  if (!isGoing || !root) return tree.light(path);
+  isGoing = false;
+  tree.goTo(path);
+  $('tree').focus();
 }
 
-/** Shows entries in the place of the elements behind the first of some. */
-function renewAll(parent, entries) {
-  const elements = Array.from(parent.children).slice(1);
-  entries.forEach((entry, index) => {
-    if (index < elements.length) renew(elements[index], entry);
-    else parent.append(entryShown(entry));
-  });
-  for (const it of elements.slice(entries.length)) it.remove();
+// The search.
+
+let found = { words: '', hits: [], count: 0, at: 0 };
+let searching;
+
+function search() {
+  clearTimeout(searching);
+  searching = setTimeout(() => asks({ words: $('search').value }), REST_MS);
 }
 
-/** Shows an entry in the place of another. */
-function renew(element, entry) {
-  const { name, label, id } = element.entry;
-  const isAlike = name === entry.name && label === entry.label && (id === undefined) === (entry.id === undefined);
-  if (!isAlike || element.open !== (entry.id === undefined ? undefined : entry.entries !== undefined)) {
-    element.replaceWith(entryShown(entry));
+/** Goes to one of the nodes that were found. */
+function goToHit(at) {
+  const { hits, count } = found;
+  if (hits.length === 0) {
+    $('hits').textContent = found.words ? 'none' : '';
     return;
   }
-  if (id !== undefined) {
-    const place = placeOf(entry);
-    if (placeOf(element.entry) !== place) element.firstChild.lastChild.textContent = place;
-    renewAll(element, entry.entries ?? []);
+  found.at = (at + hits.length) % hits.length;
+  $('hits').textContent = `${found.at + 1} of ${count}`;
+  asks({ path: hits[found.at].path });
+  editor.show(hits[found.at].start, hits[found.at].end);
+}
+
+function searchKey(event) {
+  if (event.key === 'Enter') {
+    event.preventDefault();
+    if (found.generation === generation && found.words === $('search').value) goToHit(found.at + (event.shiftKey ? -1 : 1));
+    else search();
+  } else if (event.key === 'Escape') {
+    $('search').value = '';
+    search();
+    $('tree').focus();
   }
-  element.entry = entry;
 }
 
-/** Shows a tree, or why there is none. */
-function treeShown(tree, why) {
-  const root = $('tree').firstChild;
-  if (!tree) $('tree').replaceChildren(made('p', '', why));
-  else if (root?.entry) renew(root, tree);
-  else $('tree').replaceChildren(entryShown(tree));
+// JSON.
+
+function copyNode() {
+  const row = tree.listed[tree.cursor];
+  const it = row?.entry.id === undefined ? row?.parent : row;
+  if (it) asks({ copied: it.entry.id });
 }
 
-function show({ ms, count, faults, tree, failure, generation: shown, number }) {
+/** Puts a text where others take it from; a browser that keeps that from a page has an older way. */
+async function copied(json) {
+  try {
+    await navigator.clipboard.writeText(json);
+  } catch {
+    const before = document.activeElement;
+    const area = Object.assign(make('textarea', 'copied', ''), { value: json });
+    document.body.append(area);
+    area.select();
+    document.execCommand('copy');
+    area.remove();
+    before?.focus();
+  }
+  $('hits').textContent = `copied: ${json.length} characters`;
+}
+
+// What the worker found.
+
+function show({ ms, count, faults: first, tree: root, failure, generation: shown, number: answered }) {
   generation = shown;
-  $('faults').replaceChildren(...faults.map(faultShown));
-  waiting.clear();
-  treeShown(tree, failure ?? 'no tree');
+  faults.show(first, count);
+  text.setAttribute('aria-invalid', count > 0);
+  if (count === 0) editor.mark(new Int32Array(0));
+  tree.renew(root ?? null, failure ?? 'The text is refused, so there is no tree.');
+  for (const id of ['copy', 'copy-node']) $(id).disabled = !root;
   $('state').textContent = failure ?? `${count} ${count === 1 ? 'fault' : 'faults'}, ${ms.toFixed(1)} ms`;
-  document.documentElement.dataset.shown = number;
+  document.documentElement.dataset.shown = answered;
+  if (isGoing && root) goToTree();
+  else if (document.activeElement === text) moved(TYPED_MS);
 }
+
+/** What is done with an answer about the last text, by the name of its part. */
+const SHOWN = {
+  marks: ({ marks }) => editor.mark(marks),
+  toggled: ({ toggled, isOpen, entries }) => tree.fill(toggled, isOpen ? entries : undefined),
+  way: lightAt,
+  path: ({ path, tree: root }) => { tree.show(root); tree.goTo(path); },
+  hits: ({ words, hits, count }) => { found = { words, hits, count, generation }; goToHit(0); },
+  json: ({ json }) => copied(json),
+  furtherFrom: ({ furtherFrom, faults: further }) => faults.append(furtherFrom, further),
+};
 
 // One text is with the worker at a time, and behind it the newest.
 
@@ -177,52 +211,94 @@ function ask() {
   worker.postMessage({ text: asked, options: optionsNow(), number });
 }
 
-function changed(source = text.value) {
+function send(source) {
   asked = source;
   number += 1;
   document.documentElement.dataset.asked = number;
+  clearTimeout(moving);
+  isGoing = false;
   keep();
   ask();
+}
+
+function changed() {
+  send(text.value);
+  editor.take(asked);
 }
 
 /** What a key that is about to be taken in makes of the text: the worker begins with it while the browser lays the text out. */
 function foreseen({ inputType, data }) {
   if (inputType !== 'insertText' || !data) return;
-  changed(text.value.slice(0, text.selectionStart) + data + text.value.slice(text.selectionEnd));
+  send(text.value.slice(0, text.selectionStart) + data + text.value.slice(text.selectionEnd));
 }
 
 function edited() {
-  if (text.value !== asked) changed();
+  if (text.value === asked) editor.take(asked);
+  else changed();
 }
 
 const worker = new Worker(URL.createObjectURL(new Blob([$('worker').textContent], { type: 'text/javascript' })));
 
 worker.onmessage = ({ data }) => {
-  if (data.toggled !== undefined) {
-    if (data.entries.length > 0) waiting.get(data.toggled)?.append(...data.entries.map(entryShown));
-    waiting.delete(data.toggled);
-    return;
-  }
-  if (data.failure && !data.faults) {
+  if (data.ready || data.faults && data.number !== undefined) {
+    isBusy = false;
+    if (data.ready) isStale = true;
+    else show(data);
+    if (isStale) ask();
+  } else if (data.failure) {
     $('state').textContent = data.failure;
-    return;
+  } else if (data.generation === generation && !isBusy) {
+    SHOWN[Object.keys(SHOWN).find(it => it in data)](data);
   }
-  isBusy = false;
-  if (data.ready) isStale = true;
-  else show(data);
-  if (isStale) ask();
 };
+
+/** The keys that the whole page has. */
+function key(event) {
+  if (event.ctrlKey || event.metaKey || event.altKey) return;
+  if (event.key === 'F8') faults.step(event.shiftKey ? -1 : 1);
+  else if (event.key === 'F2') goToTree();
+  else if (event.key === 'Escape') for (const it of document.querySelectorAll('header details[open]')) it.open = false;
+  else return;
+  event.preventDefault();
+}
+
+// Light and dark. A browser that lets a page of a file keep nothing begins with the system's.
+
+function themed(theme) {
+  document.documentElement.dataset.theme = theme;
+  $('theme').value = theme;
+  try {
+    localStorage.setItem('theme', theme);
+  } catch {
+    // It holds as long as the page is open.
+  }
+}
+
+function themeKept() {
+  try {
+    return localStorage.getItem('theme') ?? '';
+  } catch {
+    return '';
+  }
+}
 
 async function start() {
   const letters = Uint8Array.from(atob($('module').textContent), it => it.charCodeAt(0));
   worker.postMessage({ module: await piped(letters, new DecompressionStream('gzip')) });
-  let first = FIRST;
-  if (location.hash.length > 1) first = await unpacked(location.hash.slice(1)).catch(() => FIRST);
-  text.value = first;
+  themed(themeKept());
   text.addEventListener('beforeinput', foreseen);
   text.addEventListener('input', edited);
-  for (const it of document.querySelectorAll('header select, header input')) it.addEventListener('change', () => changed());
-  changed();
+  document.addEventListener('selectionchange', () => document.activeElement === text && !isBusy && moved());
+  document.addEventListener('keydown', key);
+  addEventListener('hashchange', opened);
+  $('search').addEventListener('input', search);
+  $('search').addEventListener('keydown', searchKey);
+  $('follow').addEventListener('change', () => moved(0));
+  $('copy').addEventListener('click', () => asks({ copied: null }));
+  $('copy-node').addEventListener('click', copyNode);
+  $('theme').addEventListener('change', () => themed($('theme').value));
+  for (const it of [$('goal'), $('limit'), ...Object.keys(BOXES).map($)]) it.addEventListener('change', () => changed());
+  await opened();
 }
 
 start();

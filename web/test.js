@@ -7,7 +7,7 @@ const path = require('node:path');
 const vm = require('node:vm');
 const { partsOf, valueEnd, textOf } = require('./parts.js');
 
-const SOURCES = ['../npm/answer.js', 'parts.js', 'worker.js'];
+const SOURCES = ['../npm/answer.js', 'parts.js', 'worker.js', 'seek.js'];
 
 /** An answer as the parser writes it: each fault in a line. */
 function written({ tree, faults }) {
@@ -21,7 +21,9 @@ function told(status, answer) {
   const run = code => JSON.parse(vm.runInContext(`JSON.stringify(${code})`, context) ?? 'null');
   vm.runInContext('answer = () => given', context);
   const again = () => run(`told('', {})`);
-  return { ...again(), again, opened: id => run(`toggled(${id}, true)`), closed: id => run(`toggled(${id}, false)`) };
+  const asked = question => run(`(it => ANSWERS[Object.keys(ANSWERS).find(name => name in it)](it))(${JSON.stringify(question)})`);
+  const marks = () => run('Array.from(seek.marksOf())');
+  return { ...again(), again, asked, marks, opened: id => run(`toggled(${id}, true)`), closed: id => run(`toggled(${id}, false)`) };
 }
 
 const node = (type, start, end, fields) => ({ type, start, end, ...fields });
@@ -87,4 +89,86 @@ test('why there is no tree comes last, however many faults there are', () => {
 
 test('want of memory is told', () => {
   assert.strictEqual(told(-2, { tree: null, faults: [] }).failure, 'memory ran out');
+});
+
+const call = node('Program', 0, 12, {
+  body: [
+    node('EmptyStatement', 0, 1),
+    node('ExpressionStatement', 2, 12, { expression: node('CallExpression', 2, 11, { callee: node('Identifier', 2, 3, { name: 'f' }), arguments: [node('Literal', 4, 10, { value: '","name":"x', raw: `'","name":"x'` })] }) }),
+  ],
+  sourceType: 'script',
+});
+
+test('names stand beside kinds', () => {
+  const { opened } = told(0, { tree: call, faults: [] });
+  opened(1);
+  const [expression] = opened(3);
+  assert.deepStrictEqual([expression.label, expression.called], ['CallExpression', 'f']);
+  const [callee, list] = opened(expression.id);
+  assert.deepStrictEqual([callee.label, callee.called], ['Identifier', 'f']);
+  assert.deepStrictEqual(opened(list.id)[0].called, `'","name":"x'`);
+});
+
+test('a long name is shortened, and a pattern is none', () => {
+  const declared = id => node('VariableDeclaration', 0, 9, { declarations: [node('VariableDeclarator', 4, 9, { id, init: null })], kind: 'let' });
+  const { opened } = told(0, { tree: program([declared(node('Identifier', 4, 5, { name: 'a'.repeat(50) })), declared(node('ArrayPattern', 4, 5, { elements: [] }))]), faults: [] });
+  assert.deepStrictEqual(opened(1).map(it => it.called), [`${'a'.repeat(40)}\u2026`, undefined]);
+});
+
+test('the innermost node around a place is found', () => {
+  const { asked } = told(0, { tree: call, faults: [] });
+  const found = (start, end) => { const { path, way } = asked({ at: [start, end] }); return [path, way.at(-1)]; };
+  assert.deepStrictEqual(found(2, 2), ['//body/1/expression/callee', 'Identifier f']);
+  assert.deepStrictEqual(found(3, 3), ['//body/1/expression/callee', 'Identifier f'], 'right behind a name is the name, where nothing else begins');
+  assert.deepStrictEqual(found(3, 4), ['//body/1/expression', 'CallExpression f']);
+  assert.deepStrictEqual(found(5, 6), ['//body/1/expression/arguments/0', `Literal '","name":"x'`]);
+  assert.deepStrictEqual(found(0, 5), ['/', 'Program']);
+  assert.deepStrictEqual(found(12, 12), ['//body/1', 'ExpressionStatement'], 'behind the last node is that node');
+});
+
+test('the tree opens to what is looked at, and closes again', () => {
+  const { asked } = told(0, { tree: call, faults: [] });
+  const { tree } = asked({ at: [2, 2], unfolds: true });
+  const [, statement] = tree.entries[0].entries;
+  assert.deepStrictEqual(statement.entries[0].entries.map(it => it.label), ['Identifier', '[..]']);
+  const other = asked({ at: [0, 0], unfolds: true }).tree.entries[0].entries;
+  assert.deepStrictEqual(other.map(it => it.entries), [undefined, undefined]);
+});
+
+test('of a long list the parts around what is looked at are shown, and more where that is asked for', () => {
+  const { asked } = told(0, { tree: program(Array.from({ length: 1000 }, (_, at) => node('EmptyStatement', at, at + 1))), faults: [] });
+  const body = asked({ path: '//body/500' }).tree.entries[0];
+  const ends = entries => [entries[0], entries[1], entries.at(-2), entries.at(-1)].map(it => it.start ?? it.label);
+  assert.deepStrictEqual(ends(body.entries), ['400 before', 400, 599, 'more']);
+  assert.deepStrictEqual(ends(asked({ more: body.id, isBefore: true }).entries), ['200 before', 200, 599, 'more']);
+  assert.deepStrictEqual(ends(asked({ more: body.id, isBefore: false }).entries), ['200 before', 200, 799, 'more']);
+});
+
+test('nodes are found by kind and by name', () => {
+  const { asked } = told(0, { tree: call, faults: [] });
+  const found = words => asked({ words }).hits.map(it => [it.path, it.start]);
+  assert.deepStrictEqual(found('identifier F'), [['//body/1/expression/callee', 2]]);
+  assert.deepStrictEqual(found('statement'), [['//body/0', 0], ['//body/1', 2]]);
+  assert.deepStrictEqual(found(''), []);
+  assert.deepStrictEqual(asked({ words: 'nothing' }).count, 0);
+});
+
+test('the JSON of a node and of the whole is handed out', () => {
+  const { asked, opened } = told(0, { tree: call, faults: [] });
+  assert.deepStrictEqual(JSON.parse(asked({ copied: null }).json), call);
+  assert.deepStrictEqual(JSON.parse(asked({ copied: opened(1)[0].id }).json), call.body[0]);
+});
+
+test('further faults and all places are handed out, notes as such', () => {
+  const noted = { ...fault(9), message: '"start":1,"end":2', note: fault(3) };
+  const { asked, marks, faults } = told(1, { tree: call, faults: [noted, ...Array.from({ length: 150 }, (_, at) => fault(at + 10))] });
+  assert.deepStrictEqual(faults[0].note.start, 3);
+  assert.deepStrictEqual(asked({ furtherFrom: 100 }).faults.map(it => it.start), Array.from({ length: 51 }, (_, at) => at + 109));
+  assert.deepStrictEqual(marks().slice(0, 9), [3, 3, 1, 9, 9, 0, 10, 10, 0]);
+  assert.deepStrictEqual(marks().length, 152 * 3);
+});
+
+test('where there is no tree, nothing is found in it', () => {
+  const { asked } = told(2, { tree: null, faults: [fault(1)] });
+  assert.deepStrictEqual([asked({ at: [0, 0] }).way, asked({ words: 'a' }).count], [[], 0]);
 });
