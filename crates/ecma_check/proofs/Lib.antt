@@ -3,3 +3,4 @@ mod Files
 mod Names
 mod Results
 mod Sums
+mod Words

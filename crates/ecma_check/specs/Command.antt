@@ -1,5 +1,5 @@
 -- The words that a run is called with.
-use Rattle.std.specs.Prelude.{◌≡◌, ◌≤◌, ℕ, Bool, true, false, List, [], ◌∷◌, ◌==◌, ◌&&◌, ◌||◌, not, Option, Some, None, option_map, if◌then◌else◌, min, codes}
+use Rattle.std.specs.Prelude.{◌≡◌, ◌≤◌, ◌<◌, ◌^◌, ℕ, Bool, true, false, List, [], ◌∷◌, ◌==◌, ◌&&◌, ◌||◌, not, Option, Some, None, option_map, if◌then◌else◌, min, codes}
 use Rattle.std.specs.List.{flat_map, slice_split}
 use Rattle.std.specs.Str.{bytes_eq}
 use Rattle.std.specs.Str.Parse.{IsNumeral, digits_value, without_leading_plus}
@@ -94,10 +94,11 @@ pub record IsLimit (f : Found) (n : ℕ) : Type 0 where
   pub unnamed : one_text f (codes "limit") ≡ None → n ≡ 1000
   pub named : (word : List ℕ) → one_text f (codes "limit") ≡ Some word → IsNumeral 10 (without_leading_plus word) → n ≡ levels word
 
--- how many faults are told of a file: as many as the number behind `--max-faults` says; a thousand, where there is none
+-- how many faults are told of a file: as many as the number of 32 bits behind `--max-faults` says; a thousand, where there is none
 pub record IsMost (f : Found) (n : ℕ) : Type 0 where
   pub unnamed : one_text f (codes "max-faults") ≡ None → n ≡ 1000
-  pub named : (word : List ℕ) → one_text f (codes "max-faults") ≡ Some word → IsNumeral 10 (without_leading_plus word) → n ≡ digits_value 10 (without_leading_plus word)
+  pub named : (word : List ℕ) → one_text f (codes "max-faults") ≡ Some word → IsNumeral 10 (without_leading_plus word) → digits_value 10 (without_leading_plus word) < 2 ^ 32
+      → n ≡ digits_value 10 (without_leading_plus word)
 
 -- what the words ask of each file
 pub record AreOptions (f : Found) (o : Options) : Type 0 where

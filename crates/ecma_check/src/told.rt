@@ -132,8 +132,8 @@ fn listed_of(
     requires { length text.now < 2 ^ 32 }
     ensures { IfOk result
         (λ out. out.items
-        ≡ listed_in format (lined text.now) file.now listing.tree.now listing.faults.now
-        listing.more) }
+        ≡ listed_in format (lined text.now) file.now listing.entry.tree.now
+        listing.entry.faults.now listing.entry.more) }
 {
     let mut out = Vec::new(alloc);
     let source = Source::new(alloc, text)?;
@@ -154,8 +154,8 @@ fn listed(
     requires { length text.now < 2 ^ 32 }
     ensures { IfOk result
         (λ out. out.items
-        ≡ listed_in format (lined text.now) file.now listing.tree.now listing.faults.now
-        listing.more) }
+        ≡ listed_in format (lined text.now) file.now listing.entry.tree.now
+        listing.entry.faults.now listing.entry.more) }
 {
     if listing.tree.is_ok() && listing.faults.is_empty() && listing.more == 0 {
         return Ok(Vec::new(alloc));

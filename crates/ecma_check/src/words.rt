@@ -7,20 +7,16 @@ use std::alloc::{AllocError, Global};
 use std::env::FillError;
 use std::rt::Env;
 
-/// What stands before the escaped bytes of a word that is not UTF-8. The system ends words by it, so none holds it.
-const MARK: char = '\0';
-
-/// Whether a word is none of UTF-8.
+/// Whether a word is none of UTF-8: NUL stands before its escaped bytes. The system ends words by NUL, so none holds it.
 pub fn is_marked(word: &str) -> bool {
-    word.starts_with(MARK)
+    word.starts_with('\0')
 }
 
 /// A word as it is told: of one that is not UTF-8 the escaped bytes.
-#[tactic(auto, using(std::proofs::lemmas::Str::strip_prefix_char))]
 pub fn shown(word: &str) -> &str
     ensures { IsShown word.now result.now }
 {
-    match word.strip_prefix(MARK) {
+    match word.strip_prefix('\0') {
         Some(escaped) => escaped,
         None => word,
     }
@@ -57,7 +53,7 @@ fn text_of(alloc: Global, bytes: &[u8]) -> Result<String, AllocError>
         return String::from_str(alloc, text);
     }
     let mut text = String::new(alloc);
-    text.push(MARK)?;
+    text.push('\0')?;
     push_escaped(&mut text, bytes)?;
     Ok(text)
 }
