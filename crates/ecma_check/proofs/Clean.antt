@@ -22,7 +22,7 @@ use Rattle.ecma_check.specs.declared.command.Format.TheVariants as format
 use Rattle.ecma_check.specs.declared.command.Settings.{Settings}
 use Rattle.ecma_check.specs.declared.fault.Fault.{Fault}
 use Rattle.ecma_check.specs.declared.sum.Sum.{Sum}
-use Rattle.ecma_check.specs.Answered.{IsAnswered, Shows, ShowsIn, summed}
+use Rattle.ecma_check.specs.Answered.{Shows, ShowsIn, summed}
 use Rattle.ecma_check.specs.Printed.{IsPrinted}
 use Rattle.ecma_check.specs.Told.{faults_in, lined, more_in, told_in}
 use Rattle.ecma_check.specs.Sum as sum
@@ -75,6 +75,9 @@ refuses : (b : Bool) → sum.refusals (if b then outcome.TooDeep else outcome.Re
 refuses true = refl
 refuses false = refl
 
+not_one : ◌≡◌ {A = ℕ} 1 0 → ⊥
+not_one h = cc
+
 module _ (o : Options) (text : List ℕ) where
   -- a tree was read without a fault exactly where the text spells it
   abbrev Decides : Result Tree Error → List Error → Type 0
@@ -85,7 +88,7 @@ module _ (o : Options) (text : List ℕ) where
       → (y : Tree) × (x ≡ Ok y) × (es ≡ []) × Spells o text (view_tree y)
   none_told (Ok y) [] d r n = (y, refl, refl, (d (view_tree y)).0 (refl, refl))
   none_told (Ok y) (e ∷ es) d r n = cc
-  none_told (Err e) es d r n = let one : 1 ≡ 0 = sym (refuses (is_too_deep (kind_of e.kind))) ∙ r in cc
+  none_told (Err e) es d r n = absurd (not_one (sym (refuses (is_too_deep (kind_of e.kind))) ∙ r))
 
   -- of a text that spells a tree nothing is told
   pub spelled_none_told : (x : Result Tree Error) (es : List Error) → Decides x es → (y : model.Tree) → Spells o text y

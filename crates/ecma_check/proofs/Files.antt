@@ -86,13 +86,19 @@ module _ (s : Settings) (names : List (List ℕ)) (known left later before mid a
       → IfOk answer (λ it. more ≡ sum.with_read total it.0 it.1) → IfErr answer (λ f. more ≡ sum.with_unread total)
       → AreAnswered s (names ++ (file ∷ [])) known later before after quiet louder more
   more_of file (Ok it) answer h ck wr un an ue su se =
-      let (text, from, frame, is) = ck in
+      let text = ck.0 in
+      let from = ck.1.0 in
+      let frame = ck.1.1.0 in
+      let is = ck.1.1.1 in
       let e : Entry = record { file = file; text = Ok text; answer = Ok (it.outcome, it.faults); out = it.printed.out.items; notes = it.printed.notes.items } in
       let read : IsRead s e text = record { frame = frame; checked = it; is_checked = is; answer = refl; out = refl; notes = refl } in
       let sums = subst (λ a. IfOk a (λ z. more ≡ sum.with_read total z.0 z.1)) an su in
       pushed h e read (λ same dash. subst (λ z. IfSome z (λ xs. text ≡ xs)) same (from dash)) sums wr.0 wr.1
   more_of file (Err f) answer h ck wr un an ue su se =
-      let (same, name, is, told) = un in
+      let same = un.0 in
+      let name = un.1.0 in
+      let is = un.1.1.0 in
+      let told = un.1.1.1 in
       let e : Entry = record { file = file; text = Err f; answer = Err f; out = []; notes = fault_line name f } in
       let sums = subst (λ a. IfErr a (λ z. more ≡ sum.with_unread total)) ue se in
       pushed h e (record { answer = refl; out = refl; name = name; shown = is; notes = refl }) (λ fresh dash. tt) sums (subst (λ z. Appends mid z []) (sym same) (kept mid)) told

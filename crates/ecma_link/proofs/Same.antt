@@ -23,8 +23,16 @@ same_options given o p e f = ap (λ z. unwrap_or z o) (sym f ∙ e)
 pub one_status : (w v : Wanted) (given : EcmaOptions) (text : List ℕ) (a b : Outcome) (out other : List ℕ) → IsSettled given text
     → IsCall w given text a out → IsCall v given text b other → a ≡ b
 one_status w v given text a b out other settled h k =
-    let (u, o, e, r, d, f, written) = h in
-    let (u2, p, e2, q, d2, f2, written2) = k in
+    let o = h.1.0 in
+    let e = h.1.1.0 in
+    let r = h.1.1.1.0 in
+    let d = h.1.1.1.1.0 in
+    let f = h.1.1.1.1.1.0 in
+    let p = k.1.0 in
+    let e2 = k.1.1.0 in
+    let q = k.1.1.1.0 in
+    let d2 = k.1.1.1.1.0 in
+    let f2 = k.1.1.1.1.1.0 in
     f ∙ one_outcome o text r q (settled o e) d (subst (λ (z : Options). Decides z text q) (same_options given o p e e2) d2) ∙ sym f2
 
 same_tree : (o : Options) (text : List ℕ) → o.comments ≡ false → (x y : Result Tree Error) (fs gs : List Fault) → parser.IsSame view_tree x fs y gs
@@ -37,8 +45,16 @@ same_tree o text n (Err e) (Ok y) fs gs s out other h k = absurd s
 pub one_tree : (given : EcmaOptions) (text : List ℕ) (a b : Outcome) (out other : List ℕ) → IsSettled given text → IsWithoutComments given
     → IsCall wanted.Tree given text a out → IsCall wanted.Tree given text b other → out ≡ other
 one_tree given text a b out other settled plain h k =
-    let (u, o, e, r, d, f, written) = h in
-    let (u2, p, e2, q, d2, f2, written2) = k in
+    let o = h.1.0 in
+    let e = h.1.1.0 in
+    let r = h.1.1.1.0 in
+    let d = h.1.1.1.1.0 in
+    let written = h.1.1.1.1.1.1 in
+    let p = k.1.0 in
+    let e2 = k.1.1.0 in
+    let q = k.1.1.1.0 in
+    let d2 = k.1.1.1.1.0 in
+    let written2 = k.1.1.1.1.1.1 in
     let same = same_options given o p e e2 in
     let second = subst (λ (z : Options). Decides z text q) same d2 in
     let shown = subst (λ (z : Options). IsWritten wanted.Tree z text q other) same written2 in
