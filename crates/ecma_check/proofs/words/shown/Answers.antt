@@ -1,7 +1,7 @@
 -- Behind the mark, if there is one.
 use Rattle.std.proofs.Common.{arith}
 use Rattle.std.proofs.lemmas.Str.Pattern.{strip_prefix_char}
-use Rattle.ecma_check.proofs.Words.{marked, unmarked}
+use Rattle.ecma_check.proofs.Marks.{marked, unmarked}
 use Rattle.ecma_check.proofs.words.shown.Goals as goal
 
 pub returns-in-Some : goal.returns-in-Some
