@@ -255,7 +255,6 @@ async function main() {
   }
 }
 
-main().catch(error => {
-  console.error(error);
-  process.exitCode = 1;
-});
+// Where the browser ends before its time, nothing is waited for any more: that is no success.
+process.exitCode = 1;
+main().then(() => { process.exitCode = 0; }, error => console.error(error));
