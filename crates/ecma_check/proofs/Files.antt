@@ -87,9 +87,9 @@ module _ (s : Settings) (names : List (List ℕ)) (known left later before mid a
       → AreAnswered s (names ++ (file ∷ [])) known later before after quiet louder more
   more_of file (Ok it) answer h ck wr un an ue su se =
       let text = ck.0 in
-      let from = ck.1.0 in
-      let frame = ck.1.1.0 in
-      let is = ck.1.1.1 in
+      let from = ck.1 in
+      let frame = ck.2.0 in
+      let is = ck.2.1 in
       let e : Entry = record { file = file; text = Ok text; answer = Ok (it.outcome, it.faults); out = it.printed.out.items; notes = it.printed.notes.items } in
       let read : IsRead s e text = record { frame = frame; checked = it; is_checked = is; answer = refl; out = refl; notes = refl } in
       let sums = subst (λ a. IfOk a (λ z. more ≡ sum.with_read total z.0 z.1)) an su in
@@ -97,8 +97,8 @@ module _ (s : Settings) (names : List (List ℕ)) (known left later before mid a
   more_of file (Err f) answer h ck wr un an ue su se =
       let same = un.0 in
       let name = un.1.0 in
-      let is = un.1.1.0 in
-      let told = un.1.1.1 in
+      let is = un.1.1 in
+      let told = un.1.2 in
       let e : Entry = record { file = file; text = Err f; answer = Err f; out = []; notes = fault_line name f } in
       let sums = subst (λ a. IfErr a (λ z. more ≡ sum.with_unread total)) ue se in
       pushed h e (record { answer = refl; out = refl; name = name; shown = is; notes = refl }) (λ fresh dash. tt) sums (subst (λ z. Appends mid z []) (sym same) (kept mid)) told

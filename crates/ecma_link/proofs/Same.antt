@@ -24,15 +24,15 @@ pub one_status : (w v : Wanted) (given : EcmaOptions) (text : List ℕ) (a b : O
     → IsCall w given text a out → IsCall v given text b other → a ≡ b
 one_status w v given text a b out other settled h k =
     let o = h.1.0 in
-    let e = h.1.1.0 in
-    let r = h.1.1.1.0 in
-    let d = h.1.1.1.1.0 in
-    let f = h.1.1.1.1.1.0 in
+    let e = h.1.1 in
+    let r = h.1.2.0 in
+    let d = h.1.2.1 in
+    let f = h.1.2.2 in
     let p = k.1.0 in
-    let e2 = k.1.1.0 in
-    let q = k.1.1.1.0 in
-    let d2 = k.1.1.1.1.0 in
-    let f2 = k.1.1.1.1.1.0 in
+    let e2 = k.1.1 in
+    let q = k.1.2.0 in
+    let d2 = k.1.2.1 in
+    let f2 = k.1.2.2 in
     f ∙ one_outcome o text r q (settled o e) d (subst (λ (z : Options). Decides z text q) (same_options given o p e e2) d2) ∙ sym f2
 
 same_tree : (o : Options) (text : List ℕ) → o.comments ≡ false → (x y : Result Tree Error) (fs gs : List Fault) → parser.IsSame view_tree x fs y gs
@@ -46,15 +46,15 @@ pub one_tree : (given : EcmaOptions) (text : List ℕ) (a b : Outcome) (out othe
     → IsCall wanted.Tree given text a out → IsCall wanted.Tree given text b other → out ≡ other
 one_tree given text a b out other settled plain h k =
     let o = h.1.0 in
-    let e = h.1.1.0 in
-    let r = h.1.1.1.0 in
-    let d = h.1.1.1.1.0 in
-    let written = h.1.1.1.1.1.1 in
+    let e = h.1.1 in
+    let r = h.1.2.0 in
+    let d = h.1.2.1 in
+    let written = h.1.2.3 in
     let p = k.1.0 in
-    let e2 = k.1.1.0 in
-    let q = k.1.1.1.0 in
-    let d2 = k.1.1.1.1.0 in
-    let written2 = k.1.1.1.1.1.1 in
+    let e2 = k.1.1 in
+    let q = k.1.2.0 in
+    let d2 = k.1.2.1 in
+    let written2 = k.1.2.3 in
     let same = same_options given o p e e2 in
     let second = subst (λ (z : Options). Decides z text q) same d2 in
     let shown = subst (λ (z : Options). IsWritten wanted.Tree z text q other) same written2 in
