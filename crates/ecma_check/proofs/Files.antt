@@ -1,6 +1,6 @@
 -- Files, one behind another: what is written of them, and what the run comes to.
 use Rattle.std.proofs.Common.{◌≡◌, ◌∙◌, ℕ, ◌+◌, ◌<◌, List, [], ◌∷◌, ◌++◌, map, take, get_or, length, Option, Some, None, Result, Ok, Err, ap, append-nil, append_assoc, codes, inl, inr, refl, subst, sym, ◌⊎◌}
-use Rattle.std.specs.Prelude.{IfErr, IfOk, IfSome}
+use Rattle.std.specs.Prelude.{IfErr, IfOk, IfSome, OnOk}
 use Rattle.std.specs.Borrow.{Bor}
 use Rattle.std.specs.Io.KnownBytes.{Appends}
 use Rattle.std.proofs.lemmas.List.{map-append, map_more}
@@ -257,3 +257,9 @@ module _ (s : Settings) (names : List (List ℕ)) (known before after quiet loud
         (λ xs f x p. ends (sum.status total) n e (f x p));
   }
   ended_run (Err f) h e u = cut_run u
+
+-- the same where nothing more was told behind the run
+pub told_later : (s : Settings) (names : List (List ℕ)) (known before after quiet loud later : Option (List ℕ)) (r : Result Sum Fault)
+    → IfOk r (λ total. IsRun s names known before after quiet loud total) → OnOk r (later ≡ loud) → IfOk r (λ total. IsRun s names known before after quiet later total)
+told_later s names known before after quiet loud later (Ok total) h e = subst (λ z. IsRun s names known before after quiet z total) (sym e) h
+told_later s names known before after quiet loud later (Err f) h e = tt

@@ -105,6 +105,7 @@ fn finish<W: Write>(alloc: Global, output: &mut W, format: Format, sum: Sum) -> 
 fn ended<E: Write>(alloc: Global, errors: &mut E, sum: Result<Sum, Fault>) -> u8
     ensures ok { IfOk sum (λ sum. result ≡ spec.status sum) }
     ensures err { IfErr sum (λ _. result ≡ 3) }
+    ensures quiet { OnOk sum (E.contents errors.new ≡ E.contents errors.old) }
     ensures bound { result ≤ 3 }
 {
     match sum {
@@ -165,7 +166,7 @@ fn is_of_one_file(format: Format) -> bool {
 }
 
 /// A run over files. It answers the status, which is 3 where the run comes to no end.
-#[tactic(auto, using(crate::proofs::Files::cut_run, crate::proofs::Files::ended_run))]
+#[tactic(auto, using(crate::proofs::Files::cut_run))]
 fn run_files<R: Files + AllocGlobal, I: Read, W: Write, E: Write>(
     rt: &R,
     settings: Settings,

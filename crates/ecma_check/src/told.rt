@@ -48,7 +48,6 @@ fn push_faults(
 }
 
 /// Writes how many more faults there are, as a line of text.
-#[tactic(auto, unfolding(crate::specs::Told::more_text))]
 fn push_more_text(out: &mut Vec<u8>, file: &str, more: usize) -> Result<(), AllocError>
     ensures { OnOk result (out.new.items ≡ out.old.items ++ more_text file.now more) }
 {
