@@ -79,6 +79,8 @@ module _ {In : Goal → Type 0} {k : Code} where
   left_named (sides.primary_rule (sides.null_rule s r e)) h = clash _ _ h (ap is_using e) refl
   left_named (sides.primary_rule (sides.number_rule raw s r e)) h = clash _ _ h (ap is_using e) refl
   left_named (sides.primary_rule (sides.big_int_rule raw s r e)) h = clash _ _ h (ap is_using e) refl
+  left_named (sides.primary_rule (sides.regex_rule exp flags s r e)) h = clash _ _ h (ap is_using e) refl
+  left_named (sides.primary_rule (sides.template_rule es qs r e)) h = clash _ _ h (ap is_using e) refl
   left_named (sides.primary_rule (sides.this_rule j n e)) h = clash _ _ h (ap is_using e) refl
   left_named (sides.primary_rule (sides.array_rule xs m j r l n e)) h = clash _ _ h (ap is_using e) refl
   left_named (sides.primary_rule (sides.object_rule xs m j r l n e)) h = clash _ _ h (ap is_using e) refl
@@ -86,9 +88,13 @@ module _ {In : Goal → Type 0} {k : Code} where
   left_named (sides.primary_rule (sides.class_rule name y r e)) h = clash _ _ h (ap is_using e) refl
   left_named (sides.primary_rule (sides.paren_rule y m j r l n e)) h = clash _ _ h (ap is_using e) refl
   left_named (sides.import_meta_rule a j w n m e) h = clash _ _ h (ap is_using e) refl
-  left_named (sides.member_rule y p m r a e) h = clash _ _ h (ap is_using e) refl
+  left_named (sides.new_target_rule H G W N e) h = clash _ _ h (ap is_using e) refl
+  left_named (sides.member_rule y p m r n a e) h = clash _ _ h (ap is_using e) refl
   left_named (sides.super_property_rule p a r j e) h = clash _ _ h (ap is_using e) refl
-  left_named (sides.call_rule y z m r a e) h = clash _ _ h (ap is_using e) refl
+  left_named (sides.call_rule y z m r n a e) h = clash _ _ h (ap is_using e) refl
+  left_named (sides.tagged_rule t es qs m r N q e) h = clash _ _ h (ap is_using e) refl
+  left_named (sides.chain_rule o b m r H q e) h = clash _ _ h (ap is_using e) refl
+  left_named (sides.linked_rule o b m r N q e) h = clash _ _ h (ap is_using e) refl
   left_named (sides.super_call_rule z a r e) h = clash _ _ h (ap is_using e) refl
   left_named (sides.import_call_rule z a r e) h = clash _ _ h (ap is_using e) refl
   left_named (sides.new_rule y z m a r b e) h = clash _ _ h (ap is_using e) refl
@@ -110,6 +116,8 @@ module _ {In : Goal → Type 0} {k : Code} where
   left_awaits (sides.primary_rule (sides.null_rule s r e)) = ap awaits_using e
   left_awaits (sides.primary_rule (sides.number_rule raw s r e)) = ap awaits_using e
   left_awaits (sides.primary_rule (sides.big_int_rule raw s r e)) = ap awaits_using e
+  left_awaits (sides.primary_rule (sides.regex_rule exp flags s r e)) = ap awaits_using e
+  left_awaits (sides.primary_rule (sides.template_rule es qs r e)) = ap awaits_using e
   left_awaits (sides.primary_rule (sides.this_rule j n e)) = ap awaits_using e
   left_awaits (sides.primary_rule (sides.array_rule xs m j r l n e)) = ap awaits_using e
   left_awaits (sides.primary_rule (sides.object_rule xs m j r l n e)) = ap awaits_using e
@@ -117,9 +125,13 @@ module _ {In : Goal → Type 0} {k : Code} where
   left_awaits (sides.primary_rule (sides.class_rule name y r e)) = ap awaits_using e
   left_awaits (sides.primary_rule (sides.paren_rule y m j r l n e)) = ap awaits_using e
   left_awaits (sides.import_meta_rule a j w n m e) = ap awaits_using e
-  left_awaits (sides.member_rule y p m r a e) = ap awaits_using e
+  left_awaits (sides.new_target_rule H G W N e) = ap awaits_using e
+  left_awaits (sides.member_rule y p m r n a e) = ap awaits_using e
   left_awaits (sides.super_property_rule p a r j e) = ap awaits_using e
-  left_awaits (sides.call_rule y z m r a e) = ap awaits_using e
+  left_awaits (sides.call_rule y z m r n a e) = ap awaits_using e
+  left_awaits (sides.tagged_rule t es qs m r N q e) = ap awaits_using e
+  left_awaits (sides.chain_rule o b m r H q e) = ap awaits_using e
+  left_awaits (sides.linked_rule o b m r N q e) = ap awaits_using e
   left_awaits (sides.super_call_rule z a r e) = ap awaits_using e
   left_awaits (sides.import_call_rule z a r e) = ap awaits_using e
   left_awaits (sides.new_rule y z m a r b e) = ap awaits_using e
@@ -138,6 +150,7 @@ module _ {In : Goal → Type 0} {k : Code} where
   binary_awaited (expressions.single_rule r) h = unary_awaited r h
   binary_awaited (expressions.left_rule op y z m b g a r o s u v e) h = clash _ _ h (ap awaits_using e) refl
   binary_awaited (expressions.power_rule y z m b r u a s e) h = clash _ _ h (ap awaits_using e) refl
+  binary_awaited (expressions.private_in_rule y z m l b r H q e) h = clash _ _ h (ap awaits_using e) refl
 
   assignment_awaited : {x : Tree} {c d : Place} → AssignmentRule In k x c d → awaits_using x ≡ true → IsAwaited In k c d
   unfolding awaits_using
@@ -199,11 +212,17 @@ await_using_widens n k x name c m d r h o s i = let q = awaited_words n (without
 -- ---- before a name nothing goes on with the two words
 
 kind_stops : (j : TokenKind) (b : Bool) → is_access j ≡ false → update_operator j ≡ None
-    → (same_kind j kind.Dot || (same_kind j kind.LBracket || (same_kind j kind.LParen || (not b && (same_kind j kind.PlusPlus || same_kind j kind.MinusMinus))))) ≡ false
+    → (same_kind j kind.Dot
+    || (same_kind j kind.LBracket
+    || (same_kind j kind.LParen
+    || (same_kind j kind.QuestionDot || ((same_kind j kind.Template || same_kind j kind.TemplateHead) || (not b && (same_kind j kind.PlusPlus || same_kind j kind.MinusMinus))))))) ≡ false
 unfolding same_kind
 kind_stops kind.Dot b e f = cc
 kind_stops kind.LBracket b e f = cc
 kind_stops kind.LParen b e f = cc
+kind_stops kind.QuestionDot b e f = cc
+kind_stops kind.Template b e f = cc
+kind_stops kind.TemplateHead b e f = cc
 kind_stops kind.PlusPlus b e f = cc
 kind_stops kind.MinusMinus b e f = cc
 kind_stops _ b e f = and_no (not b) _ refl

@@ -63,7 +63,7 @@ module _ (k : Code) (c : Place) (a : kind_at c ≡ kind.Await) (h : is_using_dec
   }
 
   await_binary : (n : ℕ) (j : Code) (y : Tree) (m : Place) → BinaryRule (Reads n) j 1 y c m → m ≡ after (after c)
-  await_binary n j y m r = await_unary n j y m (binary_unary c (after (after c)) behind.no_binary (await_unary n j) 1 y m r)
+  await_binary n j y m r = await_unary n j y m (binary_unary c (after (after c)) (λ h. let i : kind.Await ≡ kind.HashIn = sym a ∙ h in cc) behind.no_binary (await_unary n j) 1 y m r)
 
   await_assignment : (n : ℕ) (j : Code) (y : Tree) (m : Place) → AssignmentRule (Reads n) j y c m → m ≡ after (after c)
   unfolding same_kind
