@@ -155,6 +155,20 @@ pub fault_falls : (f : Fault) (s : State) → Falls 0 (length s.at.left) (fault 
 unfolding fault
 fault_falls f s = recorded_from f s s.at.left
 
+-- ---- refusals of what was read answer nothing
+
+reject_by : (A : Type 0) (j n : ℕ) (f : Fault) (s : State) (t : Token) → Falls j n (reject_at {A = A} f s t)
+reject_by A j n f s (token.Error e) = falls_if j n (means_out_of_memory e.kind) _ _ tt (refused_falls A j n _ (fault (fault_of e) (moved s)))
+reject_by A j n f s _ = tt
+
+reject_from : (A : Type 0) (j n : ℕ) (f : Fault) (s : State) (ts : List TokenAndSpan) → Falls j n (reject_in {A = A} f s ts)
+reject_from A j n f s [] = tt
+reject_from A j n f s (t ∷ ts) = reject_by A j n f s t.token
+
+pub reject_falls : (A : Type 0) (j n : ℕ) (f : Fault) (s : State) → Falls j n (reject {A = A} f s)
+unfolding reject
+reject_falls A j n f s = reject_from A j n f s s.at.left
+
 -- ---- fixed tokens, ends and names
 
 pub end_falls : (k : Kind) (s : State) → Falls 0 (length s.at.left) (end k s)

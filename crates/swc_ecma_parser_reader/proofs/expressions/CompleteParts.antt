@@ -96,14 +96,19 @@ any_word_by : (v : Word) (sp : Span) (c d : Place) (k : Code) (w : Scope) (f : L
 unfolding any_word
 any_word_by v sp c d k w f h r = rw (r.is, r.next) refl
 
-any_word_reads : (text : Text) (sp : Span) (c d : Place) (k : Code) (w : Scope) (f : List Fault) (h : Notes) → ReadsWord text sp c d
+pub any_word_reads : (text : Text) (sp : Span) (c d : Place) (k : Code) (w : Scope) (f : List Fault) (h : Notes) → ReadsWord text sp c d
     → any_word (st c k w f h) ≡ Ok (record { span = sp; sym = text }, st d k w f h)
 any_word_reads text sp c d k w f h r = rw (any_word_by r.word sp c d k w f h r.reads_word, ← r.is_text) refl
 
 pub private_reads : (k : Code) (x : Tree) (c d : Place) → PrivateRule x c d → Reads private_name k x c d
 unfolding private_name touching_word spanned
 private_reads k x c d r w f h =
-    rw (touching r.text r.span c d r.hash r.reads_word r.touches, any_word_reads r.text r.span (after c) d k w f h r.reads_word, r.is, append-nil f, append-nil h.held_back, or_nil h.found_module_item) refl
+    rw (touching r.text r.span c d r.reads_word r.touches, any_word_reads r.text r.span (after c) d k w f h r.reads_word, r.is, append-nil f, append-nil h.held_back, or_nil h.found_module_item) refl
+
+pub private_operand_reads : (k : Code) (x : Tree) (c d : Place) → PrivateOperandRule x c d → Reads private_name k x c d
+unfolding private_name touching_word spanned
+private_operand_reads k x c d r w f h =
+    rw (touching r.text r.span c d r.reads_word r.touches, any_word_reads r.text r.span (after c) d k w f h r.reads_word, r.is, append-nil f, append-nil h.held_back, or_nil h.found_module_item) refl
 
 -- ---- literals
 
@@ -150,9 +155,12 @@ AsTarget p d v = (as_target v.x ≡ Some p) × (v.comma ≡ false) × ((span_of 
 -- what these goals ask for is read, and takes a token
 pub record IsRead (In : Goal → Type 0) (inner : Class → Reader Tree) (cover : Reader Cover) : Type 0 where
   pub reads : (class : Class) (k : Code) (x : Tree) (c d : Place) → In (expr_goal class k x c d) → supported_in k.flags.module x ≡ true → ReadsCalm (inner class) k x c d
-  pub calls : (k : Code) (x : Tree) (c d : Place) → In (callee_goal k x c d) → (sees kind.Dot d || sees kind.LBracket d) ≡ false → supported_in k.flags.module x ≡ true → ReadsCalm (inner callee) k x c d
-  -- behind what `new` calls without arguments none stand
-  pub bare : (k : Code) (x : Tree) (c d : Place) → In (expr_goal callee k x c d) → sees kind.LParen d ≡ false
+  pub calls : (k : Code) (x : Tree) (c d : Place) → In (callee_goal k x c d) → (sees kind.Dot d || (sees kind.LBracket d || begins_template d)) ≡ false → supported_in k.flags.module x ≡ true → ReadsCalm (inner callee) k x c d
+  -- behind what `new` calls without arguments none stand, and no link of a chain
+  pub bare : (k : Code) (x : Tree) (c d : Place) → In (expr_goal callee k x c d) → (sees kind.LParen d ≡ false) × (sees kind.QuestionDot d ≡ false)
+  -- what it calls does not begin with the `.` of `new.target`
+  pub undotted : (k : Code) (x : Tree) (c d : Place) → In (callee_goal k x c d) → supported_in k.flags.module x ≡ true → sees kind.NewDot c ≡ false
+  pub bare_undotted : (k : Code) (x : Tree) (c d : Place) → In (expr_goal callee k x c d) → supported_in k.flags.module x ≡ true → sees kind.NewDot c ≡ false
   pub begins : (k : Code) (x : Tree) (c d : Place) → In (expr_goal assignment k x c d) → supported_in k.flags.module x ≡ true → begin_kind (kind_at c) ≡ true
   -- the other body of an arrow function is no block
   pub no_blocks : (k : Code) (x : Tree) (c d : Place) → In (expr_goal assignment k x c d) → is_block x ≡ false
