@@ -167,7 +167,6 @@ module _ (In : Goal → Type 0) (small : (g : Goal) → In g → WholeGoal g) wh
       as_form x (tree.bin (spanned c d) op left right) e (both left right (binary_whole r) (small (expr_goal (operator (suc (precedence op))) k right (after m) d) s))
   binary_whole {k = k} {x = x} {c = c} {d = d} (expressions.power_rule left right m h r i j s e) =
       as_form x (tree.bin (spanned c d) binary.Exp left right) e (both left right (unary_whole r) (small (expr_goal (operator (precedence binary.Exp)) k right (after m) d) s))
-
   binary_whole {k = k} {x = x} {c = c} {d = d} (expressions.private_in_rule name right m h i r o s e) =
       as_form x (tree.bin (spanned c d) binary.In name right) e (both name right (ap supported r.is) (small (expr_goal (operator (suc (precedence binary.In))) k right (after m) d) s))
 

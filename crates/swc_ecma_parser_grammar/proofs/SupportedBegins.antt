@@ -41,6 +41,7 @@ use Rattle.swc_ecma_parser_grammar.proofs.Tests.{and_yes}
 use Rattle.swc_ecma_parser_grammar.proofs.Naming.{name_is_free, name_is_name}
 use Rattle.swc_ecma_parser_grammar.proofs.ExpressionBegins.{await_stands}
 use Rattle.swc_ecma_parser_grammar.proofs.StatementBegins.{word_place}
+use Rattle.swc_ecma_parser_grammar.proofs.Beginnings.{template_opens}
 
 -- ---- trees that are supported
 

@@ -8,6 +8,7 @@ pub mod Stands
 pub mod KeepSteps
 pub mod Keeps
 pub mod CompleteKinds
+pub mod PartEnds
 pub mod CompleteMethods
 pub mod Yields
 pub mod Covers

@@ -29,6 +29,7 @@ use Rattle.swc_ecma_parser_grammar.specs.language.Contexts.{may_await, with_in}
 use Rattle.swc_ecma_parser_grammar.specs.language.Operators.{update_operator, binary_operator, assign_operator, precedence, groups_left, is_operator, mixes, is_unary}
 use Rattle.swc_ecma_parser_grammar.specs.language.Continues.{continues_conditional}
 unfoldable pub use Rattle.swc_ecma_parser_reader.specs.Words.{word_by, word_in, any_word, touching_word, private_name, begins_async_call, is_head, heads_arrow}
+use Rattle.swc_ecma_parser_reader.specs.Templates.{Pieces, is_tail, template_text, first_piece, with_piece, template_of}
 use Rattle.swc_ecma_parser_reader.specs.Methods.{MethodForm, FunctionForm, property_form, method_words, is_bare}
 use Rattle.swc_ecma_parser_reader.specs.State.{State, Reader, ◌>>=◌, ◌>>◌, pure, span_here, since, skip, moved, note_module_item, within, fault, fault_at, wanted, refuse, reject, expect, reference, as_name, Step, More, Done, loop}
 
@@ -54,65 +55,6 @@ taken (Some x) = λ s. Ok (Some x, moved s)
 -- a literal, if one stands here
 unfoldable pub literal : Reader (Option Tree)
 literal = λ s. taken (literal_in s.at.left) s
-
--- ---- regular expressions and the texts of templates, which are no keys and no names
-
-abbrev pub regex_of : Span → Token → Option Tree
-regex_of span (token.Regex exp flags) = Some (tree.regex span exp flags)
-regex_of span _ = None
-
-abbrev pub regex_in : List TokenAndSpan → Option Tree
-regex_in [] = None
-regex_in (t ∷ ts) = regex_of t.span t.token
-
-abbrev pub regex_or : Option Tree → Reader Tree
-regex_or None = wanted faults.Unexpected
-regex_or (Some x) = λ s. Ok (x, moved s)
-
-unfoldable pub regex : Reader Tree
-regex = λ s. regex_or (regex_in s.at.left) s
-
-abbrev pub text_of : Span → Token → Option Tree
-text_of span (token.Template raw cooked) = Some (tree.quasi span true cooked raw)
-text_of span (token.TemplateHead raw cooked) = Some (tree.quasi span false cooked raw)
-text_of span (token.TemplateMiddle raw cooked) = Some (tree.quasi span false cooked raw)
-text_of span (token.TemplateTail raw cooked) = Some (tree.quasi span true cooked raw)
-text_of span _ = None
-
-abbrev pub text_in : List TokenAndSpan → Option Tree
-text_in [] = None
-text_in (t ∷ ts) = text_of t.span t.token
-
--- whether it is the last of its template, and whether each escape in it is one
-abbrev pub is_tail : Tree → Bool
-is_tail (tree.quasi s tail cooked raw) = tail
-is_tail _ = false
-
-abbrev pub is_cooked : Tree → Bool
-is_cooked (tree.quasi s tail cooked raw) = is_some cooked
-is_cooked _ = false
-
--- it is taken before it is refused
-abbrev pub text_or : (tagged : Bool) → Option Tree → Reader Tree
-text_or tagged None = wanted faults.Unexpected
-text_or tagged (Some q) = skip >> (λ s. if tagged || is_cooked q then Ok (q, s) else reject (fault_at (span_of q) faults.InvalidStrEscape) s)
-
-unfoldable pub template_text : (tagged : Bool) → Reader Tree
-template_text tagged = λ s. text_or tagged (text_in s.at.left) s
-
--- the expressions and the texts of a template
-pub record Pieces : Type 0 where
-  pub exprs : List Tree
-  pub quasis : List Tree
-
-abbrev pub first_piece : Tree → Pieces
-first_piece q = record { exprs = []; quasis = q ∷ [] }
-
-abbrev pub with_piece : Pieces → (e q : Tree) → Pieces
-with_piece found e q = record { exprs = found.exprs ++ e ∷ []; quasis = found.quasis ++ q ∷ [] }
-
-abbrev pub template_of : Span → Pieces → Tree
-template_of span found = tree.tpl span (listed found.exprs) (listed found.quasis)
 
 -- ---- steps that read nothing further in
 

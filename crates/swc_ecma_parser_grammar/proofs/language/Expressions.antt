@@ -137,7 +137,6 @@ module _ (In Out : Goal → Type 0) (fitting : (g : Goal) → In g → Fitting g
       beside (binary_level r) (part (expr_goal (operator (suc (precedence op))) k right (after m) d) s (λ w. w)) (λ v w. expressions.left_rule op left right m h i j v o w a b e) (ap depth e)
   binary_level {k = k} {d = d} (expressions.power_rule left right m h r i j s e) =
       beside (unary_level r) (part (expr_goal (operator (precedence binary.Exp)) k right (after m) d) s (λ w. w)) (λ v w. expressions.power_rule left right m h v i j w e) (ap depth e)
-
   binary_level {k = k} {x = x} {d = d} (expressions.private_in_rule name right m l b r h s e) =
       let g : depth x ≡ max (depth name) (suc (depth right)) = ap depth e in
       let i : depth name ≡ 0 = ap depth r.is in

@@ -49,7 +49,6 @@ pub data BinaryRule (In : Goal → Type 0) (k : Code) : ℕ → Tree → Place �
   -- no unary operator stands left of `**`, but `++` and `--` may
   power_rule : {n : ℕ} {x : Tree} {c d : Place} (left right : Tree) (m : Place) → n ≤ precedence binary.Exp → UnaryRule In k left c m → is_unary left ≡ false → kind_at m ≡ kind.Exp
       → In (expr_goal (operator (precedence binary.Exp)) k right (after m) d) → x ≡ tree.bin (spanned c d) binary.Exp left right → BinaryRule In k n x c d
-
   -- section 13.10: a private name is an operand left of `in` alone, where that is an operator
   private_in_rule : {n : ℕ} {x : Tree} {c d : Place} (name right : Tree) (m : Place) → n ≤ precedence binary.In → is_operator k binary.In ≡ true → PrivateOperandRule name c m
       → kind_at m ≡ kind.In → In (expr_goal (operator (suc (precedence binary.In))) k right (after m) d) → x ≡ tree.bin (spanned c d) binary.In name right → BinaryRule In k n x c d

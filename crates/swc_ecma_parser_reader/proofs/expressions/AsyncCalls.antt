@@ -9,13 +9,14 @@ use Rattle.swc_ecma_parser_model.specs.declared.operators.BinaryOp.{BinaryOp}
 use Rattle.swc_ecma_parser_model.specs.declared.operators.AssignOp.{AssignOp}
 use Rattle.swc_ecma_parser_model.specs.Tree as tree
 use Rattle.swc_ecma_parser_model.specs.Tree.{Tree}
-use Rattle.swc_ecma_parser_model.specs.Forms.{is_ident_named}
+use Rattle.swc_ecma_parser_model.specs.Forms.{is_ident_named, is_chain}
 use Rattle.swc_ecma_parser_grammar.specs.Looks.{kind_at, sees}
 use Rattle.swc_ecma_parser_grammar.specs.language.Goals.{Class}
 use Rattle.swc_ecma_parser_grammar.specs.language.Operators.{assign_operator, mixes}
+use Rattle.swc_ecma_parser_grammar.specs.Follows.{begins_template}
 use Rattle.swc_ecma_parser_reader.specs.State.{State, Outcome, Reader, and_then, ◌>>=◌, moved, wanted}
 use Rattle.swc_ecma_parser_reader.specs.Expressions.{chain_of, template_pieces, tagged, tagged_by, behind_question, chained, Cover, heads_arrow, simple, update_behind, behind_operand, postfix_at, right_class, operator_at, left_operand, unmixed, unheaded, access, arguments, accessed, called, left_turn, left_from, operated, binary_by, binary_turn, binary_from, conditional, assigned_or, behind_operators, postfixed, continued}
-use Rattle.swc_ecma_parser_reader.proofs.Meets.{Meets, Refuses, meets_then, meets_if, always, Turned, loop_answers}
+use Rattle.swc_ecma_parser_reader.proofs.Meets.{Meets, Refuses, meets_then, meets_if, always, Turned, loop_answers, wanted_meets}
 use Rattle.swc_ecma_parser_reader.proofs.expressions.SoundSteps.{reject_meets}
 
 -- a call of that name

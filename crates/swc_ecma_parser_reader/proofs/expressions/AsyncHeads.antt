@@ -39,7 +39,8 @@ use Rattle.swc_ecma_parser_reader.proofs.Meets.{Meets, wanted_meets, saw}
 use Rattle.swc_ecma_parser_reader.proofs.expressions.Awaits.{other_awaits}
 use Rattle.swc_ecma_parser_reader.proofs.expressions.AsyncCalls.{goes_behind}
 use Rattle.swc_ecma_parser_reader.proofs.expressions.Covers.{met, four_steps}
-use Rattle.swc_ecma_parser_reader.proofs.expressions.CompleteKinds.{Quiet, token_first, paren_here, named_here, no_async_function, quiet_stops, stopped}
+use Rattle.swc_ecma_parser_reader.proofs.expressions.CompleteKinds.{Quiet, token_first, paren_here, named_here, quiet_stops, stopped}
+use Rattle.swc_ecma_parser_reader.proofs.expressions.PartEnds.{no_async_function}
 
 not_yes : (b : Bool) → not b ≡ true → b ≡ false
 not_yes true e = cc

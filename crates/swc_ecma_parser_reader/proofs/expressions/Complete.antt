@@ -9,7 +9,7 @@ use Rattle.swc_ecma_parser_grammar.proofs.Binding.{parameter_down, item_down}
 use Rattle.swc_ecma_parser_grammar.proofs.Marks.{awaits_apart}
 use Rattle.swc_ecma_parser_reader.proofs.expressions.Awaits.{update_no_await}
 use Rattle.std.proofs.Common.{◌≡◌, ℕ, zero, suc, ◌≤◌, Bool, true, false, List, [], ◌∷◌, ◌++◌, length, ◌⊎◌, inl, inr, Option, Some, None, Ok, refl, sym, ◌∙◌, ap, arith, append_assoc, append-nil, subst}
-use Rattle.std.specs.Prelude.{◌&&◌, ◌||◌, is_some, codes, not}
+use Rattle.std.specs.Prelude.{◌&&◌, ◌||◌, is_some, codes, not, nat_le}
 use Rattle.std.proofs.lemmas.Bool.{le-leb}
 use Rattle.swc_ecma_parser_common.specs.declared.span.Span.{Span}
 use Rattle.swc_ecma_parser_error.specs.Kind.{Fault}
@@ -67,7 +67,8 @@ use Rattle.swc_ecma_parser_reader.proofs.expressions.Groups.{IsTied, ReadsParts,
 use Rattle.swc_ecma_parser_reader.proofs.expressions.AsyncHeads.{plain_async_grouped, never_async_named}
 use Rattle.swc_ecma_parser_reader.proofs.expressions.AsyncGroups.{operators_async_grouped}
 use Rattle.swc_ecma_parser_reader.proofs.expressions.NamedArrows.{never_named}
-use Rattle.swc_ecma_parser_reader.proofs.expressions.CompleteKinds.{no_private, no_new_dot, unary_no_hash, names_stand, supported_as, seen, begins, element_begins, ends_part, part_calm, ended_at, ended_stops, ended_continues, no_async_function, left_first, operand_plain, operand_update, update_plain, operator_stops, assign_stops, question_stops, stops_unary, unary_stops, stopped, update_seen, postfix_seen, assign_seen, unassigned_at, update_calm, operator_calm, assign_calm}
+use Rattle.swc_ecma_parser_reader.proofs.expressions.CompleteKinds.{no_private, no_new_dot, unary_no_hash, names_stand, supported_as, seen, begins, element_begins, left_first, operand_plain, operand_update, update_plain, operator_stops, assign_stops, question_stops, stops_unary, unary_stops, stopped, update_seen, postfix_seen, assign_seen, unassigned_at, update_calm, operator_calm, assign_calm}
+use Rattle.swc_ecma_parser_reader.proofs.expressions.PartEnds.{ends_part, part_calm, ended_at, ended_stops, ended_continues, no_async_function}
 use Rattle.swc_ecma_parser_reader.proofs.expressions.Loops.{shorter_by}
 use Rattle.swc_ecma_parser_reader.proofs.expressions.CompleteParts.{private_operand_reads, expect_reads, AsExpr, AsElement, AsTarget, IsRead, IsFunctionRead, inside_reads}
 use Rattle.swc_ecma_parser_reader.proofs.expressions.CompleteCovers.{AsLiteral, array_pattern, object_pattern}
@@ -347,7 +348,6 @@ module _ (In : Goal → Type 0) (inner : Class → Reader Tree) (cover : Reader 
       (operator_more l (span_at c) binary.Exp y (tree.bin (spanned c d) binary.Exp y z) k m d w f' h' (f' ++ walk (env_of k w.labels) z) (h' ⊕ notes_of z)
       (bound l binary.Exp m k w f' h' o refl below) (power_grouped (span_at c) y z k m d a q t.1 w f' h' (calm_last d (walk (env_of k w.labels) y) (walk (env_of k w.labels) z) _ (ap (walk (env_of k w.labels)) j) u))
       ∙ rw (j, append_assoc f _ _, append_assoc h.held_back _ _, or_assoc h.found_module_item _ _) refl)
-
   -- a private name with `in` and its right operand
   binary_reached l k n x c d b (rules.private_in_rule y z m p g r i o j) s e w f h a =
       let t = and_yes (supported_in k.flags.module y) _ (supported_as _ x (tree.bin (spanned c d) binary.In y z) j s) in

@@ -1,6 +1,6 @@
 -- With which token an expression of the language begins, and which stands behind it, as far as the reader asks.
 use Rattle.std.proofs.Common.{◌≡◌, inl, inr, ℕ, zero, suc, Bool, true, false, cond, List, [], ◌∷◌, Option, Some, None, refl, sym, ◌∙◌, ap}
-use Rattle.std.specs.Prelude.{nat_eq, not, ◌&&◌, ◌||◌, is_some, codes}
+use Rattle.std.specs.Prelude.{nat_eq, not, ◌&&◌, ◌||◌, is_some, codes, nat_le}
 use Rattle.std.proofs.lemmas.Bool.{eq-eqb}
 use denote.Enum.Bare.{true_same}
 use Rattle.swc_ecma_parser_common.specs.declared.span.Span.{Span}
@@ -19,6 +19,7 @@ use Rattle.swc_ecma_parser_token.specs.Text.{word_text}
 use Rattle.swc_ecma_parser_input.specs.declared.context.Context.{Context}
 use Rattle.swc_ecma_parser_input.specs.Place.{Place, after, past}
 use Rattle.swc_ecma_parser_model.specs.declared.operators.UnaryOp.{UnaryOp}
+use Rattle.swc_ecma_parser_model.specs.declared.operators.BinaryOp.TheVariants as binary
 use Rattle.swc_ecma_parser_model.specs.declared.operators.UpdateOp.{UpdateOp}
 use Rattle.swc_ecma_parser_model.specs.declared.operators.BinaryOp.{BinaryOp}
 use Rattle.swc_ecma_parser_model.specs.declared.operators.AssignOp.{AssignOp}
@@ -28,30 +29,30 @@ use Rattle.swc_ecma_parser_model.specs.Forms.{is_ident, is_binding_name}
 use Rattle.swc_ecma_parser_grammar.specs.Looks.{kind_at, first_kind, breaks_at, span_at, first_span, sees, same_kind, spanned}
 use Rattle.swc_ecma_parser_grammar.specs.Names.{Code, is_reserved, is_name, token_is_identifier, first_is_identifier, name_at, identifier_at, is_identifier}
 use Rattle.swc_ecma_parser_grammar.specs.Follows as follows
-use Rattle.swc_ecma_parser_grammar.specs.Follows.{continues_left_side, word_at, is_async_function}
+use Rattle.swc_ecma_parser_grammar.specs.Follows.{continues_left_side, begins_template}
 use Rattle.swc_ecma_parser_grammar.specs.scaffold.Supported.{supported_in}
 use Rattle.swc_ecma_parser_grammar.specs.scaffold.ReadsSupported.{ReadsClass}
 use Rattle.swc_ecma_parser_grammar.specs.language.Goals.{Goal, Purpose, binding, expr_goal, pattern_goal, element_goal, expression, assignment}
 use Rattle.swc_ecma_parser_grammar.proofs.StatementBegins.{word_place}
 use Rattle.swc_ecma_parser_grammar.proofs.ExpressionBegins.{await_stands}
-use Rattle.swc_ecma_parser_grammar.specs.language.Operators.{unary_operator, update_operator, binary_operator, assign_operator}
-use Rattle.swc_ecma_parser_grammar.specs.language.Continues.{continues_unary, is_operation, continues_operand, continues_head, continues_conditional, continues_assignment}
+use Rattle.swc_ecma_parser_grammar.specs.language.Operators.{unary_operator, update_operator, binary_operator, assign_operator, precedence}
+use Rattle.swc_ecma_parser_grammar.specs.language.Continues.{continues_unary, is_operation}
 use Rattle.swc_ecma_parser_grammar.specs.language.Parts as parts
 use Rattle.swc_ecma_parser_grammar.specs.language.Parts.{ReadsName, ReadsWord, KeyRule, ReadsToken}
 use Rattle.swc_ecma_parser_grammar.specs.language.Functions as functions
 use Rattle.swc_ecma_parser_grammar.specs.language.LeftSides as sides
-use Rattle.swc_ecma_parser_grammar.proofs.SupportedBegins.{function_begins}
+use Rattle.swc_ecma_parser_grammar.proofs.SupportedBegins.{function_begins, link_opens}
 use Rattle.swc_ecma_parser_grammar.specs.language.LeftSides.{PrimaryRule, LeftSideRule}
 use Rattle.swc_ecma_parser_grammar.specs.language.Patterns as patterns
 use Rattle.swc_ecma_parser_grammar.specs.language.Patterns.{PatternRule, PatternElementRule}
 use Rattle.swc_ecma_parser_grammar.specs.language.Expressions as rules
 use Rattle.swc_ecma_parser_grammar.specs.language.Expressions.{UnaryRule, BinaryRule, AssignmentRule, ExpressionRule}
 use Rattle.swc_ecma_parser_grammar.specs.language.Reads as language
-use Rattle.swc_ecma_parser_grammar.proofs.Tests.{or_no, or_none, and_yes, and_no}
+use Rattle.swc_ecma_parser_grammar.proofs.Tests.{or_no, and_yes, and_no}
 use Rattle.swc_ecma_parser_grammar.proofs.Arrows.{arrow_parts}
 use Rattle.swc_ecma_parser_grammar.proofs.Naming.{name_is_name, name_is_free}
 use Rattle.swc_ecma_parser_grammar.proofs.Unnoted as unnoted
-use Rattle.swc_ecma_parser_reader.specs.Methods.{ends_key}
+use Rattle.swc_ecma_parser_grammar.proofs.Beginnings.{template_opens}
 use Rattle.swc_ecma_parser_reader.proofs.Errors.{is_error}
 use Rattle.swc_ecma_parser_reader.specs.Expressions.{literal_of, literal_in, token_is_word, first_is_word, is_word_at, postfix_at}
 
@@ -753,93 +754,3 @@ none_of (Some a) e = cc
 
 pub unassigned_at : (c : Place) → is_some (assign_operator (kind_at c)) ≡ false → assign_operator (kind_at c) ≡ None
 unassigned_at c e = none_of (assign_operator (kind_at c)) e
-
--- ---- the end of a part of an array, an object or a list of parameters
-
-abbrev pub ends_part : TokenKind → Bool
-ends_part kind.Comma = true
-ends_part kind.RBracket = true
-ends_part kind.RBrace = true
-ends_part kind.RParen = true
-ends_part _ = false
-
--- no word ends one
-keyword_ends : {X : Type 0} (k : Keyword) → ends_part (keyword_kind k) ≡ true → X
-keyword_ends keyword.Await e = cc
-keyword_ends _ e = cc
-
-word_ends : {X : Type 0} (w : Word) → ends_part (word_kind w) ≡ true → X
-word_ends (word.Keyword k) e = keyword_ends k e
-word_ends _ e = cc
-
-token_ends : (f : Context) (t : Token) → ends_part (token_kind t) ≡ true → token_is_identifier f t ≡ false
-token_ends f (token.Word w) e = word_ends w e
-token_ends f _ e = refl
-
-first_ends : (f : Context) (ts : List TokenAndSpan) → ends_part (first_kind ts) ≡ true → first_is_identifier f ts ≡ false
-first_ends f [] e = refl
-first_ends f (t ∷ ts) e = token_ends f t.token e
-
-unnamed_end : (f : Context) (c : Place) → ends_part (kind_at c) ≡ true → identifier_at f c ≡ false
-unfolding identifier_at kind_at
-unnamed_end f c e = first_ends f c.left e
-
--- what does not stand there
-pub record Ended (k : TokenKind) : Type 0 where
-  pub quiet : Quiet k
-  pub colon : same_kind k kind.Colon ≡ false
-  pub assign : same_kind k kind.Assign ≡ false
-  pub question : same_kind k kind.QuestionMark ≡ false
-  pub arrow : same_kind k kind.Arrow ≡ false
-  pub function : same_kind k kind.Function ≡ false
-  pub binary : binary_operator k ≡ None
-  pub assigns : assign_operator k ≡ None
-
-ended : (k : TokenKind) → ends_part k ≡ true → Ended k
-unfolding same_kind
-ended kind.Comma e = record { quiet = (refl, refl, refl, refl, refl, refl, refl, refl); colon = refl; assign = refl; question = refl; arrow = refl; function = refl; binary = refl; assigns = refl }
-ended kind.RBracket e = record { quiet = (refl, refl, refl, refl, refl, refl, refl, refl); colon = refl; assign = refl; question = refl; arrow = refl; function = refl; binary = refl; assigns = refl }
-ended kind.RBrace e = record { quiet = (refl, refl, refl, refl, refl, refl, refl, refl); colon = refl; assign = refl; question = refl; arrow = refl; function = refl; binary = refl; assigns = refl }
-ended kind.RParen e = record { quiet = (refl, refl, refl, refl, refl, refl, refl, refl); colon = refl; assign = refl; question = refl; arrow = refl; function = refl; binary = refl; assigns = refl }
-ended _ e = cc
-
-pub ended_at : (c : Place) → ends_part (kind_at c) ≡ true → Ended (kind_at c)
-ended_at c e = ended (kind_at c) e
-
--- where a part ends no error token stands
-pub part_calm : (c : Place) → ends_part (kind_at c) ≡ true → is_error (kind_at c) ≡ false
-part_calm c e = by_kind (kind_at c) e
-  where
-    by_kind : (j : TokenKind) → ends_part j ≡ true → is_error j ≡ false
-    by_kind kind.Error h = cc
-    by_kind _ h = refl
-
--- a part of an object ends before its comma or its brace
-abbrev pub ends_property : TokenKind → Bool
-ends_property kind.Comma = true
-ends_property kind.RBrace = true
-ends_property _ = false
-
-property_ends : (k : TokenKind) → ends_property k ≡ true → (ends_part k ≡ true) × (ends_key k ≡ true)
-property_ends kind.Comma e = (refl, refl)
-property_ends kind.RBrace e = (refl, refl)
-property_ends _ e = cc
-
-pub property_ended : (c : Place) → ends_property (kind_at c) ≡ true → (ends_part (kind_at c) ≡ true) × (ends_key (kind_at c) ≡ true)
-property_ended c e = property_ends (kind_at c) e
-
-pub ended_stops : (c : Place) → ends_part (kind_at c) ≡ true → continues_left_side c ≡ false
-ended_stops c e = quiet_stops c (ended_at c e).quiet
-
--- nothing there goes on with an expression
-pub ended_continues : (k : Code) (x : Tree) (c d : Place) → ends_part (kind_at d) ≡ true → continues_assignment k x c d ≡ false
-unfolding continues_assignment continues_operand continues_conditional continues_head
-ended_continues k x c d e =
-    let t = ended_at d e in
-    or_none _ _ (or_none _ _ (stops_unary x d (ended_stops d e)) (rw t.binary refl))
-    (or_none _ _ t.question (or_none _ _ (rw t.assigns refl) (or_none _ _ (and_no _ _ t.arrow) (and_no _ _ (and_no _ _ (unnamed_end k.flags d e))))))
-
--- a name before no `function` is a name
-pub no_async_function : (c d : Place) → d ≡ after c → sees kind.Function d ≡ false → is_async_function c ≡ false
-unfolding is_async_function
-no_async_function c d e h = and_no (word_at (codes "async") c) (sees kind.Function (after c) && not (breaks_at (after c))) (rw (← e, h) refl)

@@ -264,7 +264,7 @@ module _ (In : Goal → Type 0) (inner : Class → Reader Tree) (cover : Reader 
   tagged_more : (calls : Bool) (start : Span) (tag : Tree) (es qs : List Tree) (k : Code) (m d : Place) → is_chain tag ≡ false → TemplateRule In true k es qs m d → all_supported_in k.flags.module (trees es) ≡ true
       → (w : Scope) (f : List Fault) (h : Notes) → left_from inner cover calls start tag (st m k w f h)
       ≡ left_from inner cover calls start (tree.tagged_tpl (record { lo = start.lo; hi = d.last.hi }) tag (tree.tpl (spanned m d) (listed es) (listed qs)))
-          (st d k w (f ++ walks (env_of k w.labels) false (trees es)) (h ⊕ all_notes_of (trees es)))
+      (st d k w (f ++ walks (env_of k w.labels) false (trees es)) (h ⊕ all_notes_of (trees es)))
   unfolding left_from left_turn tagged tagged_by spanned same_kind
   tagged_more calls start tag es qs k m d n r s w f h =
       let e = pieces_read In inner cover given true es qs k m d w f h r s in

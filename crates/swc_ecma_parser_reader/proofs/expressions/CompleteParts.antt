@@ -32,7 +32,7 @@ use Rattle.swc_ecma_parser_grammar.specs.language.Goals.{Goal, Class, expression
 use Rattle.swc_ecma_parser_grammar.specs.language.Items.{BlockRule}
 use Rattle.swc_ecma_parser_grammar.specs.language.Lists.{ReadsListed, LastComma, no_comma, last_comma}
 use Rattle.swc_ecma_parser_grammar.specs.language.Parts as parts
-use Rattle.swc_ecma_parser_grammar.specs.language.Parts.{ReadsWord, PrivateRule, AccessRule, is_private, ElementRule, ArgumentsRule, ComputedRule, KeyRule, ReadsToken}
+use Rattle.swc_ecma_parser_grammar.specs.language.Parts.{ReadsWord, PrivateRule, AccessRule, is_private, ElementRule, ArgumentsRule, ComputedRule, KeyRule, ReadsToken, PrivateOperandRule}
 use Rattle.swc_ecma_parser_grammar.proofs.Binding.{ArrowPartRule}
 use Rattle.swc_ecma_parser_grammar.proofs.Arrows.{body_walk}
 use Rattle.swc_ecma_parser_grammar.proofs.Tests.{and_yes, and_no}
@@ -49,9 +49,11 @@ use Rattle.swc_ecma_parser_reader.proofs.Steps.{loop_more, loop_done}
 use Rattle.swc_ecma_parser_reader.proofs.expressions.Falls.{element_falls, FunctionsFall}
 use Rattle.swc_ecma_parser_reader.proofs.expressions.Loops.{shorter_by}
 use Rattle.swc_ecma_parser_reader.proofs.expressions.Groups.{IsTied, ReadsParts}
-use Rattle.swc_ecma_parser_reader.proofs.expressions.CompleteKinds.{NamesStand, supported_as, seen, token_first, touching, no_hash, worded, bracket_here, begin_kind, begin_seen, ends_part}
+use Rattle.swc_ecma_parser_reader.proofs.expressions.CompleteKinds.{NamesStand, supported_as, seen, token_first, touching, no_hash, worded, bracket_here, begin_kind, begin_seen}
+use Rattle.swc_ecma_parser_reader.proofs.expressions.PartEnds.{ends_part}
 use Rattle.swc_ecma_parser_input.specs.declared.context.Context.{Context}
 use Rattle.swc_ecma_parser_grammar.proofs.Ended.{ends_name}
+use Rattle.swc_ecma_parser_grammar.specs.Follows.{begins_template}
 use Rattle.swc_ecma_parser_token.specs.declared.keyword.Keyword.TheVariants as keyword
 use Rattle.swc_ecma_parser_token.specs.declared.token.Word.TheVariants as word
 

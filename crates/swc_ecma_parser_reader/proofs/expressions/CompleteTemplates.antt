@@ -1,5 +1,5 @@
 -- Templates of the language are read: their texts, and the expressions between them.
-use Rattle.std.proofs.Common.{◌≡◌, inl, inr, Bool, true, false, List, [], ◌∷◌, ◌++◌, length, ◌<◌, Option, Some, Ok, refl, sym, ◌∙◌, ap, subst, append_assoc, append-nil}
+use Rattle.std.proofs.Common.{◌≡◌, inr, Bool, true, false, List, ◌++◌, length, ◌<◌, Option, Some, Ok, refl, sym, ◌∙◌, ap, subst, append_assoc, append-nil}
 use Rattle.std.specs.Prelude.{◌||◌}
 use Rattle.swc_ecma_parser_common.specs.declared.span.Span.{Span}
 use Rattle.swc_ecma_parser_error.specs.Kind.{Fault}
@@ -9,7 +9,7 @@ use Rattle.swc_ecma_parser_token.specs.declared.token.Token.TheVariants as token
 use Rattle.swc_ecma_parser_input.specs.Place.{Place}
 use Rattle.swc_ecma_parser_model.specs.Tree as tree
 use Rattle.swc_ecma_parser_model.specs.Tree.{Tree, Text, listed, trees}
-use Rattle.swc_ecma_parser_grammar.specs.Looks.{kind_at, sees, same_kind, span_at, spanned}
+use Rattle.swc_ecma_parser_grammar.specs.Looks.{kind_at, same_kind, spanned}
 use Rattle.swc_ecma_parser_grammar.specs.Names.{Code}
 use Rattle.swc_ecma_parser_grammar.specs.Notes.{notes}
 use Rattle.swc_ecma_parser_grammar.specs.Walk.{env_of, walk, walks}
@@ -20,7 +20,7 @@ use Rattle.swc_ecma_parser_grammar.specs.language.Parts.{ReadsToken}
 use Rattle.swc_ecma_parser_grammar.specs.language.Templates.{TextRule, TemplateRest, last_text, more_texts, TemplateRule, only_text, first_text}
 use Rattle.swc_ecma_parser_grammar.proofs.Tests.{and_yes}
 use Rattle.swc_ecma_parser_reader.specs.Notes.{Notes, ◌⊕◌, notes_of, all_notes_of}
-use Rattle.swc_ecma_parser_reader.specs.State.{Scope, State, Reader, loop}
+use Rattle.swc_ecma_parser_reader.specs.State.{Scope, Reader, loop}
 use Rattle.swc_ecma_parser_reader.specs.Expressions.{Cover, Pieces, text_of, text_in, template_text, is_tail, is_cooked, first_piece, with_piece, inside, template_turn, template_pieces, template}
 use Rattle.swc_ecma_parser_reader.proofs.Notes.{or_nil, or_assoc}
 use Rattle.swc_ecma_parser_reader.proofs.Answered.{st, Reads}

@@ -1,6 +1,6 @@
 -- A regular expression, a template and each text of one takes a token at least; what stands behind `new` and `.`, and `in` behind a
 -- private name, puts none back.
-use Rattle.std.proofs.Common.{◌≡◌, ◌+◌, ◌≤◌, Bool, true, false, cond, List, [], ◌∷◌, length, Option, Some, None, refl, arith}
+use Rattle.std.proofs.Common.{◌≡◌, Bool, true, false, List, [], ◌∷◌, length, Option, Some, None, refl, arith}
 use Rattle.std.specs.Prelude.{◌&&◌, ◌||◌, codes}
 use Rattle.swc_ecma_parser_common.specs.declared.span.Span.{Span}
 use Rattle.swc_ecma_parser_error.specs.Kind as faults
@@ -8,12 +8,12 @@ use Rattle.swc_ecma_parser_token.specs.declared.kind.TokenKind.TheVariants as ki
 use Rattle.swc_ecma_parser_token.specs.declared.token.TokenAndSpan.{TokenAndSpan}
 use Rattle.swc_ecma_parser_input.specs.Place.{after}
 use Rattle.swc_ecma_parser_model.specs.Tree.{Tree}
-use Rattle.swc_ecma_parser_grammar.specs.Looks.{sees, span_at}
+use Rattle.swc_ecma_parser_grammar.specs.Looks.{sees}
 use Rattle.swc_ecma_parser_grammar.specs.Follows.{word_at}
 use Rattle.swc_ecma_parser_grammar.specs.language.Goals.{Class, expression}
-use Rattle.swc_ecma_parser_reader.specs.State.{State, Outcome, Reader, moved, loop}
+use Rattle.swc_ecma_parser_reader.specs.State.{State, Reader, moved}
 use Rattle.swc_ecma_parser_reader.specs.Expressions.{Cover, Pieces, new_target, in_word, regex, regex_in, regex_or, text_in, text_or, template_text, is_tail, is_cooked, first_piece, inside, template_turn, template_from, template_pieces, template}
-use Rattle.swc_ecma_parser_reader.proofs.Takes.{Falls, moves, falls_then, falls_last, falls_next, falls_if, less, weaker, takes_one, wanted_falls, refuse_falls, reject_falls, loop_falls}
+use Rattle.swc_ecma_parser_reader.proofs.Takes.{Falls, moves, falls_last, falls_next, falls_if, less, weaker, takes_one, wanted_falls, refuse_falls, reject_falls, loop_falls}
 
 regex_takes : (s : State) (ts : List TokenAndSpan) (o : Option Tree) → s.at.left ≡ ts → regex_in ts ≡ o → Falls 1 (length s.at.left) (regex_or o s)
 regex_takes s ts None e h = wanted_falls Tree 1 (length s.at.left) faults.Unexpected s

@@ -3,51 +3,46 @@
 use Rattle.swc_ecma_parser_grammar.specs.language.Begins.{begins_expression, awaits}
 use Rattle.swc_ecma_parser_grammar.specs.language.Contexts.{in_arrow, with_in}
 use Rattle.std.proofs.Common.{◌≡◌, ℕ, Bool, true, false, cond, List, [], ◌∷◌, ◌++◌, Option, Some, None, refl, ◌∙◌, ap, Ok}
-use Rattle.std.specs.Prelude.{nat_eq, not, ◌&&◌, ◌||◌, codes}
+use Rattle.std.specs.Prelude.{not, ◌&&◌, ◌||◌, codes, nat_le}
 use Rattle.std.proofs.lemmas.Bool.{and_parts}
 use Rattle.swc_ecma_parser_common.specs.declared.span.Span.{Span}
 use Rattle.swc_ecma_parser_error.specs.Kind as faults
-use Rattle.swc_ecma_parser_error.specs.Kind.{Fault}
 use Rattle.swc_ecma_parser_token.specs.declared.kind.TokenKind.TheVariants as kind
-use Rattle.swc_ecma_parser_token.specs.declared.token.Token.{Token}
-use Rattle.swc_ecma_parser_token.specs.declared.token.Token.TheVariants as token
-use Rattle.swc_ecma_parser_token.specs.declared.token.TokenAndSpan.{TokenAndSpan}
 use Rattle.swc_ecma_parser_input.specs.Place.{after}
 use Rattle.swc_ecma_parser_model.specs.declared.operators.UnaryOp.{UnaryOp}
+use Rattle.swc_ecma_parser_model.specs.declared.operators.BinaryOp.TheVariants as binary
 use Rattle.swc_ecma_parser_model.specs.declared.operators.UpdateOp.{UpdateOp}
 use Rattle.swc_ecma_parser_model.specs.declared.operators.BinaryOp.{BinaryOp}
 use Rattle.swc_ecma_parser_model.specs.declared.operators.AssignOp.{AssignOp}
 use Rattle.swc_ecma_parser_model.specs.declared.operators.AssignOp.TheVariants as assign
 use Rattle.swc_ecma_parser_model.specs.Tree as tree
-use Rattle.swc_ecma_parser_model.specs.Tree.{Tree, Text, listed}
-use Rattle.swc_ecma_parser_model.specs.Forms.{is_simple_target, span_of, has_plain_params}
-use Rattle.swc_ecma_parser_model.specs.Targets.{as_target, as_parameter}
+use Rattle.swc_ecma_parser_model.specs.Tree.{Tree, listed}
+use Rattle.swc_ecma_parser_model.specs.Forms.{is_simple_target, span_of, has_plain_params, is_chain}
 use Rattle.swc_ecma_parser_grammar.specs.Looks.{kind_at, sees, span_at, breaks_at}
 use Rattle.swc_ecma_parser_grammar.specs.Names.{name_at, may_refer_to_await}
-use Rattle.swc_ecma_parser_grammar.specs.Follows.{word_at, is_async_function, continues_left_side}
+use Rattle.swc_ecma_parser_grammar.specs.Follows.{word_at, is_async_function, begins_template}
 use Rattle.swc_ecma_parser_grammar.specs.Own.{misplaced_directive}
 use Rattle.swc_ecma_parser_grammar.specs.language.Goals.{Class, expression, assignment, operator, unary, left_side, callee}
-use Rattle.swc_ecma_parser_grammar.specs.language.Operators.{unary_operator, update_operator, binary_operator, assign_operator, groups_left, mixes, is_unary}
-use Rattle.swc_ecma_parser_grammar.specs.language.Continues.{continues_conditional}
-use Rattle.swc_ecma_parser_reader.specs.State.{State, Reader, and_then, ◌>>=◌, moved, noted, module_found, coded, within, enclosed, unlabelled, wanted, fault_at, fault, expect, loop, as_name, reference}
+use Rattle.swc_ecma_parser_grammar.specs.language.Operators.{unary_operator, update_operator, binary_operator, assign_operator, precedence}
+use Rattle.swc_ecma_parser_reader.specs.State.{State, Reader, and_then, ◌>>=◌, moved, noted, module_found, coded, within, enclosed, unlabelled, fault_at, fault, expect, loop, as_name}
 use Rattle.swc_ecma_parser_reader.specs.Methods.{MethodForm, FunctionForm, expression_form, class_form, property_form, parameter_form, block_form, modifies, begins_async_method, star, starred, method_words, is_bare}
-use Rattle.swc_ecma_parser_reader.specs.Expressions.{Cover, Pieces, template_text, is_tail, first_piece, template_turn, template_from, template_pieces, template, tagged, tagged_by, named_link, behind_question, chained, behind_called, new_called, new_target, in_word, private_in, first_operand, no_covers, unmarked, close, target_or, target, goes_on, literal, literal_in, taken, any_word, word_in, word_by, touching_word, private_name, word_property, is_word_at, key_or, literal_key, shorthand_name, shorthand, dotted, ident_expr, this, bare_new, closed_left, simple, update_behind, behind_operand, postfix_at, right_class, read_operator, operator_at, left_operand, unmixed, unassigned, unassignable, unheaded, heads_arrow, begins_async_call, inside, brackets, access, spread_element, plain_element, element, arguments_turn, arguments, covered, spread_item, plain_item, item, array_turn, elements, array, computed_key, key, key_value, initialized, initialized_name, initialized_key, bare_key, behind_key, method, behind_words, keyed_property, spread_property, property, object_turn, properties, object, paren, marked_primary, literal_or, primary, accessed, called, left_turn, left_from, super_call, super_property, super_access, behind_super, super_head, constructed, new_head, import_call, meta_fault, import_meta, import_head, left_head, left, left_expr, prefixed, update_before, await_expr, postfix, updated, unary_by, unary_expr, operated, binary_by, binary_turn, binary_from, binary_expr, conditional, assigned_to, assigned, assigned_or, behind_operators, operators_expr, plain_expr, postfixed, continued, closed, assigned_pattern, behind_literal, open_literal, done_expr, cover_expr, assignment_expr, sequence_turn, sequence_from, expression_expr, expr_level, named_expr, filled_paren, empty_paren}
+use Rattle.swc_ecma_parser_reader.specs.Expressions.{Cover, Pieces, template_text, is_tail, first_piece, template_turn, template_from, template_pieces, template, tagged, tagged_by, named_link, behind_question, chained, behind_called, new_called, in_word, private_in, first_operand, no_covers, close, target, goes_on, literal, any_word, private_name, word_property, is_word_at, shorthand, dotted, bare_new, simple, behind_operand, postfix_at, right_class, read_operator, operator_at, left_operand, unmixed, unassignable, begins_async_call, inside, brackets, access, spread_element, plain_element, element, arguments_turn, arguments, covered, spread_item, plain_item, item, array_turn, elements, array, computed_key, key, key_value, initialized, initialized_name, initialized_key, bare_key, behind_key, method, behind_words, keyed_property, spread_property, property, object_turn, properties, object, paren, marked_primary, literal_or, primary, accessed, called, left_turn, left_from, super_call, super_property, super_access, behind_super, super_head, constructed, new_head, import_call, meta_fault, import_meta, import_head, left_head, left, left_expr, prefixed, update_before, await_expr, postfix, updated, unary_by, unary_expr, operated, binary_by, binary_turn, binary_from, binary_expr, conditional, assigned_to, assigned, assigned_or, behind_operators, operators_expr, plain_expr, postfixed, continued, closed, assigned_pattern, behind_literal, open_literal, done_expr, cover_expr, assignment_expr, sequence_turn, sequence_from, expression_expr, expr_level, named_expr, filled_paren, empty_paren}
 use Rattle.swc_ecma_parser_reader.specs.Jumps.{told}
-use Rattle.swc_ecma_parser_reader.specs.Arrows.{begins_named_arrow, Group, behind_part, closed_parts, may_stand_alone, closed_group, parameter, parameter_or, parameters_of, arrow_body, arrow_from, named_arrow, rest_part, part_turn, group_parts, group, behind_group, grouped}
-use Rattle.swc_ecma_parser_reader.specs.AsyncArrows.{Argument, closed_arguments, closed_argument, argument_pattern, argument_parameter, argument_parameters, async_called, spread_argument, plain_argument, argument, either_turn, either_arguments, begins_async_arrow, async_named_arrow, behind_async, async_grouped}
+use Rattle.swc_ecma_parser_reader.specs.Arrows.{begins_named_arrow, Group, closed_group, parameter, parameters_of, arrow_body, arrow_from, named_arrow, rest_part, part_turn, group_parts, group, behind_group, grouped}
+use Rattle.swc_ecma_parser_reader.specs.AsyncArrows.{Argument, closed_arguments, argument_parameters, async_called, spread_argument, plain_argument, argument, either_turn, either_arguments, begins_async_arrow, async_named_arrow, behind_async, async_grouped}
 use Rattle.swc_ecma_parser_reader.specs.Yields.{begins_yield, bare_yield, yielded, behind_yield, yield_expr}
 use Rattle.swc_ecma_parser_reader.specs.Heads.{sequenced, head_expr}
 use Rattle.swc_ecma_parser_reader.proofs.Meets.{Answers, answers_then, answers_if, saw}
 use Rattle.swc_ecma_parser_reader.proofs.Errors.{is_error}
-use Rattle.swc_ecma_parser_reader.proofs.Words.{async_begins, function_begins}
+use Rattle.swc_ecma_parser_reader.proofs.Words.{async_begins, function_begins, or_later}
 use Rattle.swc_ecma_parser_reader.proofs.expressions.Awaits.{await_fault, await_either}
 use Rattle.swc_ecma_parser_reader.proofs.expressions.AsyncHeads.{async_call_parts, async_name}
-use Rattle.swc_ecma_parser_reader.proofs.expressions.Stands.{no_error_by, postfix_stands, literal_stands, modified, async_modified, async_arrow_kind, yield_kind, Begins}
+use Rattle.swc_ecma_parser_reader.proofs.expressions.Stands.{no_error_by, modified, async_modified, async_arrow_kind, yield_kind, Begins}
 use Rattle.swc_ecma_parser_grammar.proofs.ExpressionBegins.{await_stands}
 use Rattle.swc_ecma_parser_grammar.proofs.StatementBegins.{word_place}
 use Rattle.swc_ecma_parser_grammar.proofs.Tests.{and_yes}
-use Rattle.swc_ecma_parser_reader.proofs.Behind.{NothingLost, Kept, Lost, Passes, SaysMemory, flagged_kept, kept_here, answers_as, fault_says, fault_stays, behind_after, behind_seen, behind_taken, behind_noted, fault_keeps, wanted_keeps, refuse_keeps, reject_keeps, expect_keeps, held_loop_keeps, loop_keeps, reference_keeps, as_name_keeps, as_name_stays}
-use Rattle.swc_ecma_parser_reader.proofs.expressions.KeepSteps.{other_test, unexpected_keeps, taken_keeps, literal_keeps, regex_keeps, new_target_keeps, in_word_keeps, word_by_keeps, word_in_keeps, any_word_keeps, touching_keeps, ident_keeps, this_keeps, simple_keeps, closed_keeps, unmixed_keeps, unassigned_keeps, unheaded_keeps, shorthand_name_keeps, shorthand_keeps, left_operand_keeps, unmarked_keeps, close_stays, close_keeps, target_or_keeps, target_keeps, text_keeps, told_keeps, told_stays, told_says, closed_parts_keep, closed_group_keeps, parameter_or_keeps, parameter_keeps, parameters_of_keep, behind_part_keeps, closed_arguments_keep, argument_parameter_keeps, argument_parameters_keep, literal_key_keeps, private_behind, private_keeps, dotted_keeps, update_behind_keeps, behind_operand_keeps}
+use Rattle.swc_ecma_parser_reader.proofs.Behind.{NothingLost, Kept, Lost, Passes, flagged_kept, behind_after, behind_seen, behind_noted, fault_keeps, refuse_keeps, reject_keeps, expect_keeps, held_loop_keeps, loop_keeps, as_name_stays}
+use Rattle.swc_ecma_parser_reader.proofs.expressions.KeepSteps.{other_test, unexpected_keeps, literal_keeps, regex_keeps, new_target_keeps, in_word_keeps, any_word_keeps, ident_keeps, this_keeps, simple_keeps, closed_keeps, unmixed_keeps, unassigned_keeps, unheaded_keeps, shorthand_keeps, left_operand_keeps, close_stays, close_keeps, target_keeps, text_keeps, told_keeps, closed_group_keeps, parameters_of_keep, behind_part_keeps, closed_arguments_keep, argument_parameters_keep, literal_key_keeps, private_behind, dotted_keeps, behind_operand_keeps}
 
 -- ---- functions
 

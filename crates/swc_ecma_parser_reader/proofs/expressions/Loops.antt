@@ -12,6 +12,7 @@ use Rattle.swc_ecma_parser_model.specs.Tree as tree
 use Rattle.swc_ecma_parser_model.specs.Tree.{Tree}
 use Rattle.swc_ecma_parser_grammar.specs.Looks.{sees}
 use Rattle.swc_ecma_parser_grammar.specs.language.Goals.{Class, expression}
+use Rattle.swc_ecma_parser_grammar.specs.Follows.{begins_template}
 use Rattle.swc_ecma_parser_reader.proofs.Falls.{expr_falls, cover_falls, functions_fall}
 use Rattle.swc_ecma_parser_reader.specs.Reader.{right_operand, expr, cover, head_cover, head_behind, function}
 use Rattle.swc_ecma_parser_reader.specs.Arrows.{Parts, ended, rest_part, part_turn}

@@ -21,7 +21,8 @@ use Rattle.swc_ecma_parser_reader.specs.Expressions.{first_operand, Cover, begin
 use Rattle.swc_ecma_parser_reader.proofs.Steps.{loop_done}
 use Rattle.swc_ecma_parser_reader.proofs.Meets.{Meets, wanted_meets, saw, meets_then, meets_if}
 use Rattle.swc_ecma_parser_reader.proofs.expressions.Covers.{met}
-use Rattle.swc_ecma_parser_reader.proofs.expressions.CompleteKinds.{no_hash_in, seen, named_first, no_async_function, primary_seen, primary_operand, operand_plain, operand_update, quiet_stops, stopped}
+use Rattle.swc_ecma_parser_reader.proofs.expressions.CompleteKinds.{no_hash_in, seen, named_first, primary_seen, primary_operand, operand_plain, operand_update, quiet_stops, stopped}
+use Rattle.swc_ecma_parser_reader.proofs.expressions.PartEnds.{no_async_function}
 use Rattle.swc_ecma_parser_reader.proofs.expressions.Yields.{yield_here}
 use Rattle.swc_ecma_parser_reader.proofs.Errors.{is_error}
 use Rattle.swc_ecma_parser_reader.proofs.expressions.SoundSteps.{fault_stays}

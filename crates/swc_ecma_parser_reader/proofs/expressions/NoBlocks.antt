@@ -1,6 +1,6 @@
 -- No assignment expression that is read is a block: what stands behind `=>` is one or the other.
-use Rattle.std.proofs.Common.{◌≡◌, ℕ, zero, suc, Bool, true, false, List, [], ◌∷◌, Option, Some, None, refl}
-use Rattle.std.specs.Prelude.{◌&&◌, ◌||◌, if◌then◌else◌, codes}
+use Rattle.std.proofs.Common.{◌≡◌, ℕ, zero, suc, Bool, true, false, List, [], ◌∷◌, Option, Some, None, refl, cond}
+use Rattle.std.specs.Prelude.{◌&&◌, ◌||◌, if◌then◌else◌, codes, nat_le}
 use Rattle.swc_ecma_parser_common.specs.declared.span.Span.{Span}
 use Rattle.swc_ecma_parser_error.specs.Kind as faults
 use Rattle.swc_ecma_parser_token.specs.declared.kind.TokenKind.TheVariants as kind
@@ -9,24 +9,25 @@ use Rattle.swc_ecma_parser_token.specs.declared.token.Token.TheVariants as token
 use Rattle.swc_ecma_parser_token.specs.declared.token.TokenAndSpan.{TokenAndSpan}
 use Rattle.swc_ecma_parser_token.specs.declared.token.Word.TheVariants as word
 use Rattle.swc_ecma_parser_model.specs.declared.operators.UnaryOp.{UnaryOp}
+use Rattle.swc_ecma_parser_model.specs.declared.operators.BinaryOp.TheVariants as binary
 use Rattle.swc_ecma_parser_model.specs.declared.operators.UpdateOp.{UpdateOp}
 use Rattle.swc_ecma_parser_model.specs.declared.operators.BinaryOp.{BinaryOp}
 use Rattle.swc_ecma_parser_model.specs.declared.operators.AssignOp.{AssignOp}
 use Rattle.swc_ecma_parser_model.specs.declared.operators.AssignOp.TheVariants as assign
 use Rattle.swc_ecma_parser_model.specs.Tree.{Tree, listed}
 use Rattle.swc_ecma_parser_model.specs.Kinds.{is_block}
-use Rattle.swc_ecma_parser_model.specs.Forms.{is_simple_target, has_plain_params}
+use Rattle.swc_ecma_parser_model.specs.Forms.{is_simple_target, has_plain_params, is_chain}
 use Rattle.swc_ecma_parser_input.specs.Place.{after}
 use Rattle.swc_ecma_parser_grammar.specs.Looks.{kind_at, breaks_at, sees, span_at}
 use Rattle.swc_ecma_parser_grammar.specs.Names.{name_at}
-use Rattle.swc_ecma_parser_grammar.specs.Follows.{word_at, is_async_function}
+use Rattle.swc_ecma_parser_grammar.specs.Follows.{word_at, is_async_function, begins_template}
 use Rattle.swc_ecma_parser_grammar.specs.Own.{misplaced_directive}
 use Rattle.swc_ecma_parser_grammar.specs.language.Items.{nested_item}
 use Rattle.swc_ecma_parser_grammar.specs.language.Contexts.{in_class}
 use Rattle.swc_ecma_parser_grammar.specs.language.Begins.{awaits, begins_expression}
 use Rattle.swc_ecma_parser_grammar.specs.language.Goals.{Class, expression, assignment, unary, callee, left_side}
 use Rattle.swc_ecma_parser_grammar.specs.language.Continues.{continues_conditional}
-use Rattle.swc_ecma_parser_grammar.specs.language.Operators.{unary_operator, update_operator, assign_operator, mixes}
+use Rattle.swc_ecma_parser_grammar.specs.language.Operators.{unary_operator, update_operator, assign_operator, mixes, precedence}
 use Rattle.swc_ecma_parser_reader.specs.Arrows.{Group, begins_named_arrow, may_stand_alone, closed_parts, closed_group, parameters_of, arrow_body, arrow_from, named_arrow, group, grouped}
 use Rattle.swc_ecma_parser_reader.specs.AsyncArrows.{Argument, begins_async_arrow, closed_arguments, argument_parameters, async_called, either_arguments, async_named_arrow, async_grouped}
 use Rattle.swc_ecma_parser_reader.specs.Expressions.{Cover, regex_of, regex_in, regex_or, regex, new_target, private_name, in_word, chain_of, template_pieces, template, tagged, tagged_by, behind_question, chained, behind_called, new_called, private_in, first_operand, begins_async_call, heads_arrow, literal_of, literal_in, taken, literal, ident_expr, this, meta_fault, import_meta, bare_new, simple, update_behind, behind_operand, postfix_at, await_allowed, right_class, operator_at, left_operand, unmixed, unassigned, unheaded, unmarked, close, target, goes_on, inside, access, arguments, elements, array, properties, object, paren, accessed, called, left_turn, left_from, super_call, super_property, super_access, behind_super, super_head, constructed, new_head, import_call, import_head, prefixed, update_before, await_expr, operated, binary_by, binary_turn, binary_from, conditional, assigned_to, assigned, assigned_or, behind_operators, postfixed, continued, closed, assigned_pattern, behind_literal, open_literal, marked_primary, literal_or, named_expr, primary, left_head, left, postfix, updated, unary_by, unary_expr, binary_expr, operators_expr, plain_expr, done_expr, cover_expr, assignment_expr, expr_level, filled_paren, empty_paren}

@@ -1,12 +1,12 @@
 -- The reader of templates is sound: their texts, and the expressions between them.
-use Rattle.std.proofs.Common.{◌≡◌, ℕ, Bool, true, false, cond, List, [], ◌∷◌, ◌++◌, Option, Some, None, refl, sym, ◌∙◌, ap, subst, append_assoc}
+use Rattle.std.proofs.Common.{◌≡◌, ℕ, Bool, true, false, cond, List, [], ◌∷◌, ◌++◌, refl, sym, ◌∙◌, ap, subst, append_assoc}
 use Rattle.std.specs.Prelude.{◌||◌, is_some}
 use Rattle.swc_ecma_parser_error.specs.Kind as faults
 use Rattle.swc_ecma_parser_token.specs.declared.kind.TokenKind.TheVariants as kind
 use Rattle.swc_ecma_parser_token.specs.declared.token.Token.{Token}
 use Rattle.swc_ecma_parser_token.specs.declared.token.Token.TheVariants as token
 use Rattle.swc_ecma_parser_token.specs.declared.token.TokenAndSpan.{TokenAndSpan}
-use Rattle.swc_ecma_parser_input.specs.Place.{Place, after}
+use Rattle.swc_ecma_parser_input.specs.Place.{Place}
 use Rattle.swc_ecma_parser_model.specs.Tree.{Tree, trees}
 use Rattle.swc_ecma_parser_grammar.specs.Looks.{sees, same_kind}
 use Rattle.swc_ecma_parser_grammar.specs.Names.{Code}
@@ -22,7 +22,7 @@ use Rattle.swc_ecma_parser_grammar.specs.language.Templates.{TextRule, TemplateR
 use Rattle.swc_ecma_parser_grammar.proofs.Tests.{or_none}
 use Rattle.swc_ecma_parser_reader.specs.Notes.{all_notes_of}
 use Rattle.swc_ecma_parser_reader.specs.State.{State, Reader, pure, Done, More, moved, loop}
-use Rattle.swc_ecma_parser_reader.specs.Expressions.{Cover, Pieces, text_of, text_in, text_or, template_text, is_tail, is_cooked, first_piece, with_piece, inside, template_turn, template_from, template_pieces}
+use Rattle.swc_ecma_parser_reader.specs.Expressions.{Cover, Pieces, text_of, text_in, text_or, template_text, is_tail, first_piece, with_piece, inside, template_turn, template_pieces}
 use Rattle.swc_ecma_parser_reader.proofs.Meets.{Meets, Refuses, meets_then, meets_if, wanted_meets, refuse_meets, Turned, loop_answers}
 use Rattle.swc_ecma_parser_reader.proofs.Errors.{kind_here}
 use Rattle.swc_ecma_parser_reader.proofs.Between.{SoundTree, SoundStep, Sound, same, sound_moved, sound_as}
@@ -133,8 +133,10 @@ module _ (n : ℕ) (inner : Class → Reader Tree) (cover : Reader Cover) (sound
       by_tail x m q e y u r true g = sound_as s u refl (walks_push (env_of s.code s.scope.labels) found.exprs x) (notes_push found.exprs x)
           (λ (((go, a), (b, h)), o). (go (x ∷ []) (y ∷ []) u.at (last_text x y m.at b (tail_of tagged y m.at u.at e g o) refl refl), supported_push s.code.flags.module found.exprs x a h)) (stepped (paired p q) r)
       by_tail x m q e y u r false g = sound_as s u refl (walks_push (env_of s.code s.scope.labels) found.exprs x) (notes_push found.exprs x)
-          (λ (((go, a), (b, h)), o). (λ es qs j rest. regroup s.code found x y es qs s.at j (go (x ∷ es) (y ∷ qs) j (more_texts x y es qs m.at u.at b (middle_of tagged y m.at u.at e g o) rest refl refl)),
-          supported_push s.code.flags.module found.exprs x a h)) (stepped (paired p q) r)
+          (λ (((go, a), (b, h)), o). (
+            λ es qs j rest. regroup s.code found x y es qs s.at j (go (x ∷ es) (y ∷ qs) j (more_texts x y es qs m.at u.at b (middle_of tagged y m.at u.at e g o) rest refl refl)),
+            supported_push s.code.flags.module found.exprs x a h,
+          )) (stepped (paired p q) r)
 
   from_sound : (s : State) (q : Tree) (t : State) → begins_template s.at ≡ true → SoundStep (λ k. AnyText tagged q) s t → (b : Bool) → is_tail q ≡ b
       → Meets (SoundPieces s) (cond b (pure (first_piece q)) (loop (template_turn inner cover tagged) (first_piece q)) t)

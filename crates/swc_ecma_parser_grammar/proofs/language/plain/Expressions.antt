@@ -6,6 +6,7 @@ use Rattle.swc_ecma_parser_input.specs.Place.{Place, after}
 use Rattle.swc_ecma_parser_model.specs.declared.leaves.MethodKind.{MethodKind}
 use Rattle.swc_ecma_parser_model.specs.Tree as tree
 use Rattle.swc_ecma_parser_model.specs.Tree.{Tree, trees}
+use Rattle.swc_ecma_parser_model.specs.Forms.{is_chain}
 use Rattle.swc_ecma_parser_grammar.specs.declared.position.Position.{Position}
 use Rattle.swc_ecma_parser_grammar.specs.Names.{Code}
 use Rattle.swc_ecma_parser_grammar.specs.Parameters.{parameters}
@@ -167,11 +168,10 @@ module _ (In : Goal → Type 0) (go : (g : Goal) → In g → Advances (begin g)
   pub class_old : {k : Code} {start : Place} {ds n x : Tree} {c d : Place} → ClassRule In k start ds n x c d → Plain c → Old ds → (Old n) × (Old x)
   class_old {k} r h o =
       let i = on (any_token ▹▹ p.optional_name r.reads_name) h in
-      let j = next (on (p.heritage In go r.reads_heritage) i) in
-      (
+      let j = next (on (p.heritage In go r.reads_heritage) i) in (
         name_old r.reads_name,
         ap has_new_form r.is
-        ∙ rw (o, heritage_old r.reads_heritage i, each_old (λ y a b. In (member_goal (with_in (in_class k)) y a b)) (λ y a b q. go _ q) (λ y a b q l. inner q l) r.members (after r.opening) r.close r.reads_members j) refl,
+            ∙ rw (o, heritage_old r.reads_heritage i, each_old (λ y a b. In (member_goal (with_in (in_class k)) y a b)) (λ y a b q. go _ q) (λ y a b q l. inner q l) r.members (after r.opening) r.close r.reads_members j) refl,
       )
 
   -- ---- objects
