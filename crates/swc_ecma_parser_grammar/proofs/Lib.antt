@@ -22,6 +22,7 @@ mod Examples
 mod Spelling
 mod SpellingParts
 mod SpelledExpressions
+mod SpelledForms
 mod SpelledPatterns
 mod SpelledFunctions
 mod Beginnings
