@@ -65,9 +65,6 @@ module _ (tagged : Bool) where
   -- ---- which it is, where it is known whether it is the first, and whether it is the last
 
   module _ (q : Tree) (c d : Place) where
-    no_tail : (b : Bool) → is_tail q ≡ b → (x : Tree) → q ≡ x → is_tail x ≡ b
-    no_tail b e x h = ap is_tail (sym h) ∙ e
-
     whole_of : begins_template c ≡ true → is_tail q ≡ true → AnyText tagged q c d → TextRule token.Template true tagged q c d
     unfolding same_kind
     whole_of b e (whole_text r) = r
