@@ -269,7 +269,7 @@ module _ (In : Goal → Type 0) (inner : Class → Reader Tree) (cover : Reader 
   update_behind_reads op e m k x c d r a s t b o i j w f h =
       let first = left_first In k e c m r s in
       let apart = update_seen m op o in
-      rw (operand_plain (kind_at c) first, a, operand_update (kind_at c) first, side_reads k e c m r s apart.0 apart.1 apart.2 apart.3 apart.4 w f h (inr (update_calm m op o)), postfix_seen m op b o, t, j, i) refl
+      rw (operand_plain (kind_at c) first, a, operand_update (kind_at c) first, side_reads k e c m r s apart.0 apart.1 apart.2 apart.4 apart.3 w f h (inr (update_calm m op o)), postfix_seen m op b o, t, j, i) refl
 
   unary_reads : (k : Code) (x : Tree) (c d : Place) → UnaryRule In k x c d → supported_in k.flags.module x ≡ true → continues_unary x d ≡ false → ReadsCalm (unary_expr inner cover function) k x c d
   unary_reads k x c d (rules.operand_rule r) s e w f h q = operand_reads k x c d r.0 r.1 s (unary_stops x d (left_simple In k x c d r.0) e) w f h q
