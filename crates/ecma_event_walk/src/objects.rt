@@ -1,0 +1,117 @@
+//! Objects and keys.
+
+ghost use Rattle.std.specs.Prelude.{◌≡◌, ◌∷◌, OnOk};
+ghost use Rattle.ecma_event_walk.specs.Events.{events, is_proto, key_events, property_events, used};
+ghost use Rattle.swc_ecma_parser_ast.specs.View.{view_getter_prop, view_method_prop, view_prop, view_prop_name, view_prop_or_spread, view_setter_prop};
+ghost use Rattle.std.specs.Prelude.{map};
+ghost use Rattle.swc_ecma_parser_model.specs.Tree.{trees};
+
+use ecma_events::{Binding, CodeKind, Event, Role};
+use crate::functions::{body, enter_accessor, method};
+use crate::walk::Walk;
+use crate::work::Work;
+use std::alloc::AllocError;
+use swc_ecma_parser_ast::{GetterProp, Prop, PropName, PropOrSpread, SetterProp};
+
+/// A key: what its brackets hold.
+pub(crate) fn key<'a>(walk: &mut Walk<'a>, x: &'a PropName) -> Result<(), AllocError>
+    ensures { OnOk result (walk.new ≡ key_events (view_prop_name x.now) walk.old) }
+{
+    match x {
+        PropName::Computed(x) => walk.push(Work::Expr(Role::Used, &x.expr)),
+        PropName::Ident(_) | PropName::Str(_) | PropName::Num(_) | PropName::BigInt(_) => Ok(()),
+    }
+}
+
+/// Whether a key is `__proto__`, a word or a string.
+fn is_proto_name(x: &PropName) -> bool
+    ensures { result ≡ is_proto_key (view_prop_name x.now) }
+{
+    match x {
+        PropName::Ident(x) => x.sym.as_str() == "__proto__",
+        PropName::Str(x) => x.value.as_str() == "__proto__",
+        PropName::Num(_) | PropName::BigInt(_) | PropName::Computed(_) => false,
+    }
+}
+
+/// Whether a property is `__proto__: value`.
+fn is_proto(x: &PropOrSpread) -> bool
+    ensures { result ≡ is_proto (view_prop_or_spread x.now) }
+{
+    match x {
+        PropOrSpread::Spread(_) => false,
+        PropOrSpread::Prop(x) => match &**x {
+            Prop::KeyValue(x) => is_proto_name(&x.key),
+            _ => false,
+        },
+    }
+}
+
+/// Properties, where one `__proto__: value` was seen or not.
+pub(crate) fn properties<'a>(
+    walk: &mut Walk<'a>,
+    seen: bool,
+    parts: &'a [PropOrSpread],
+) -> Result<(), AllocError>
+    ensures { OnOk result
+        (walk.new
+        ≡ property_events seen (trees (map view_prop_or_spread parts.now)) walk.old) }
+{
+    match parts.split_first() {
+        Some((x, rest)) => {
+            let proto = is_proto(x);
+            walk.two(Work::Property(x), Work::Properties(seen || proto, rest))?;
+            if seen && proto {
+                return walk.event(Event::SecondProto(x.span()));
+            }
+            Ok(())
+        }
+        None => Ok(()),
+    }
+}
+
+/// A property.
+pub(crate) fn property<'a>(walk: &mut Walk<'a>, x: &'a PropOrSpread) -> Result<(), AllocError>
+    ensures { OnOk result (walk.new ≡ events used (view_prop_or_spread x.now) walk.old) }
+{
+    match x {
+        PropOrSpread::Spread(x) => walk.push(Work::Expr(Role::Used, &x.expr)),
+        PropOrSpread::Prop(x) => prop(walk, x),
+    }
+}
+
+fn prop<'a>(walk: &mut Walk<'a>, x: &'a Prop) -> Result<(), AllocError>
+    ensures { OnOk result (walk.new ≡ events used (view_prop x.now) walk.old) }
+{
+    match x {
+        Prop::Shorthand(x) => walk.name(Role::Used, x),
+        Prop::KeyValue(x) => walk.two(Work::Key(&x.key), Work::Expr(Role::Used, &x.value)),
+        Prop::Assign(x) => walk.push(Work::Expr(Role::Used, &x.value)),
+        Prop::Getter(x) => getter(walk, x),
+        Prop::Setter(x) => setter(walk, x),
+        Prop::Method(x) => {
+            method(walk, &x.function)?;
+            key(walk, &x.key)
+        }
+    }
+}
+
+fn getter<'a>(walk: &mut Walk<'a>, x: &'a GetterProp) -> Result<(), AllocError>
+    ensures { OnOk result (walk.new ≡ events used (view_getter_prop x.now) walk.old) }
+{
+    body(walk, &x.body)?;
+    enter_accessor(walk, x.span, &x.body)?;
+    key(walk, &x.key)
+}
+
+fn setter<'a>(walk: &mut Walk<'a>, x: &'a SetterProp) -> Result<(), AllocError>
+    ensures { OnOk result (walk.new ≡ events used (view_setter_prop x.now) walk.old) }
+{
+    body(walk, &x.body)?;
+    walk.push(Work::Pattern(
+        Role::Declared(Binding::Parameter, false),
+        &x.param,
+    ))?;
+    enter_accessor(walk, x.span, &x.body)?;
+    key(walk, &x.key)
+}

@@ -1,0 +1,297 @@
+//! Statements and declarations.
+
+ghost use Rattle.std.specs.Prelude.{◌≡◌, ◌∷◌, false, map, OnOk};
+ghost use Rattle.ecma_events.specs.Event as event;
+ghost use Rattle.ecma_event_walk.specs.Events.{bare, binding_of, catch_binding, declared, events, head_binding, head_events, used, assigned};
+ghost use Rattle.ecma_events.specs.declared.event.Region.TheVariants as region;
+ghost use Rattle.swc_ecma_parser_ast.specs.Parts.{view_option};
+ghost use Rattle.swc_ecma_parser_ast.specs.View.{view_block_stmt, view_catch_clause, view_decl, view_declarator, view_for_head, view_for_in_stmt, view_for_of_stmt, view_for_stmt, view_pat, view_stmt, view_switch_case, view_switch_stmt, view_try_stmt, view_var_decl_or_expr};
+
+use crate::classes::named_class;
+use ecma_events::{Binding, Event, Region, Role};
+use crate::exprs::optional_expr;
+use crate::functions::{function_binding, named_function};
+use crate::patterns::pat;
+use crate::walk::Walk;
+use crate::work::Work;
+use std::alloc::AllocError;
+use swc_ecma_parser_ast::{
+    BlockStmt, CatchClause, Decl, ExprBox, ForHead, ForInStmt, ForOfStmt,
+    ForStmt, IfStmt, Pat, Span, Stmt, StmtBox, SwitchStmt, SwitchCase, TryStmt, VarDeclKind,
+    VarDeclOrExpr, VarDeclarator, WithStmt,
+};
+
+/// A role of names that are declared and not exported.
+pub(crate) fn declared(binding: Binding) -> Role
+    ensures { result ≡ declared binding }
+{
+    Role::Declared(binding, false)
+}
+
+/// A statement.
+pub(crate) fn stmt<'a>(walk: &mut Walk<'a>, x: &'a Stmt) -> Result<(), AllocError>
+    ensures { OnOk result (walk.new ≡ events used (view_stmt x.now) walk.old) }
+{
+    match x {
+        Stmt::Block(x) => block(walk, x),
+        Stmt::Empty(_) | Stmt::Debugger(_) | Stmt::Break(_) | Stmt::Continue(_) => Ok(()),
+        Stmt::With(x) => with(walk, x),
+        Stmt::Return(x) => optional_expr(walk, &x.arg),
+        Stmt::Labeled(x) => walk.push(Work::Stmt(&x.body)),
+        Stmt::If(x) => if_stmt(walk, x),
+        Stmt::Switch(x) => switch(walk, x),
+        Stmt::Throw(x) => walk.push(Work::Expr(Role::Used, &x.arg)),
+        Stmt::Try(x) => try_stmt(walk, x),
+        Stmt::While(x) => walk.two(Work::Expr(Role::Used, &x.test), Work::Stmt(&x.body)),
+        Stmt::DoWhile(x) => walk.two(Work::Stmt(&x.body), Work::Expr(Role::Used, &x.test)),
+        Stmt::For(x) => for_stmt(walk, x),
+        Stmt::ForIn(x) => for_in(walk, x),
+        Stmt::ForOf(x) => for_of(walk, x),
+        Stmt::Decl(x) => decl(walk, false, x),
+        Stmt::Expr(x) => walk.push(Work::Expr(Role::Used, &x.expr)),
+    }
+}
+
+/// A block.
+pub(crate) fn block<'a>(walk: &mut Walk<'a>, x: &'a BlockStmt) -> Result<(), AllocError>
+    ensures { OnOk result (walk.new ≡ events used (view_block_stmt x.now) walk.old) }
+{
+    walk.event(Event::Leave)?;
+    walk.two(
+        Work::Event(Event::Enter(Region::Block, x.span)),
+        Work::StmtList(&x.stmts),
+    )
+}
+
+fn with<'a>(walk: &mut Walk<'a>, x: &'a WithStmt) -> Result<(), AllocError>
+    ensures { OnOk result (walk.new ≡ events used (view_with_stmt x.now) walk.old) }
+{
+    walk.three(
+        Work::Event(Event::With(x.span)),
+        Work::Expr(Role::Used, &x.obj),
+        Work::Stmt(&x.body),
+    )
+}
+
+fn if_stmt<'a>(walk: &mut Walk<'a>, x: &'a IfStmt) -> Result<(), AllocError>
+    ensures { OnOk result (walk.new ≡ events used (view_if_stmt x.now) walk.old) }
+{
+    if let Some(alt) = &x.alt {
+        walk.push(Work::Stmt(alt))?;
+    }
+    walk.two(Work::Expr(Role::Used, &x.test), Work::Stmt(&x.cons))
+}
+
+fn switch<'a>(walk: &mut Walk<'a>, x: &'a SwitchStmt) -> Result<(), AllocError>
+    ensures { OnOk result (walk.new ≡ events used (view_switch_stmt x.now) walk.old) }
+{
+    walk.event(Event::Leave)?;
+    walk.three(
+        Work::Expr(Role::Used, &x.discriminant),
+        Work::Event(Event::Enter(Region::Switch, x.span)),
+        Work::Cases(x.cases.as_slice()),
+    )
+}
+
+/// A clause of a `switch`.
+pub(crate) fn case<'a>(walk: &mut Walk<'a>, x: &'a SwitchCase) -> Result<(), AllocError>
+    ensures { OnOk result (walk.new ≡ events used (view_switch_case x.now) walk.old) }
+{
+    walk.push(Work::StmtList(&x.cons))?;
+    optional_expr(walk, &x.test)
+}
+
+fn try_stmt<'a>(walk: &mut Walk<'a>, x: &'a TryStmt) -> Result<(), AllocError>
+    ensures { OnOk result (walk.new ≡ events used (view_try_stmt x.now) walk.old) }
+{
+    if let Some(finalizer) = &x.finalizer {
+        walk.push(Work::Block(finalizer))?;
+    }
+    if let Some(handler) = &x.handler {
+        walk.push(Work::Catch(handler))?;
+    }
+    walk.push(Work::Block(&x.block))
+}
+
+/// What a `catch` binds names as.
+fn catch_binding(x: &Pat) -> Binding
+    ensures { result ≡ catch_binding (view_pat x.now) }
+{
+    match x {
+        Pat::Ident(_) => Binding::CatchName,
+        _ => Binding::CatchPattern,
+    }
+}
+
+/// A `catch`.
+pub(crate) fn catch<'a>(walk: &mut Walk<'a>, x: &'a CatchClause) -> Result<(), AllocError>
+    ensures { OnOk result (walk.new ≡ events used (view_catch_clause x.now) walk.old) }
+{
+    walk.event(Event::Leave)?;
+    walk.push(Work::StmtList(&x.body.stmts))?;
+    if let Some(param) = &x.param {
+        walk.push(Work::Pattern(declared(catch_binding(param)), param))?;
+    }
+    walk.event(Event::Enter(Region::Catch, x.span))
+}
+
+/// What a declaration declares its names as.
+fn binding_of(kind: VarDeclKind) -> Binding
+    ensures { result ≡ binding_of kind }
+{
+    match kind {
+        VarDeclKind::Var => Binding::Var,
+        VarDeclKind::Let => Binding::Let,
+        VarDeclKind::Const => Binding::Const,
+    }
+}
+
+/// The same before `in` and `of`.
+fn head_binding(kind: VarDeclKind) -> Binding
+    ensures { result ≡ head_binding kind }
+{
+    match kind {
+        VarDeclKind::Var => Binding::Var,
+        VarDeclKind::Let | VarDeclKind::Const => Binding::Each,
+    }
+}
+
+/// A declaration, exported or not.
+pub(crate) fn decl<'a>(
+    walk: &mut Walk<'a>,
+    is_exported: bool,
+    x: &'a Decl,
+) -> Result<(), AllocError> {
+    match x {
+        Decl::Class(x) => {
+            named_class(walk, &x.ident, &x.class)?;
+            walk.name(Role::Declared(Binding::Class, is_exported), &x.ident)
+        }
+        Decl::Fn(x) => {
+            named_function(walk, &x.ident, &x.function)?;
+            let binding = function_binding(&x.function);
+            walk.name(Role::Declared(binding, is_exported), &x.ident)
+        }
+        Decl::Var(x) => {
+            walk.push(Work::Declarators(
+                Role::Declared(binding_of(x.kind), is_exported),
+                x.decls.as_slice(),
+            ))
+        }
+        Decl::Using(x) => {
+            walk.push(Work::Declarators(
+                Role::Declared(Binding::Using, is_exported),
+                x.decls.as_slice(),
+            ))
+        }
+    }
+}
+
+/// A variable with its initializer.
+pub(crate) fn declarator<'a>(
+    walk: &mut Walk<'a>,
+    role: Role,
+    x: &'a VarDeclarator,
+) -> Result<(), AllocError>
+    ensures { OnOk result (walk.new ≡ events role (view_declarator x.now) walk.old) }
+{
+    optional_expr(walk, &x.init)?;
+    bare(walk, role, x.span, &x.init)?;
+    walk.push(Work::Pattern(role, &x.name))
+}
+
+/// A `const` without initializer.
+fn bare<'a>(
+    walk: &mut Walk<'a>,
+    role: Role,
+    span: Span,
+    init: &'a Option<ExprBox>,
+) -> Result<(), AllocError>
+    ensures { OnOk result
+        (walk.new ≡ bare role span (view_option (λ b. b.node.tree) init.now) walk.old) }
+{
+    if let (Role::Declared(Binding::Const, _), None) = (role, init) {
+        return walk.event(Event::Bare(span));
+    }
+    Ok(())
+}
+
+fn for_stmt<'a>(walk: &mut Walk<'a>, x: &'a ForStmt) -> Result<(), AllocError>
+    ensures { OnOk result (walk.new ≡ events used (view_for_stmt x.now) walk.old) }
+{
+    walk.event(Event::Leave)?;
+    walk.push(Work::Stmt(&x.body))?;
+    optional_expr(walk, &x.update)?;
+    optional_expr(walk, &x.test)?;
+    init(walk, &x.init)?;
+    walk.event(Event::Enter(Region::Loop, x.span))
+}
+
+/// The first part of a `for`.
+fn init<'a>(walk: &mut Walk<'a>, x: &'a Option<VarDeclOrExpr>) -> Result<(), AllocError>
+    ensures { OnOk result
+        (walk.new ≡ events used (view_option view_var_decl_or_expr x.now) walk.old) }
+{
+    match x {
+        Some(VarDeclOrExpr::VarDecl(x)) => {
+            walk.push(Work::Declarators(
+                declared(binding_of(x.kind)),
+                x.decls.as_slice(),
+            ))
+        }
+        Some(VarDeclOrExpr::Expr(x)) => walk.push(Work::Expr(Role::Used, x)),
+        None => Ok(()),
+    }
+}
+
+/// What stands before `in` and `of`.
+fn head<'a>(walk: &mut Walk<'a>, x: &'a ForHead) -> Result<(), AllocError>
+    ensures { let h = view_for_head x.now in OnOk result
+        (walk.new ≡ head_events (events assigned h walk.old) h walk.old) }
+{
+    match x {
+        ForHead::VarDecl(x) => {
+            walk.push(Work::Declarators(
+                declared(head_binding(x.kind)),
+                x.decls.as_slice(),
+            ))
+        }
+        ForHead::UsingDecl(x) => {
+            walk.push(Work::Declarators(
+                declared(Binding::Using),
+                x.decls.as_slice(),
+            ))
+        }
+        ForHead::Pat(x) => pat(walk, Role::Assigned, x),
+    }
+}
+
+/// What a loop over values has.
+fn each<'a>(
+    walk: &mut Walk<'a>,
+    span: Span,
+    left: &'a ForHead,
+    right: &'a ExprBox,
+    body: &'a StmtBox,
+) -> Result<(), AllocError>
+    ensures { let h = view_for_head left.now in
+        let following = events used right.now.node.tree (events used body.now.node.tree (event.leave ∷ walk.old)) in OnOk result
+        (walk.new ≡ event.enter region.Loop span ∷ head_events (events assigned h following) h following) }
+{
+    walk.event(Event::Leave)?;
+    walk.two(Work::Expr(Role::Used, right), Work::Stmt(body))?;
+    head(walk, left)?;
+    walk.event(Event::Enter(Region::Loop, span))
+}
+
+fn for_in<'a>(walk: &mut Walk<'a>, x: &'a ForInStmt) -> Result<(), AllocError>
+    ensures { OnOk result (walk.new ≡ events used (view_for_in_stmt x.now) walk.old) }
+{
+    each(walk, x.span, &x.left, &x.right, &x.body)
+}
+
+fn for_of<'a>(walk: &mut Walk<'a>, x: &'a ForOfStmt) -> Result<(), AllocError>
+    ensures { OnOk result (walk.new ≡ events used (view_for_of_stmt x.now) walk.old) }
+{
+    each(walk, x.span, &x.left, &x.right, &x.body)
+}
