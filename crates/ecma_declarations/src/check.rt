@@ -49,11 +49,7 @@ fn binds_no_let(binding: Binding) -> bool
 }
 
 /// Tells `let` as a name.
-fn tell_let(
-    errors: &mut Vec<EarlyError>,
-    binding: Binding,
-    name: &Ident,
-) -> Result<(), AllocError>
+fn tell_let(errors: &mut Vec<EarlyError>, binding: Binding, name: &Ident) -> Result<(), AllocError>
     ensures { OnOk result
         (errors.new.items
         ≡ errors.old.items ++ rule.let_declared binding name.now.span name.now.sym) }
@@ -79,8 +75,8 @@ fn tell_twice(
     let Some(d) = earlier else {
         return Ok(());
     };
-    let are_functions =
-        matches!(binding, Binding::PlainFunction) && matches!(d.binding, Binding::PlainFunction);
+    let are_functions = matches!(binding, Binding::PlainFunction)
+        && matches!(d.binding, Binding::PlainFunction);
     if !is_strict && are_functions {
         return Ok(());
     }

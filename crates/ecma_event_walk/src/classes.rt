@@ -9,11 +9,11 @@ ghost use Rattle.swc_ecma_parser_ast.specs.View.{view_class, view_class_expr, vi
 ghost use Rattle.swc_ecma_parser_model.specs.Forms.{is_absent};
 ghost use Rattle.swc_ecma_parser_model.specs.Tree.{listed};
 
-use ecma_events::{Event, Region, Role};
 use crate::exprs::optional_expr;
 use crate::functions::optional_name;
 use crate::walk::Walk;
 use crate::work::Work;
+use ecma_events::{Event, Region, Role};
 use std::alloc::AllocError;
 use swc_ecma_parser_ast::{Class, ClassExpr, Ident};
 

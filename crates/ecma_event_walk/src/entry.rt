@@ -6,10 +6,10 @@ ghost use Rattle.ecma_event_walk.specs.Events.{events_of};
 ghost use Rattle.swc_ecma_parser_ast.specs.View.{view_module, view_program, view_script};
 
 use crate::directives::are_directed;
-use ecma_events::{Event, Region};
 use crate::run::finish;
 use crate::walk::Walk;
 use crate::work::Work;
+use ecma_events::{Event, Region};
 use std::alloc::{AllocError, Global};
 use swc_ecma_parser_ast::{Module, Program, Script, Span};
 

@@ -7,11 +7,11 @@ ghost use Rattle.swc_ecma_parser_ast.specs.Parts.{view_option};
 ghost use Rattle.swc_ecma_parser_ast.specs.View.{view_assign_expr, view_assign_target, view_callee, view_expr, view_unary_expr, view_call_expr, view_new_expr};
 
 use crate::classes::class_expr;
-use ecma_events::{Event, Role};
 use crate::functions::{arrow, function_expr};
 use crate::patterns::{array_pat, object_pat};
 use crate::walk::Walk;
 use crate::work::Work;
+use ecma_events::{Event, Role};
 use std::alloc::AllocError;
 use swc_ecma_parser_ast::{
     AssignExpr, AssignTarget, AssignTargetPat, CallExpr, Callee, Expr, ExprBox, MemberExpr,
@@ -33,11 +33,7 @@ pub(crate) fn optional_expr<'a>(
 }
 
 /// An expression in a role: that of the name that it may be.
-pub(crate) fn expr<'a>(
-    walk: &mut Walk<'a>,
-    role: Role,
-    expr: &'a Expr,
-) -> Result<(), AllocError>
+pub(crate) fn expr<'a>(walk: &mut Walk<'a>, role: Role, expr: &'a Expr) -> Result<(), AllocError>
     ensures { OnOk result (walk.new ≡ events role (view_expr expr.now) walk.old) }
 {
     match expr {

@@ -13,17 +13,14 @@ ghost use Rattle.swc_ecma_parser_model.specs.Tree as tree;
 ghost use Rattle.swc_ecma_parser_model.specs.Tree.{listed};
 
 use crate::directives::{are_plain, is_block_directed, is_body_directed};
-use ecma_events::{Binding, Code, CodeKind, Event, Region, Role};
 use crate::walk::Walk;
 use crate::work::Work;
+use ecma_events::{Binding, Code, CodeKind, Event, Region, Role};
 use std::alloc::AllocError;
 use swc_ecma_parser_ast::{ArrowExpr, BlockStmt, BlockStmtOrExpr, FnExpr, Function, Ident, Span};
 
 /// The body of a function, with its end.
-pub(crate) fn body<'a>(
-    walk: &mut Walk<'a>,
-    body: &'a Option<BlockStmt>,
-) -> Result<(), AllocError>
+pub(crate) fn body<'a>(walk: &mut Walk<'a>, body: &'a Option<BlockStmt>) -> Result<(), AllocError>
     ensures { OnOk result
         (walk.new
         ≡ event.body ∷ body_events (view_option view_block_stmt body.now) (event.leave ∷ walk.old)) }

@@ -8,11 +8,11 @@ ghost use Rattle.swc_ecma_parser_ast.specs.View.{view_default_decl, view_export_
 ghost use Rattle.swc_ecma_parser_model.specs.Tree.{trees};
 
 use crate::classes::class;
-use ecma_events::{Binding, Event, Role};
 use crate::functions::{function, function_binding, optional_name};
 use crate::stmts::{decl, declared, stmt};
 use crate::walk::Walk;
 use crate::work::Work;
+use ecma_events::{Binding, Event, Role};
 use std::alloc::AllocError;
 use swc_ecma_parser_ast::{
     DefaultDecl, ExportDefaultDecl, ExportDefaultExpr, ExportSpecifier, ImportSpecifier,
@@ -81,11 +81,7 @@ pub(crate) fn exports<'a>(
 }
 
 /// A name that is exported.
-fn export<'a>(
-    walk: &mut Walk<'a>,
-    is_local: bool,
-    x: &'a ExportSpecifier,
-) -> Result<(), AllocError>
+fn export<'a>(walk: &mut Walk<'a>, is_local: bool, x: &'a ExportSpecifier) -> Result<(), AllocError>
     ensures { OnOk result
         (walk.new ≡ specifier is_local (view_export_specifier x.now) walk.old) }
 {

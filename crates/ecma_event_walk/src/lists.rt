@@ -7,9 +7,9 @@ ghost use Rattle.swc_ecma_parser_ast.specs.Parts.{view_option};
 ghost use Rattle.swc_ecma_parser_ast.specs.View.{view_class_member, view_declarator, view_decorator, view_expr_or_spread, view_import_specifier, view_module_item, view_object_pat_prop, view_param, view_param_or_ts_param_prop, view_pat, view_stmt, view_switch_case};
 ghost use Rattle.swc_ecma_parser_model.specs.Tree.{trees};
 
-use ecma_events::Role;
 use crate::walk::Walk;
 use crate::work::Work;
+use ecma_events::Role;
 use std::alloc::AllocError;
 use swc_ecma_parser_ast::{
     ClassMember, Decorator, ExprBox, ExprOrSpread, ImportSpecifier, ModuleItem, ObjectPatProp,
@@ -27,7 +27,10 @@ pub(crate) fn exprs<'a>(walk: &mut Walk<'a>, parts: &'a [ExprBox]) -> Result<(),
 }
 
 /// Arguments.
-pub(crate) fn arguments<'a>(walk: &mut Walk<'a>, parts: &'a [ExprOrSpread]) -> Result<(), AllocError>
+pub(crate) fn arguments<'a>(
+    walk: &mut Walk<'a>,
+    parts: &'a [ExprOrSpread],
+) -> Result<(), AllocError>
     ensures { OnOk result (walk.new ≡ all_events used (trees (map view_expr_or_spread parts.now)) walk.old) }
 {
     match parts.split_first() {
@@ -97,7 +100,10 @@ pub(crate) fn items<'a>(walk: &mut Walk<'a>, parts: &'a [ModuleItem]) -> Result<
 }
 
 /// Names that an import binds.
-pub(crate) fn imports<'a>(walk: &mut Walk<'a>, parts: &'a [ImportSpecifier]) -> Result<(), AllocError>
+pub(crate) fn imports<'a>(
+    walk: &mut Walk<'a>,
+    parts: &'a [ImportSpecifier],
+) -> Result<(), AllocError>
     ensures { OnOk result (walk.new ≡ all_events (declared binding.Import) (trees (map view_import_specifier parts.now)) walk.old) }
 {
     match parts.split_first() {
@@ -107,7 +113,11 @@ pub(crate) fn imports<'a>(walk: &mut Walk<'a>, parts: &'a [ImportSpecifier]) -> 
 }
 
 /// Patterns.
-pub(crate) fn patterns<'a>(walk: &mut Walk<'a>, role: Role, parts: &'a [Pat]) -> Result<(), AllocError>
+pub(crate) fn patterns<'a>(
+    walk: &mut Walk<'a>,
+    role: Role,
+    parts: &'a [Pat],
+) -> Result<(), AllocError>
     ensures { OnOk result (walk.new ≡ all_events role (trees (map view_pat parts.now)) walk.old) }
 {
     match parts.split_first() {
@@ -117,7 +127,11 @@ pub(crate) fn patterns<'a>(walk: &mut Walk<'a>, role: Role, parts: &'a [Pat]) ->
 }
 
 /// Properties of a pattern.
-pub(crate) fn pat_properties<'a>(walk: &mut Walk<'a>, role: Role, parts: &'a [ObjectPatProp]) -> Result<(), AllocError>
+pub(crate) fn pat_properties<'a>(
+    walk: &mut Walk<'a>,
+    role: Role,
+    parts: &'a [ObjectPatProp],
+) -> Result<(), AllocError>
     ensures { OnOk result (walk.new ≡ all_events role (trees (map view_object_pat_prop parts.now)) walk.old) }
 {
     match parts.split_first() {
@@ -127,7 +141,11 @@ pub(crate) fn pat_properties<'a>(walk: &mut Walk<'a>, role: Role, parts: &'a [Ob
 }
 
 /// Variables.
-pub(crate) fn declarators<'a>(walk: &mut Walk<'a>, role: Role, parts: &'a [VarDeclarator]) -> Result<(), AllocError>
+pub(crate) fn declarators<'a>(
+    walk: &mut Walk<'a>,
+    role: Role,
+    parts: &'a [VarDeclarator],
+) -> Result<(), AllocError>
     ensures { OnOk result (walk.new ≡ all_events role (trees (map view_declarator parts.now)) walk.old) }
 {
     match parts.split_first() {
@@ -137,7 +155,10 @@ pub(crate) fn declarators<'a>(walk: &mut Walk<'a>, role: Role, parts: &'a [VarDe
 }
 
 /// Elements of an array, of which some may be left out.
-pub(crate) fn elements<'a>(walk: &mut Walk<'a>, parts: &'a [Option<ExprOrSpread>]) -> Result<(), AllocError>
+pub(crate) fn elements<'a>(
+    walk: &mut Walk<'a>,
+    parts: &'a [Option<ExprOrSpread>],
+) -> Result<(), AllocError>
     ensures { OnOk result (walk.new ≡ all_events used (trees (map (view_option view_expr_or_spread) parts.now)) walk.old) }
 {
     match parts.split_first() {
@@ -148,7 +169,11 @@ pub(crate) fn elements<'a>(walk: &mut Walk<'a>, parts: &'a [Option<ExprOrSpread>
 }
 
 /// Elements of a pattern, of which some may be left out.
-pub(crate) fn pat_elements<'a>(walk: &mut Walk<'a>, role: Role, parts: &'a [Option<PatBox>]) -> Result<(), AllocError>
+pub(crate) fn pat_elements<'a>(
+    walk: &mut Walk<'a>,
+    role: Role,
+    parts: &'a [Option<PatBox>],
+) -> Result<(), AllocError>
     ensures { OnOk result (walk.new ≡ all_events role (trees (map (view_option (λ b. b.node.tree)) parts.now)) walk.old) }
 {
     match parts.split_first() {
@@ -159,11 +184,17 @@ pub(crate) fn pat_elements<'a>(walk: &mut Walk<'a>, role: Role, parts: &'a [Opti
 }
 
 /// Parameters of a constructor.
-pub(crate) fn constructor_params<'a>(walk: &mut Walk<'a>, parts: &'a [ParamOrTsParamProp]) -> Result<(), AllocError>
+pub(crate) fn constructor_params<'a>(
+    walk: &mut Walk<'a>,
+    parts: &'a [ParamOrTsParamProp],
+) -> Result<(), AllocError>
     ensures { OnOk result (walk.new ≡ all_events (declared binding.Parameter) (trees (map view_param_or_ts_param_prop parts.now)) walk.old) }
 {
     match parts.split_first() {
-        Some((ParamOrTsParamProp::Param(x), rest)) => walk.two(Work::Param(x), Work::ConstructorParams(rest)),
+        Some((ParamOrTsParamProp::Param(x), rest)) => walk.two(
+            Work::Param(x),
+            Work::ConstructorParams(rest),
+        ),
         None => Ok(()),
     }
 }

@@ -8,12 +8,12 @@ ghost use Rattle.swc_ecma_parser_ast.specs.Parts.{view_option};
 ghost use Rattle.swc_ecma_parser_ast.specs.View.{view_auto_accessor, view_class_member, view_class_method, view_class_prop, view_constructor, view_key, view_private_method, view_private_prop, view_prop_name, view_static_block};
 
 use crate::directives::is_body_directed;
-use ecma_events::{Code, CodeKind, Event, Region};
 use crate::exprs::optional_expr;
 use crate::functions::{body, method};
 use crate::objects::key;
 use crate::walk::Walk;
 use crate::work::Work;
+use ecma_events::{Code, CodeKind, Event, Region};
 use std::alloc::AllocError;
 use swc_ecma_parser_ast::{
     AutoAccessor, ClassMember, ClassMethod, ClassProp, Constructor, ExprBox, Key, MethodKind,
@@ -65,11 +65,7 @@ fn is_prototype(x: &PropName) -> bool
 }
 
 /// What a static member must not be named.
-fn prototype<'a>(
-    walk: &mut Walk<'a>,
-    is_static: bool,
-    x: &'a PropName,
-) -> Result<(), AllocError>
+fn prototype<'a>(walk: &mut Walk<'a>, is_static: bool, x: &'a PropName) -> Result<(), AllocError>
     ensures { OnOk result (walk.new ≡ prototype is_static (view_prop_name x.now) walk.old) }
 {
     if is_static && is_prototype(x) {
@@ -94,11 +90,7 @@ fn private_method<'a>(walk: &mut Walk<'a>, x: &'a PrivateMethod) -> Result<(), A
 }
 
 /// The value of a field, in a region of its own.
-fn value<'a>(
-    walk: &mut Walk<'a>,
-    span: Span,
-    value: &'a Option<ExprBox>,
-) -> Result<(), AllocError>
+fn value<'a>(walk: &mut Walk<'a>, span: Span, value: &'a Option<ExprBox>) -> Result<(), AllocError>
     ensures { OnOk result
         (walk.new
         ≡ event.enter region.Field span

@@ -6,10 +6,10 @@ ghost use Rattle.swc_ecma_parser_ast.specs.View.{view_getter_prop, view_method_p
 ghost use Rattle.std.specs.Prelude.{map};
 ghost use Rattle.swc_ecma_parser_model.specs.Tree.{trees};
 
-use ecma_events::{Binding, CodeKind, Event, Role};
 use crate::functions::{body, enter_accessor, method};
 use crate::walk::Walk;
 use crate::work::Work;
+use ecma_events::{Binding, CodeKind, Event, Role};
 use std::alloc::AllocError;
 use swc_ecma_parser_ast::{GetterProp, Prop, PropName, PropOrSpread, SetterProp};
 
@@ -108,10 +108,7 @@ fn setter<'a>(walk: &mut Walk<'a>, x: &'a SetterProp) -> Result<(), AllocError>
     ensures { OnOk result (walk.new ≡ events used (view_setter_prop x.now) walk.old) }
 {
     body(walk, &x.body)?;
-    walk.push(Work::Pattern(
-        Role::Declared(Binding::Parameter, false),
-        &x.param,
-    ))?;
+    walk.push(Work::Pattern(Role::Declared(Binding::Parameter, false), &x.param))?;
     enter_accessor(walk, x.span, &x.body)?;
     key(walk, &x.key)
 }

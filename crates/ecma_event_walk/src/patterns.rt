@@ -4,10 +4,10 @@ ghost use Rattle.std.specs.Prelude.{◌≡◌, OnOk};
 ghost use Rattle.ecma_event_walk.specs.Events.{events};
 ghost use Rattle.swc_ecma_parser_ast.specs.View.{view_array_pat, view_object_pat, view_object_pat_prop, view_pat};
 
-use ecma_events::Role;
 use crate::exprs::optional_expr;
 use crate::walk::Walk;
 use crate::work::Work;
+use ecma_events::Role;
 use std::alloc::AllocError;
 use swc_ecma_parser_ast::{ArrayPat, ObjectPat, ObjectPatProp, Pat};
 

@@ -7,10 +7,10 @@ ghost use Rattle.ecma_event_walk.specs.Pending.{work_events};
 ghost use Rattle.ecma_events.specs.declared.event.Binding.TheVariants as binding;
 ghost use Rattle.swc_ecma_parser_ast.specs.View.{view_param};
 
-use ecma_events::{Binding, Event, Role};
 use crate::walk::Walk;
 use crate::work::Work;
 use crate::{exprs, items, lists, members, objects, patterns, stmts};
+use ecma_events::{Binding, Event, Role};
 use std::alloc::AllocError;
 use swc_ecma_parser_ast::{ExprBox, Param, PatBox, StmtBox, StmtList};
 

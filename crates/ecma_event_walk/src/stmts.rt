@@ -8,17 +8,17 @@ ghost use Rattle.swc_ecma_parser_ast.specs.Parts.{view_option};
 ghost use Rattle.swc_ecma_parser_ast.specs.View.{view_block_stmt, view_catch_clause, view_decl, view_declarator, view_for_head, view_for_in_stmt, view_for_of_stmt, view_for_stmt, view_pat, view_stmt, view_switch_case, view_switch_stmt, view_try_stmt, view_var_decl_or_expr};
 
 use crate::classes::named_class;
-use ecma_events::{Binding, Event, Region, Role};
 use crate::exprs::optional_expr;
 use crate::functions::{function_binding, named_function};
 use crate::patterns::pat;
 use crate::walk::Walk;
 use crate::work::Work;
+use ecma_events::{Binding, Event, Region, Role};
 use std::alloc::AllocError;
 use swc_ecma_parser_ast::{
-    BlockStmt, CatchClause, Decl, ExprBox, ForHead, ForInStmt, ForOfStmt,
-    ForStmt, IfStmt, Pat, Span, Stmt, StmtBox, SwitchStmt, SwitchCase, TryStmt, VarDeclKind,
-    VarDeclOrExpr, VarDeclarator, WithStmt,
+    BlockStmt, CatchClause, Decl, ExprBox, ForHead, ForInStmt, ForOfStmt, ForStmt, IfStmt, Pat,
+    Span, Stmt, StmtBox, SwitchCase, SwitchStmt, TryStmt, VarDeclKind, VarDeclOrExpr,
+    VarDeclarator, WithStmt,
 };
 
 /// A role of names that are declared and not exported.
@@ -234,10 +234,7 @@ fn init<'a>(walk: &mut Walk<'a>, x: &'a Option<VarDeclOrExpr>) -> Result<(), All
 {
     match x {
         Some(VarDeclOrExpr::VarDecl(x)) => {
-            walk.push(Work::Declarators(
-                declared(binding_of(x.kind)),
-                x.decls.as_slice(),
-            ))
+            walk.push(Work::Declarators(declared(binding_of(x.kind)), x.decls.as_slice()))
         }
         Some(VarDeclOrExpr::Expr(x)) => walk.push(Work::Expr(Role::Used, x)),
         None => Ok(()),
@@ -251,16 +248,10 @@ fn head<'a>(walk: &mut Walk<'a>, x: &'a ForHead) -> Result<(), AllocError>
 {
     match x {
         ForHead::VarDecl(x) => {
-            walk.push(Work::Declarators(
-                declared(head_binding(x.kind)),
-                x.decls.as_slice(),
-            ))
+            walk.push(Work::Declarators(declared(head_binding(x.kind)), x.decls.as_slice()))
         }
         ForHead::UsingDecl(x) => {
-            walk.push(Work::Declarators(
-                declared(Binding::Using),
-                x.decls.as_slice(),
-            ))
+            walk.push(Work::Declarators(declared(Binding::Using), x.decls.as_slice()))
         }
         ForHead::Pat(x) => pat(walk, Role::Assigned, x),
     }

@@ -4,8 +4,8 @@ ghost use Rattle.std.specs.Prelude.{◌≡◌, ◌∷◌, [], List, OnOk, MatchO
 ghost use Rattle.ecma_event_walk.specs.Pending.{pending, work_events};
 ghost use Rattle.ecma_events.specs.Event.{event_of};
 
-use ecma_events::{Event, Role};
 use crate::work::Work;
+use ecma_events::{Event, Role};
 use std::alloc::{AllocError, Global};
 use std::collections::VecDeque;
 use std::marker::Model;

@@ -1,0 +1,60 @@
+//! Scripts, modules and programs.
+
+ghost use Rattle.std.specs.Prelude.{◌≡◌, map, IfOk};
+ghost use Rattle.std.specs.List.{IsPermutation};
+ghost use Rattle.std.specs.List.Sorted.{IsNonDecreasingBy};
+ghost use Rattle.ecma_early.specs.Early.{early_of, found_in, place};
+ghost use Rattle.ecma_events.specs.Event.{event_of};
+ghost use Rattle.swc_ecma_parser_ast.specs.View.{view_module, view_program, view_script};
+
+use ecma_contexts::context_errors;
+use ecma_declarations::declaration_errors;
+use ecma_event_walk::{module_events, script_events};
+use ecma_events::{EarlyError, Event};
+use std::alloc::{AllocError, Global};
+use swc_ecma_parser_ast::{Module, Program, Script};
+
+/// What is wrong by the events of a tree, in the order of places.
+fn in_order(alloc: Global, events: &[Event<'_>]) -> Result<Vec<EarlyError>, AllocError>
+    ensures errors { IfOk result
+        (λ r. IsPermutation (found_in (map event_of events.now)) r.items) }
+    ensures order { IfOk result (λ r. IsNonDecreasingBy place r.items) }
+{
+    let mut errors = declaration_errors(alloc, events)?;
+    let further = context_errors(alloc, events)?;
+    errors.extend_from_slice(further.as_slice())?;
+    errors.sort_by_key(|e| e.span.lo.0)?;
+    Ok(errors)
+}
+
+/// The early errors of a script that the parser does not look for: exactly `early_of` its tree, each as often as it has it, in the order of
+/// places. It fails only where memory runs out.
+pub fn early_script(alloc: Global, script: &Script) -> Result<Vec<EarlyError>, AllocError>
+    ensures errors { IfOk result (λ r. IsPermutation (early_of (view_script script.now)) r.items) }
+    ensures order { IfOk result (λ r. IsNonDecreasingBy place r.items) }
+{
+    let events = script_events(alloc, script)?;
+    in_order(alloc, events.as_slice())
+}
+
+/// The same of a module.
+pub fn early_module(alloc: Global, module: &Module) -> Result<Vec<EarlyError>, AllocError>
+    ensures errors { IfOk result
+        (λ r. IsPermutation (early_of (view_module «module».now)) r.items) }
+    ensures order { IfOk result (λ r. IsNonDecreasingBy place r.items) }
+{
+    let events = module_events(alloc, module)?;
+    in_order(alloc, events.as_slice())
+}
+
+/// The same of a script or a module.
+pub fn early(alloc: Global, program: &Program) -> Result<Vec<EarlyError>, AllocError>
+    ensures errors { IfOk result
+        (λ r. IsPermutation (early_of (view_program program.now)) r.items) }
+    ensures order { IfOk result (λ r. IsNonDecreasingBy place r.items) }
+{
+    match program {
+        Program::Module(x) => early_module(alloc, x),
+        Program::Script(x) => early_script(alloc, x),
+    }
+}
