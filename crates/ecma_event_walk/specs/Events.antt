@@ -38,9 +38,12 @@ abbrev pub directed : Trees → Bool
 directed none = false
 directed (also t ts) = is_use_strict t || (is_string_statement t && directed ts)
 
+abbrev pub are_directed : Tree → Bool
+are_directed (tree.list ts) = directed ts
+are_directed _ = false
+
 abbrev pub is_directed : Tree → Bool
-is_directed (tree.list ts) = directed ts
-is_directed (tree.block s (tree.list ts)) = directed ts
+is_directed (tree.block s stmts) = are_directed stmts
 is_directed _ = false
 
 abbrev pub is_function : CodeKind → Bool
@@ -261,7 +264,7 @@ abbrev mutual
   events r (tree.import_named s name imported) rest = events r name rest
   events r (tree.import_default s name) rest = events r name rest
   events r (tree.import_namespace s name) rest = events r name rest
-  events r (tree.export_decl s d) rest = exported_events d rest
+  events r (tree.export_decl s d) rest = declared_events true d rest
   events r (tree.export_named s (tree.list names) src attributes) rest = specifiers (is_absent src) names rest
   events r (tree.export_named s names src attributes) rest = rest
   events r (tree.export_default_decl s d) rest = event.export_default s ∷ default_events d rest
@@ -271,7 +274,7 @@ abbrev mutual
   events r (tree.export_default name) rest = rest
   events r (tree.export_specifier s orig name) rest = rest
   -- wholes
-  events r (tree.script s body shebang) rest = event.enter (region.Script (is_directed body)) s ∷ events used body (event.leave ∷ rest)
+  events r (tree.script s body shebang) rest = event.enter (region.Script (are_directed body)) s ∷ events used body (event.leave ∷ rest)
   events r (tree.module_program s body shebang) rest = event.enter region.Module s ∷ events used body (event.leave ∷ rest)
 
   pub all_events : Role → Trees → List Event → List Event
@@ -328,13 +331,14 @@ abbrev mutual
   head_events plain (tree.using s is_await ds) rest = events (declared binding.Using) ds rest
   head_events plain _ rest = plain
 
-  -- what is declared and exported
-  pub exported_events : Tree → List Event → List Event
-  exported_events (tree.class_decl name body) rest = named (role.Declared binding.Class true) name (class_events name body rest)
-  exported_events (tree.fn_decl name fn) rest = named (role.Declared (function_binding fn) true) name (function_events kind.Function name fn rest)
-  exported_events (tree.var s k ds) rest = events (role.Declared (binding_of k) true) ds rest
-  exported_events (tree.using s is_await ds) rest = events (role.Declared binding.Using true) ds rest
-  exported_events _ rest = rest
+  -- what is declared, exported or not
+  pub declared_events : (is_exported : Bool) → Tree → List Event → List Event
+  declared_events is_exported (tree.class_decl name body) rest = named (role.Declared binding.Class is_exported) name (class_events name body rest)
+  declared_events is_exported (tree.fn_decl name fn) rest =
+      named (role.Declared (function_binding fn) is_exported) name (function_events kind.Function name fn rest)
+  declared_events is_exported (tree.var s k ds) rest = events (role.Declared (binding_of k) is_exported) ds rest
+  declared_events is_exported (tree.using s is_await ds) rest = events (role.Declared binding.Using is_exported) ds rest
+  declared_events is_exported _ rest = rest
 
   -- what is declared and exported by default, where it has a name
   pub default_events : Tree → List Event → List Event

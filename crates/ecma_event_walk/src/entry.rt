@@ -1,6 +1,8 @@
 //! Scripts, modules and programs: a tree goes in, and its events come out.
 
-ghost use Rattle.std.specs.Prelude.{◌≡◌, map, IfOk};
+ghost use Rattle.std.specs.Prelude.{◌≡◌, ◌∷◌, [], map, IfOk};
+ghost use Rattle.ecma_event_walk.specs.Pending.{work_events};
+ghost use Rattle.ecma_events.specs.Event as event;
 ghost use Rattle.ecma_events.specs.Event.{event_of};
 ghost use Rattle.ecma_event_walk.specs.Events.{events_of};
 ghost use Rattle.swc_ecma_parser_ast.specs.View.{view_module, view_program, view_script};

@@ -2,9 +2,9 @@
 
 ghost use Rattle.std.specs.Prelude.{◌≡◌, ◌∷◌, OnOk, map};
 ghost use Rattle.ecma_events.specs.Event as event;
-ghost use Rattle.ecma_event_walk.specs.Events.{deleted, events, used, operated};
+ghost use Rattle.ecma_event_walk.specs.Events.{assigned, deleted, events, key_events, used};
 ghost use Rattle.swc_ecma_parser_ast.specs.Parts.{view_option};
-ghost use Rattle.swc_ecma_parser_ast.specs.View.{view_assign_expr, view_assign_target, view_callee, view_expr, view_unary_expr, view_call_expr, view_new_expr};
+ghost use Rattle.swc_ecma_parser_ast.specs.View.{view_assign_expr, view_assign_target, view_call_expr, view_callee, view_expr, view_member_expr, view_member_prop, view_new_expr, view_super_prop_expr, view_unary_expr};
 
 use crate::classes::class_expr;
 use crate::functions::{arrow, function_expr};

@@ -2,13 +2,13 @@
 
 ghost use Rattle.std.specs.Prelude.{◌≡◌, ◌∷◌, false, map, OnOk};
 ghost use Rattle.ecma_events.specs.Event as event;
-ghost use Rattle.ecma_event_walk.specs.Events.{body_events, code_of, declared, events, function_binding, function_events, is_directed, named, used};
+ghost use Rattle.ecma_event_walk.specs.Events.{arrow_events, body_events, code_of, declared, events, function_binding, function_events, is_directed, named, used};
 ghost use Rattle.ecma_events.specs.declared.event.Binding.TheVariants as binding;
 ghost use Rattle.ecma_events.specs.declared.event.CodeKind.TheVariants as kind;
 ghost use Rattle.ecma_events.specs.declared.event.Region.TheVariants as region;
 ghost use Rattle.ecma_events.specs.declared.event.Role.TheVariants as role;
 ghost use Rattle.swc_ecma_parser_ast.specs.Parts.{view_option};
-ghost use Rattle.swc_ecma_parser_ast.specs.View.{view_arrow_expr, view_block_stmt, view_decorator, view_fn_expr, view_function, view_ident, view_param};
+ghost use Rattle.swc_ecma_parser_ast.specs.View.{view_arrow_expr, view_block_stmt, view_block_stmt_or_expr, view_decorator, view_fn_expr, view_function, view_ident, view_param};
 ghost use Rattle.swc_ecma_parser_model.specs.Tree as tree;
 ghost use Rattle.swc_ecma_parser_model.specs.Tree.{listed};
 

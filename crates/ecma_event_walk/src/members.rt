@@ -17,7 +17,7 @@ use ecma_events::{Code, CodeKind, Event, Region};
 use std::alloc::AllocError;
 use swc_ecma_parser_ast::{
     AutoAccessor, ClassMember, ClassMethod, ClassProp, Constructor, ExprBox, Key, MethodKind,
-    PrivateMethod, PrivateProp, PropName, Span, StaticBlock,
+    PrivateMethod, PrivateProp, PropName, Span, Spanned, StaticBlock,
 };
 
 /// A member.

@@ -1,8 +1,9 @@
 //! Objects and keys.
 
 ghost use Rattle.std.specs.Prelude.{◌≡◌, ◌∷◌, OnOk};
-ghost use Rattle.ecma_event_walk.specs.Events.{events, is_proto, key_events, property_events, used};
-ghost use Rattle.swc_ecma_parser_ast.specs.View.{view_getter_prop, view_method_prop, view_prop, view_prop_name, view_prop_or_spread, view_setter_prop};
+ghost use Rattle.ecma_event_walk.specs.Events.{events, is_proto, key_events, property_events, second_proto, used};
+ghost use Rattle.swc_ecma_parser_model.specs.Forms.{is_proto_key};
+ghost use Rattle.swc_ecma_parser_ast.specs.View.{view_getter_prop, view_prop, view_prop_name, view_prop_or_spread, view_setter_prop};
 ghost use Rattle.std.specs.Prelude.{map};
 ghost use Rattle.swc_ecma_parser_model.specs.Tree.{trees};
 
@@ -34,16 +35,53 @@ fn is_proto_name(x: &PropName) -> bool
     }
 }
 
+/// Whether it is `__proto__: value`.
+fn is_proto_prop(x: &Prop) -> bool
+    ensures { result ≡ is_proto (view_prop x.now) }
+{
+    match x {
+        Prop::KeyValue(x) => is_proto_name(&x.key),
+        Prop::Shorthand(_)
+        | Prop::Assign(_)
+        | Prop::Getter(_)
+        | Prop::Setter(_)
+        | Prop::Method(_) => false,
+    }
+}
+
 /// Whether a property is `__proto__: value`.
 fn is_proto(x: &PropOrSpread) -> bool
     ensures { result ≡ is_proto (view_prop_or_spread x.now) }
 {
     match x {
         PropOrSpread::Spread(_) => false,
-        PropOrSpread::Prop(x) => match &**x {
-            Prop::KeyValue(x) => is_proto_name(&x.key),
-            _ => false,
-        },
+        PropOrSpread::Prop(x) => is_proto_prop(x),
+    }
+}
+
+/// Tells a property that is a second `__proto__: value`.
+fn second_prop<'a>(walk: &mut Walk<'a>, seen: bool, x: &'a Prop) -> Result<(), AllocError>
+    ensures { OnOk result (walk.new ≡ second_proto seen (view_prop x.now) walk.old) }
+{
+    match x {
+        Prop::KeyValue(x) if seen && is_proto_name(&x.key) => {
+            walk.event(Event::SecondProto(x.span))
+        }
+        _ => Ok(()),
+    }
+}
+
+/// Tells a part of an object that is a second `__proto__: value`.
+fn second_proto<'a>(
+    walk: &mut Walk<'a>,
+    seen: bool,
+    x: &'a PropOrSpread,
+) -> Result<(), AllocError>
+    ensures { OnOk result (walk.new ≡ second_proto seen (view_prop_or_spread x.now) walk.old) }
+{
+    match x {
+        PropOrSpread::Spread(_) => Ok(()),
+        PropOrSpread::Prop(x) => second_prop(walk, seen, x),
     }
 }
 
@@ -59,12 +97,9 @@ pub(crate) fn properties<'a>(
 {
     match parts.split_first() {
         Some((x, rest)) => {
-            let proto = is_proto(x);
-            walk.two(Work::Property(x), Work::Properties(seen || proto, rest))?;
-            if seen && proto {
-                return walk.event(Event::SecondProto(x.span()));
-            }
-            Ok(())
+            let following = Work::Properties(seen || is_proto(x), rest);
+            walk.two(Work::Property(x), following)?;
+            second_proto(walk, seen, x)
         }
         None => Ok(()),
     }

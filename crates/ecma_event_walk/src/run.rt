@@ -1,6 +1,6 @@
 //! From the stack to the events, step by step.
 
-ghost use Rattle.std.specs.Prelude.{◌≡◌, ◌∷◌, ◌++◌, map, OnOk};
+ghost use Rattle.std.specs.Prelude.{◌≡◌, ◌∷◌, ◌++◌, map, IfOk, OnOk};
 ghost use Rattle.ecma_events.specs.Event.{event_of};
 ghost use Rattle.ecma_event_walk.specs.Events.{declared, deleted, events, used};
 ghost use Rattle.ecma_event_walk.specs.Pending.{work_events};

@@ -2,10 +2,10 @@
 
 ghost use Rattle.std.specs.Prelude.{◌≡◌, ◌∷◌, false, map, OnOk};
 ghost use Rattle.ecma_events.specs.Event as event;
-ghost use Rattle.ecma_event_walk.specs.Events.{bare, binding_of, catch_binding, declared, events, head_binding, head_events, used, assigned};
+ghost use Rattle.ecma_event_walk.specs.Events.{bare, binding_of, declared_events, catch_binding, declared, events, head_binding, head_events, used, assigned};
 ghost use Rattle.ecma_events.specs.declared.event.Region.TheVariants as region;
 ghost use Rattle.swc_ecma_parser_ast.specs.Parts.{view_option};
-ghost use Rattle.swc_ecma_parser_ast.specs.View.{view_block_stmt, view_catch_clause, view_decl, view_declarator, view_for_head, view_for_in_stmt, view_for_of_stmt, view_for_stmt, view_pat, view_stmt, view_switch_case, view_switch_stmt, view_try_stmt, view_var_decl_or_expr};
+ghost use Rattle.swc_ecma_parser_ast.specs.View.{view_block_stmt, view_catch_clause, view_decl, view_declarator, view_for_head, view_for_in_stmt, view_for_of_stmt, view_for_stmt, view_if_stmt, view_pat, view_stmt, view_switch_case, view_switch_stmt, view_try_stmt, view_var_decl_or_expr, view_with_stmt};
 
 use crate::classes::named_class;
 use crate::exprs::optional_expr;
@@ -161,7 +161,10 @@ pub(crate) fn decl<'a>(
     walk: &mut Walk<'a>,
     is_exported: bool,
     x: &'a Decl,
-) -> Result<(), AllocError> {
+) -> Result<(), AllocError>
+    ensures { OnOk result
+        (walk.new ≡ declared_events is_exported (view_decl x.now) walk.old) }
+{
     match x {
         Decl::Class(x) => {
             named_class(walk, &x.ident, &x.class)?;
