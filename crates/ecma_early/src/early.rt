@@ -21,8 +21,8 @@ fn in_order(alloc: Global, events: &[Event<'_>]) -> Result<Vec<EarlyError>, Allo
     ensures order { IfOk result (λ r. IsNonDecreasingBy place r.items) }
 {
     let mut errors = declaration_errors(alloc, events)?;
-    let further = context_errors(alloc, events)?;
-    errors.extend_from_slice(further.as_slice())?;
+    let mut further = context_errors(alloc, events)?;
+    errors.append(&mut further)?;
     errors.sort_by_key(|e| e.span.lo.0)?;
     Ok(errors)
 }
