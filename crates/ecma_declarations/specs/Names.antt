@@ -21,4 +21,4 @@ or_earlier None earlier = earlier
 -- what declared a name last
 abbrev pub find : Text → List Named → Option Found
 find text [] = None
-find text (x ∷ xs) = or_earlier (find text xs) (if bytes_eq text x.text then Some (found x) else None)
+find text (x ∷ xs) = or_earlier (find text xs) (if bytes_eq x.text text then Some (found x) else None)

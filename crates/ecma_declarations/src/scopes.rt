@@ -1,7 +1,7 @@
 //! The scopes that are open.
 
-ghost use Rattle.std.specs.Prelude.{◌≡◌, OnOk};
-ghost use Rattle.ecma_declarations.specs.Declarations.{declared, entered, has_vars, hoists, is_var, left, scope_of, start, turns_strict};
+ghost use Rattle.std.specs.Prelude.{◌≡◌, [], OnOk};
+ghost use Rattle.ecma_declarations.specs.Declarations.{declared, entered, first_or, has_vars, hoists, is_var, left, rest_of, scope_of, start, turns_strict};
 
 use crate::names::Names;
 use ecma_events::{Binding, Region};
@@ -166,19 +166,38 @@ impl<'a> Scopes<'a> {
         Ok(())
     }
 
+    /// Goes back to the names of `var` of the function around.
+    #[tactic(auto, using(crate::proofs::Found::none_left))]
+    fn leave_vars(&mut self)
+        ensures { let c = self.old in self.new
+            ≡ record c { vars = first_or [] c.outer; outer = rest_of c.outer } }
+    {
+        let outer = match self.outer.pop_front() {
+            Some(vars) => vars,
+            None => Names::new(self.alloc),
+        };
+        let _left = mem::replace(&mut self.vars, outer);
+    }
+
+    /// Goes back to the scope around.
+    #[tactic(auto, using(crate::proofs::Found::none_left))]
+    fn leave_scope(&mut self)
+        ensures { let c = self.old in self.new
+            ≡ record c { here = first_or c.here c.around; around = rest_of c.around } }
+    {
+        if let Some(scope) = self.around.pop_front() {
+            let _left = mem::replace(&mut self.here, scope);
+        }
+    }
+
     /// Closes the innermost scope.
     pub(crate) fn leave(&mut self)
         ensures { self.new ≡ left self.old }
     {
         if has_vars(self.here.region) {
-            self.vars = match self.outer.pop_front() {
-                Some(vars) => vars,
-                None => Names::new(self.alloc),
-            };
+            self.leave_vars();
         }
-        if let Some(scope) = self.around.pop_front() {
-            self.here = scope;
-        }
+        self.leave_scope();
     }
 
     /// Declares a name.
