@@ -59,10 +59,18 @@ fn tell_word(
 fn has_own(binding: Binding) -> bool
     ensures { result ≡ rule.has_own binding }
 {
-    matches!(
-        binding,
-        Binding::Class | Binding::Function | Binding::PlainFunction
-    )
+    match binding {
+        Binding::Class | Binding::Function | Binding::PlainFunction => true,
+        Binding::Var
+        | Binding::Let
+        | Binding::Const
+        | Binding::Each
+        | Binding::Using
+        | Binding::Parameter
+        | Binding::CatchName
+        | Binding::CatchPattern
+        | Binding::Import => false,
+    }
 }
 
 /// Tells what is wrong with a name that is bound.
@@ -139,7 +147,15 @@ fn tell(errors: &mut Vec<EarlyError>, c: Context, event: &Event<'_>) -> Result<(
         Event::Yield(span) => tell_if(errors, c.bans_yield, EarlyErrorKind::MisplacedYield, span),
         Event::Prototype(span) => tell_if(errors, true, EarlyErrorKind::StaticPrototype, span),
         Event::SecondProto(span) => tell_if(errors, true, EarlyErrorKind::SecondProto, span),
-        _ => Ok(()),
+        Event::Enter(_, _)
+        | Event::Leave
+        | Event::Body
+        | Event::Bare(_)
+        | Event::PrivateMember(_, _, _)
+        | Event::PrivateUse(_)
+        | Event::Export(_, _)
+        | Event::ExportDefault(_)
+        | Event::ExportLocal(_, _) => Ok(()),
     }
 }
 
@@ -151,7 +167,22 @@ fn follow(contexts: &mut Contexts, event: &Event<'_>) -> Result<(), AllocError>
         Event::Enter(region, _) => contexts.enter(region)?,
         Event::Body => contexts.enter_body(),
         Event::Leave => contexts.leave(),
-        _ => {}
+        Event::Name(_, _)
+        | Event::Bare(_)
+        | Event::DeleteName(_)
+        | Event::DeletePrivate(_)
+        | Event::With(_)
+        | Event::SuperCall(_)
+        | Event::SuperMember(_)
+        | Event::Await(_)
+        | Event::Yield(_)
+        | Event::PrivateMember(_, _, _)
+        | Event::PrivateUse(_)
+        | Event::Prototype(_)
+        | Event::SecondProto(_)
+        | Event::Export(_, _)
+        | Event::ExportDefault(_)
+        | Event::ExportLocal(_, _) => {}
     }
     Ok(())
 }

@@ -58,6 +58,15 @@ fn in_function(c: Context, code: Code, super_calls: bool, super_members: bool) -
     }
 }
 
+fn is_arrow(kind: CodeKind) -> bool
+    ensures { result ≡ rule.is_arrow kind }
+{
+    match kind {
+        CodeKind::Arrow => true,
+        CodeKind::Function | CodeKind::Method | CodeKind::Constructor => false,
+    }
+}
+
 fn in_code(c: Context, code: Code) -> Context
     ensures { result ≡ rule.in_code c code.kind code }
 {
@@ -116,7 +125,7 @@ fn inside(c: Context, region: Region) -> Context
         }
         Region::Function(code) => {
             Context {
-                is_arrow: matches!(code.kind, CodeKind::Arrow),
+                is_arrow: is_arrow(code.kind),
                 is_async: code.is_async,
                 ..in_code(c, code)
             }

@@ -1,5 +1,5 @@
 -- What is found once a name is added, and what is left of a stack.
-use Rattle.std.proofs.Common.{◌≡◌, ℕ, Bool, true, false, List, [], ◌∷◌, ◌++◌, Option, Some, None, if◌then◌else◌, cond, map, length, refl, ap, ◌∙◌, sym}
+use Rattle.std.proofs.Common.{◌≡◌, ℕ, Bool, true, false, List, [], ◌∷◌, ◌++◌, Option, Some, None, if◌then◌else◌, cond, map, length, refl, ap, ◌∙◌, sym, arith}
 use Rattle.std.specs.Map.{update}
 use Rattle.std.specs.Str.{bytes_eq}
 use Rattle.swc_ecma_parser_model.specs.Tree.{Text}
@@ -37,4 +37,4 @@ added q f bs x new xs ys e p i s t u =
 
 pub none_left : {X : Type 0} (xs : List X) → length xs ≡ 0 → xs ≡ []
 none_left [] h = refl
-none_left (x ∷ xs) h = absurd (suc≢zero h)
+none_left (x ∷ xs) h = absurd (omega arith)

@@ -4,6 +4,7 @@ ghost use Rattle.std.specs.Prelude.{◌≡◌, ◌∷◌, ◌++◌, ◌&&◌, no
 ghost use Rattle.ecma_declarations.specs.Declarations as rule;
 ghost use Rattle.ecma_declarations.specs.Declarations.{errors_of, next, told};
 ghost use Rattle.ecma_declarations.specs.Entries.{named};
+ghost use Rattle.ecma_events.specs.Event as event;
 ghost use Rattle.ecma_events.specs.Event.{event_of};
 
 use crate::names::{Entry, Found, Names};
@@ -198,6 +199,43 @@ fn tell_left(errors: &mut Vec<EarlyError>, scopes: &Scopes<'_>) -> Result<(), Al
     tell_crossings(errors, here.start, scopes.vars(), here.names.entries())
 }
 
+/// Tells what is wrong at a name, and goes behind it.
+fn name<'a>(
+    errors: &mut Vec<EarlyError>,
+    scopes: &mut Scopes<'a>,
+    role: Role,
+    name: &'a Ident,
+) -> Result<(), AllocError>
+    ensures errors { OnOk result
+        (errors.new.items
+        ≡ errors.old.items ++ told scopes.old (event.name role name.now.span name.now.sym)) }
+    ensures scopes { OnOk result
+        (scopes.new ≡ next scopes.old (event.name role name.now.span name.now.sym)) }
+{
+    match role {
+        Role::Declared(binding, _) => {
+            tell_repeated(errors, scopes, binding, name)?;
+            scopes.declare(binding, name)
+        }
+        Role::Used | Role::Assigned | Role::Own => Ok(()),
+    }
+}
+
+/// Tells a `const` without initializer.
+fn tell_bare(
+    errors: &mut Vec<EarlyError>,
+    scopes: &Scopes<'_>,
+    span: Span,
+) -> Result<(), AllocError>
+    ensures { OnOk result
+        (errors.new.items ≡ errors.old.items ++ told scopes.now (event.bare span)) }
+{
+    if scopes.here().is_strict {
+        return Ok(());
+    }
+    tell(errors, EarlyErrorKind::MissingInitializer, span, None)
+}
+
 /// Tells what is wrong at an event, and goes behind it.
 fn step<'a>(
     errors: &mut Vec<EarlyError>,
@@ -215,17 +253,23 @@ fn step<'a>(
             scopes.leave();
             Ok(())
         }
-        Event::Name(Role::Declared(binding, _), name) => {
-            tell_repeated(errors, scopes, binding, name)?;
-            scopes.declare(binding, name)
-        }
-        Event::Bare(span) => {
-            if scopes.here().is_strict {
-                return Ok(());
-            }
-            tell(errors, EarlyErrorKind::MissingInitializer, span, None)
-        }
-        _ => Ok(()),
+        Event::Name(role, x) => name(errors, scopes, role, x),
+        Event::Bare(span) => tell_bare(errors, scopes, span),
+        Event::Body
+        | Event::DeleteName(_)
+        | Event::DeletePrivate(_)
+        | Event::With(_)
+        | Event::SuperCall(_)
+        | Event::SuperMember(_)
+        | Event::Await(_)
+        | Event::Yield(_)
+        | Event::PrivateMember(_, _, _)
+        | Event::PrivateUse(_)
+        | Event::Prototype(_)
+        | Event::SecondProto(_)
+        | Event::Export(_, _)
+        | Event::ExportDefault(_)
+        | Event::ExportLocal(_, _) => Ok(()),
     }
 }
 

@@ -82,7 +82,7 @@ is_const _ = false
 
 -- a `const` without initializer
 abbrev pub bare : Role → Span → (init : Tree) → List Event → List Event
-bare r s init rest = if is_const r && is_absent init then event.bare s ∷ rest else rest
+bare r s init rest = if is_absent init && is_const r then event.bare s ∷ rest else rest
 
 -- what `delete` is said of, in any number of parentheses
 abbrev pub deleted : Tree → List Event → List Event
@@ -113,7 +113,7 @@ is_proto (tree.key_value_prop s key value) = is_proto_key key
 is_proto _ = false
 
 abbrev pub second_proto : (seen : Bool) → Tree → List Event → List Event
-second_proto seen p rest = if seen && is_proto p then event.second_proto (span_of p) ∷ rest else rest
+second_proto seen p rest = if is_proto p && seen then event.second_proto (span_of p) ∷ rest else rest
 
 -- a name that is exported
 abbrev pub exported : Tree → List Event → List Event

@@ -15,7 +15,7 @@ use crate::walk::Walk;
 use crate::work::Work;
 use ecma_events::{Event, Region, Role};
 use std::alloc::AllocError;
-use swc_ecma_parser_ast::{Class, ClassExpr, Ident};
+use swc_ecma_parser_ast::{Class, ClassExpr, ExprBox, Ident};
 
 /// What a class has behind its name.
 fn inner<'a>(walk: &mut Walk<'a>, x: &'a Class) -> Result<(), AllocError>
@@ -29,6 +29,17 @@ fn inner<'a>(walk: &mut Walk<'a>, x: &'a Class) -> Result<(), AllocError>
     optional_expr(walk, &x.super_class)
 }
 
+/// Whether an expression that may be left out is there.
+#[tactic(auto, using(crate::proofs::Declared::held_stands))]
+fn is_there(x: &Option<ExprBox>) -> bool
+    ensures { result ≡ not (is_absent (view_option (λ b. b.node.tree) x.now)) }
+{
+    match x {
+        Some(_) => true,
+        None => false,
+    }
+}
+
 /// What a class has before its name: decorators, and its start.
 fn outer<'a>(walk: &mut Walk<'a>, x: &'a Class) -> Result<(), AllocError>
     ensures { OnOk result
@@ -37,9 +48,10 @@ fn outer<'a>(walk: &mut Walk<'a>, x: &'a Class) -> Result<(), AllocError>
         (event.enter (region.Class (not (is_absent (view_option (λ b. b.node.tree) x.now.super_class)))) x.now.span
         ∷ walk.old)) }
 {
+    let is_derived = is_there(&x.super_class);
     walk.two(
         Work::Decorators(x.decorators.as_slice()),
-        Work::Event(Event::Enter(Region::Class(x.super_class.is_some()), x.span)),
+        Work::Event(Event::Enter(Region::Class(is_derived), x.span)),
     )
 }
 

@@ -4,7 +4,7 @@ ghost use Rattle.std.specs.Prelude.{◌≡◌, map};
 ghost use Rattle.ecma_event_walk.specs.Events.{directed, is_directed};
 ghost use Rattle.swc_ecma_parser_ast.specs.Parts.{view_option};
 ghost use Rattle.swc_ecma_parser_ast.specs.View.{view_block_stmt, view_param, view_stmt};
-ghost use Rattle.swc_ecma_parser_model.specs.Forms.{are_plain_params};
+ghost use Rattle.swc_ecma_parser_model.specs.Forms.{are_plain_params, is_plain_param};
 ghost use Rattle.swc_ecma_parser_model.specs.Tree.{trees};
 
 use swc_ecma_parser_ast::{BlockStmt, Param, Pat, Stmt};
@@ -44,15 +44,29 @@ pub(crate) fn is_body_directed(body: &Option<BlockStmt>) -> bool
     }
 }
 
+/// Whether a parameter is a plain name.
+fn is_plain(x: &Param) -> bool
+    ensures { result ≡ is_plain_param (view_param x.now) }
+{
+    match x.pat {
+        Pat::Ident(_) => true,
+        Pat::Array(_)
+        | Pat::Rest(_)
+        | Pat::Object(_)
+        | Pat::Assign(_)
+        | Pat::Invalid(_)
+        | Pat::Expr(_) => false,
+    }
+}
+
 /// Whether each parameter is a plain name.
 pub(crate) fn are_plain(params: &[Param]) -> bool
     ensures { result ≡ are_plain_params (trees (map view_param params.now)) }
 {
     for param in params {
-        if let Pat::Ident(_) = param.pat {
-            continue;
+        if !is_plain(param) {
+            return false;
         }
-        return false;
     }
     true
 }

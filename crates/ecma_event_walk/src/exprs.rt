@@ -33,6 +33,7 @@ pub(crate) fn optional_expr<'a>(
 }
 
 /// An expression in a role: that of the name that it may be.
+#[tactic(auto, using(crate::proofs::Declared::literal))]
 pub(crate) fn expr<'a>(walk: &mut Walk<'a>, role: Role, expr: &'a Expr) -> Result<(), AllocError>
     ensures { OnOk result (walk.new ≡ events role (view_expr expr.now) walk.old) }
 {
@@ -83,13 +84,19 @@ fn unary<'a>(walk: &mut Walk<'a>, x: &'a UnaryExpr) -> Result<(), AllocError>
     ensures { OnOk result (walk.new ≡ events used (view_unary_expr x.now) walk.old) }
 {
     walk.push(Work::Expr(Role::Used, &x.arg))?;
-    if let UnaryOp::Delete = x.op {
-        return walk.push(Work::Deleted(&x.arg));
+    match x.op {
+        UnaryOp::Delete => walk.push(Work::Deleted(&x.arg)),
+        UnaryOp::Minus
+        | UnaryOp::Plus
+        | UnaryOp::Bang
+        | UnaryOp::Tilde
+        | UnaryOp::TypeOf
+        | UnaryOp::Void => Ok(()),
     }
-    Ok(())
 }
 
 /// What `delete` is said of.
+#[tactic(auto, using(crate::proofs::Declared::literal_not_deleted))]
 pub(crate) fn delete<'a>(walk: &mut Walk<'a>, x: &'a Expr) -> Result<(), AllocError>
     ensures { OnOk result (walk.new ≡ deleted (view_expr x.now) walk.old) }
 {
@@ -100,7 +107,26 @@ pub(crate) fn delete<'a>(walk: &mut Walk<'a>, x: &'a Expr) -> Result<(), AllocEr
             MemberProp::PrivateName(_) => walk.event(Event::DeletePrivate(x.span)),
             MemberProp::Ident(_) | MemberProp::Computed(_) => Ok(()),
         },
-        _ => Ok(()),
+        Expr::This(_)
+        | Expr::Array(_)
+        | Expr::Object(_)
+        | Expr::Fn(_)
+        | Expr::Unary(_)
+        | Expr::Update(_)
+        | Expr::Bin(_)
+        | Expr::Assign(_)
+        | Expr::SuperProp(_)
+        | Expr::Cond(_)
+        | Expr::Call(_)
+        | Expr::New(_)
+        | Expr::Seq(_)
+        | Expr::Lit(_)
+        | Expr::Arrow(_)
+        | Expr::Class(_)
+        | Expr::Yield(_)
+        | Expr::MetaProp(_)
+        | Expr::Await(_)
+        | Expr::Invalid(_) => Ok(()),
     }
 }
 
@@ -161,6 +187,7 @@ fn call<'a>(walk: &mut Walk<'a>, x: &'a CallExpr) -> Result<(), AllocError>
     callee(walk, &x.callee)
 }
 
+#[tactic(auto, using(crate::proofs::Declared::as_expr_on_ok))]
 fn callee<'a>(walk: &mut Walk<'a>, x: &'a Callee) -> Result<(), AllocError>
     ensures { OnOk result (walk.new ≡ events used (view_callee x.now) walk.old) }
 {

@@ -2,7 +2,7 @@
 
 ghost use Rattle.std.specs.Prelude.{◌≡◌, ◌∷◌, false, map, OnOk};
 ghost use Rattle.ecma_events.specs.Event as event;
-ghost use Rattle.ecma_event_walk.specs.Events.{arrow_events, body_events, code_of, declared, events, function_binding, function_events, is_directed, named, used};
+ghost use Rattle.ecma_event_walk.specs.Events.{arrow_events, body_events, code_of, declared, events, function_binding, function_events, is_directed, is_function, named, used};
 ghost use Rattle.ecma_events.specs.declared.event.Binding.TheVariants as binding;
 ghost use Rattle.ecma_events.specs.declared.event.CodeKind.TheVariants as kind;
 ghost use Rattle.ecma_events.specs.declared.event.Region.TheVariants as region;
@@ -66,6 +66,16 @@ pub(crate) fn inner<'a>(walk: &mut Walk<'a>, x: &'a Function) -> Result<(), Allo
     walk.push(Work::Params(x.params.as_slice()))
 }
 
+/// Whether it is a function, and no arrow, method or constructor.
+fn is_function(kind: CodeKind) -> bool
+    ensures { result ≡ is_function kind }
+{
+    match kind {
+        CodeKind::Function => true,
+        CodeKind::Arrow | CodeKind::Method | CodeKind::Constructor => false,
+    }
+}
+
 /// What a function has before its name: decorators, and its start.
 pub(crate) fn outer<'a>(
     walk: &mut Walk<'a>,
@@ -78,7 +88,7 @@ pub(crate) fn outer<'a>(
         (event.enter (region.Function (code_of kind (listed (map view_param x.now.params.items)) (view_option view_block_stmt x.now.body) x.now.is_async x.now.is_generator)) x.now.span
         ∷ walk.old)) }
 {
-    let is_function = matches!(kind, CodeKind::Function);
+    let may_repeat = is_function(kind) && are_plain(x.params.as_slice());
     walk.two(
         Work::Decorators(x.decorators.as_slice()),
         Work::Event(Event::Enter(
@@ -87,7 +97,7 @@ pub(crate) fn outer<'a>(
                 is_async: x.is_async,
                 is_generator: x.is_generator,
                 is_directed: is_body_directed(&x.body),
-                may_repeat: is_function && are_plain(x.params.as_slice()),
+                may_repeat,
             }),
             x.span,
         )),
@@ -166,6 +176,7 @@ pub(crate) fn function_binding(x: &Function) -> Binding
 }
 
 /// The body of an arrow function, with its end.
+#[tactic(auto, using(crate::proofs::Declared::arrow_on_ok))]
 fn arrow_body<'a>(walk: &mut Walk<'a>, x: &'a BlockStmtOrExpr) -> Result<(), AllocError>
     ensures { let b = view_block_stmt_or_expr x.now in OnOk result
         (walk.new
@@ -178,6 +189,7 @@ fn arrow_body<'a>(walk: &mut Walk<'a>, x: &'a BlockStmtOrExpr) -> Result<(), All
     }
 }
 
+#[tactic(auto, using(crate::proofs::Declared::no_directive))]
 fn is_arrow_directed(x: &BlockStmtOrExpr) -> bool
     ensures { result ≡ is_directed (view_block_stmt_or_expr x.now) }
 {

@@ -64,19 +64,22 @@ fn second_prop<'a>(walk: &mut Walk<'a>, seen: bool, x: &'a Prop) -> Result<(), A
     ensures { OnOk result (walk.new ≡ second_proto seen (view_prop x.now) walk.old) }
 {
     match x {
-        Prop::KeyValue(x) if seen && is_proto_name(&x.key) => {
-            walk.event(Event::SecondProto(x.span))
+        Prop::KeyValue(x) => {
+            if is_proto_name(&x.key) && seen {
+                return walk.event(Event::SecondProto(x.span));
+            }
+            Ok(())
         }
-        _ => Ok(()),
+        Prop::Shorthand(_)
+        | Prop::Assign(_)
+        | Prop::Getter(_)
+        | Prop::Setter(_)
+        | Prop::Method(_) => Ok(()),
     }
 }
 
 /// Tells a part of an object that is a second `__proto__: value`.
-fn second_proto<'a>(
-    walk: &mut Walk<'a>,
-    seen: bool,
-    x: &'a PropOrSpread,
-) -> Result<(), AllocError>
+fn second_proto<'a>(walk: &mut Walk<'a>, seen: bool, x: &'a PropOrSpread) -> Result<(), AllocError>
     ensures { OnOk result (walk.new ≡ second_proto seen (view_prop_or_spread x.now) walk.old) }
 {
     match x {

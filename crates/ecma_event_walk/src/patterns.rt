@@ -12,6 +12,7 @@ use std::alloc::AllocError;
 use swc_ecma_parser_ast::{ArrayPat, ObjectPat, ObjectPatProp, Pat};
 
 /// A pattern.
+#[tactic(auto, using(crate::proofs::Declared::as_expr_on_ok))]
 pub(crate) fn pat<'a>(walk: &mut Walk<'a>, role: Role, x: &'a Pat) -> Result<(), AllocError>
     ensures { OnOk result (walk.new ≡ events role (view_pat x.now) walk.old) }
 {

@@ -2,7 +2,7 @@
 
 ghost use Rattle.std.specs.Prelude.{◌≡◌, ◌∷◌, false, map, OnOk};
 ghost use Rattle.ecma_events.specs.Event as event;
-ghost use Rattle.ecma_event_walk.specs.Events.{bare, binding_of, declared_events, catch_binding, declared, events, head_binding, head_events, used, assigned};
+ghost use Rattle.ecma_event_walk.specs.Events.{bare, binding_of, declared_events, is_const, catch_binding, declared, events, head_binding, head_events, used, assigned};
 ghost use Rattle.ecma_events.specs.declared.event.Region.TheVariants as region;
 ghost use Rattle.swc_ecma_parser_ast.specs.Parts.{view_option};
 ghost use Rattle.swc_ecma_parser_ast.specs.View.{view_block_stmt, view_catch_clause, view_decl, view_declarator, view_for_head, view_for_in_stmt, view_for_of_stmt, view_for_stmt, view_if_stmt, view_pat, view_stmt, view_switch_case, view_switch_stmt, view_try_stmt, view_var_decl_or_expr, view_with_stmt};
@@ -29,6 +29,7 @@ pub(crate) fn declared(binding: Binding) -> Role
 }
 
 /// A statement.
+#[tactic(auto, using(crate::proofs::Declared::declared_on_ok))]
 pub(crate) fn stmt<'a>(walk: &mut Walk<'a>, x: &'a Stmt) -> Result<(), AllocError>
     ensures { OnOk result (walk.new ≡ events used (view_stmt x.now) walk.old) }
 {
@@ -119,7 +120,12 @@ fn catch_binding(x: &Pat) -> Binding
 {
     match x {
         Pat::Ident(_) => Binding::CatchName,
-        _ => Binding::CatchPattern,
+        Pat::Array(_)
+        | Pat::Rest(_)
+        | Pat::Object(_)
+        | Pat::Assign(_)
+        | Pat::Invalid(_)
+        | Pat::Expr(_) => Binding::CatchPattern,
     }
 }
 
@@ -203,7 +209,31 @@ pub(crate) fn declarator<'a>(
     walk.push(Work::Pattern(role, &x.name))
 }
 
+/// Whether names are declared by `const`.
+fn is_const(role: Role) -> bool
+    ensures { result ≡ is_const role }
+{
+    match role {
+        Role::Declared(binding, _) => match binding {
+            Binding::Const => true,
+            Binding::Var
+            | Binding::Let
+            | Binding::Each
+            | Binding::Using
+            | Binding::Class
+            | Binding::PlainFunction
+            | Binding::Function
+            | Binding::Parameter
+            | Binding::CatchName
+            | Binding::CatchPattern
+            | Binding::Import => false,
+        },
+        Role::Used | Role::Assigned | Role::Own => false,
+    }
+}
+
 /// A `const` without initializer.
+#[tactic(auto, using(crate::proofs::Declared::held_stands))]
 fn bare<'a>(
     walk: &mut Walk<'a>,
     role: Role,
@@ -213,10 +243,15 @@ fn bare<'a>(
     ensures { OnOk result
         (walk.new ≡ bare role span (view_option (λ b. b.node.tree) init.now) walk.old) }
 {
-    if let (Role::Declared(Binding::Const, _), None) = (role, init) {
-        return walk.event(Event::Bare(span));
+    match init {
+        Some(_) => Ok(()),
+        None => {
+            if is_const(role) {
+                return walk.event(Event::Bare(span));
+            }
+            Ok(())
+        }
     }
-    Ok(())
 }
 
 fn for_stmt<'a>(walk: &mut Walk<'a>, x: &'a ForStmt) -> Result<(), AllocError>
@@ -231,6 +266,7 @@ fn for_stmt<'a>(walk: &mut Walk<'a>, x: &'a ForStmt) -> Result<(), AllocError>
 }
 
 /// The first part of a `for`.
+#[tactic(auto, using(crate::proofs::Declared::as_expr_on_ok))]
 fn init<'a>(walk: &mut Walk<'a>, x: &'a Option<VarDeclOrExpr>) -> Result<(), AllocError>
     ensures { OnOk result
         (walk.new ≡ events used (view_option view_var_decl_or_expr x.now) walk.old) }
@@ -245,6 +281,7 @@ fn init<'a>(walk: &mut Walk<'a>, x: &'a Option<VarDeclOrExpr>) -> Result<(), All
 }
 
 /// What stands before `in` and `of`.
+#[tactic(auto, using(crate::proofs::Declared::head_on_ok))]
 fn head<'a>(walk: &mut Walk<'a>, x: &'a ForHead) -> Result<(), AllocError>
     ensures { let h = view_for_head x.now in OnOk result
         (walk.new ≡ head_events (events assigned h walk.old) h walk.old) }
