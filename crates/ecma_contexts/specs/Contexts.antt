@@ -33,11 +33,19 @@ in_function c code super_calls super_members = record c {
   bans_arguments = false;
   bans_await = false;
   bans_yield = code.is_generator;
+  body_bans_await = false;
+  body_bans_yield = false;
 }
 
--- The parameters of an arrow have no `await` and no `yield` (15.3.1, 15.9.1). For the rest it has what is around it.
+-- The parameters of an arrow have no `await` and no `yield` (15.3.1, 15.9.1). For the rest it has what is around it, but that an async one has `await`.
 abbrev pub in_arrow : Context → Code → Context
-in_arrow c code = record c { is_strict = c.is_strict || code.is_directed; bans_await = true; bans_yield = true }
+in_arrow c code = record c {
+  is_strict = c.is_strict || code.is_directed;
+  bans_await = true;
+  bans_yield = true;
+  body_bans_await = not code.is_async && c.bans_await;
+  body_bans_yield = c.bans_yield;
+}
 
 -- the parameters of a constructor have no `await` and no `yield` (15.4)
 abbrev pub in_constructor : Context → Code → Context
@@ -53,26 +61,19 @@ in_code c kind.Constructor code = in_constructor c code
 abbrev pub in_field : Context → Context
 in_field c = record c { super_calls = false; super_members = true; bans_arguments = true; bans_await = true; bans_yield = true }
 
-abbrev pub is_arrow : CodeKind → Bool
-is_arrow kind.Arrow = true
-is_arrow _ = false
-
 -- what is known of the code of a region
 abbrev pub inside : Context → Region → Context
 inside c (region.Script directed) = record c { is_strict = directed }
 inside c region.Module = record c { is_strict = true; is_module = true }
-inside c (region.Function code) = record (in_code c code.kind code) { is_arrow = is_arrow code.kind; is_async = code.is_async }
+inside c (region.Function code) = in_code c code.kind code
 inside c (region.Class derived) = record c { is_strict = true; is_derived = derived }
 inside c region.Field = in_field c
 inside c region.StaticBlock = in_field c
 inside c _ = c
 
--- The body behind the parameters. In an arrow's `await` has the place that it has around it, but in an async one, and `yield` too.
-abbrev pub in_body : Context → (outer : Context) → Context
-in_body c outer = record c {
-  bans_await = c.is_arrow && (not c.is_async && outer.bans_await);
-  bans_yield = c.is_arrow && outer.bans_yield;
-}
+-- the body behind the parameters
+abbrev pub in_body : Context → Context
+in_body c = record c { bans_await = c.body_bans_await; bans_yield = c.body_bans_yield }
 
 abbrev pub error_at : EarlyErrorKind → Span → EarlyError
 error_at kind span = record { kind = kind; span = span; previous = None }
@@ -152,7 +153,7 @@ rest_of (x ∷ xs) = xs
 abbrev pub next : Contexts → Event → Contexts
 next c (event.enter r s) = record { here = inside c.here r; around = c.here ∷ c.around }
 next c event.leave = record { here = first_or c.here c.around; around = rest_of c.around }
-next c event.body = record c { here = in_body c.here (first_or c.here c.around) }
+next c event.body = record c { here = in_body c.here }
 next c _ = c
 
 abbrev pub errors : Contexts → List Event → List EarlyError
@@ -170,8 +171,8 @@ outermost = record {
   bans_arguments = false;
   bans_await = false;
   bans_yield = false;
-  is_arrow = false;
-  is_async = false;
+  body_bans_await = false;
+  body_bans_yield = false;
 }
 
 abbrev pub errors_of : List Event → List EarlyError

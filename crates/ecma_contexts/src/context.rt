@@ -22,10 +22,9 @@ pub(crate) struct Context {
     pub(crate) bans_arguments: bool,
     pub(crate) bans_await: bool,
     pub(crate) bans_yield: bool,
-    /// Whether the innermost function is an arrow.
-    pub(crate) is_arrow: bool,
-    /// Whether the innermost function is async.
-    pub(crate) is_async: bool,
+    /// The same of the body, in the parameters of a function.
+    pub(crate) body_bans_await: bool,
+    pub(crate) body_bans_yield: bool,
 }
 
 /// The code around, from the inside out. Contracts see the stack as a list.
@@ -54,16 +53,9 @@ fn in_function(c: Context, code: Code, super_calls: bool, super_members: bool) -
         bans_arguments: false,
         bans_await: false,
         bans_yield: code.is_generator,
+        body_bans_await: false,
+        body_bans_yield: false,
         ..c
-    }
-}
-
-fn is_arrow(kind: CodeKind) -> bool
-    ensures { result ≡ rule.is_arrow kind }
-{
-    match kind {
-        CodeKind::Arrow => true,
-        CodeKind::Function | CodeKind::Method | CodeKind::Constructor => false,
     }
 }
 
@@ -77,6 +69,8 @@ fn in_code(c: Context, code: Code) -> Context
                 is_strict: c.is_strict || code.is_directed,
                 bans_await: true,
                 bans_yield: true,
+                body_bans_await: !code.is_async && c.bans_await,
+                body_bans_yield: c.bans_yield,
                 ..c
             }
         }
@@ -123,13 +117,7 @@ fn inside(c: Context, region: Region) -> Context
                 ..c
             }
         }
-        Region::Function(code) => {
-            Context {
-                is_arrow: is_arrow(code.kind),
-                is_async: code.is_async,
-                ..in_code(c, code)
-            }
-        }
+        Region::Function(code) => in_code(c, code),
         Region::Class(is_derived) => {
             Context {
                 is_strict: true,
@@ -157,8 +145,8 @@ impl Contexts {
                 bans_arguments: false,
                 bans_await: false,
                 bans_yield: false,
-                is_arrow: false,
-                is_async: false,
+                body_bans_await: false,
+                body_bans_yield: false,
             },
             around: VecDeque::new(alloc),
         }
@@ -184,16 +172,14 @@ impl Contexts {
 
     /// Goes behind the parameters of a function.
     pub(crate) fn enter_body(&mut self)
-        ensures { let c = self.old in self.new
-            ≡ record c { here = rule.in_body c.here (rule.first_or c.here c.around) } }
+        ensures { let c = self.old in self.new ≡ record c { here = rule.in_body c.here } }
     {
-        let c = self.here;
-        let outer = self.around.front().copied().unwrap_or(c);
-        self.here.bans_await = c.is_arrow && !c.is_async && outer.bans_await;
-        self.here.bans_yield = c.is_arrow && outer.bans_yield;
+        self.here.bans_await = self.here.body_bans_await;
+        self.here.bans_yield = self.here.body_bans_yield;
     }
 
     /// Goes behind a region.
+    #[tactic(auto, using(crate::proofs::Left::none_left))]
     pub(crate) fn leave(&mut self)
         ensures { let c = self.old in self.new
             ≡ record { here = rule.first_or c.here c.around; around = rule.rest_of c.around } }
