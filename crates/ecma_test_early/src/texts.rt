@@ -27,7 +27,11 @@ fn write_error(out: &mut String, error: &EarlyError) -> Result<(), AllocError> {
     if !out.is_empty() {
         out.push_str("; ")?;
     }
-    write!(out, "{:?} {}..{}", error.kind, error.span.lo.0, error.span.hi.0)?;
+    write!(
+        out,
+        "{:?} {}..{}",
+        error.kind, error.span.lo.0, error.span.hi.0
+    )?;
     if let Some(previous) = error.previous {
         write!(out, " of {}..{}", previous.lo.0, previous.hi.0)?;
     }
@@ -78,25 +82,55 @@ fn declarations() -> [(&'static str, &'static str); 34] {
         ("function f(a) { let a; }", "DeclaredTwice 20..21 of 11..12"),
         ("function f(a) { { let a; } }", ""),
         ("function f(a) { var a; function a() {} }", ""),
-        ("function f() { let a; function a() {} }", "DeclaredTwice 31..32 of 19..20"),
+        (
+            "function f() { let a; function a() {} }",
+            "DeclaredTwice 31..32 of 19..20",
+        ),
         ("(function a() { let a; })", ""),
         ("{ function a() {} function a() {} }", ""),
-        ("'use strict'; { function a() {} function a() {} }", "DeclaredTwice 41..42 of 25..26"),
-        ("{ function a() {} function* a() {} }", "DeclaredTwice 28..29 of 11..12"),
+        (
+            "'use strict'; { function a() {} function a() {} }",
+            "DeclaredTwice 41..42 of 25..26",
+        ),
+        (
+            "{ function a() {} function* a() {} }",
+            "DeclaredTwice 28..29 of 11..12",
+        ),
         ("class A {} class A {}", "DeclaredTwice 17..18 of 6..7"),
-        ("switch (a) { case 0: let b; default: let b; }", "DeclaredTwice 41..42 of 25..26"),
-        ("try {} catch (a) { let a; }", "DeclaredTwice 23..24 of 14..15"),
+        (
+            "switch (a) { case 0: let b; default: let b; }",
+            "DeclaredTwice 41..42 of 25..26",
+        ),
+        (
+            "try {} catch (a) { let a; }",
+            "DeclaredTwice 23..24 of 14..15",
+        ),
         ("try {} catch (a) { var a; }", ""),
-        ("try {} catch ([a]) { var a; }", "DeclaredTwice 25..26 of 15..16"),
-        ("for (let a of b) { var a; }", "DeclaredTwice 23..24 of 9..10"),
+        (
+            "try {} catch ([a]) { var a; }",
+            "DeclaredTwice 25..26 of 15..16",
+        ),
+        (
+            "for (let a of b) { var a; }",
+            "DeclaredTwice 23..24 of 9..10",
+        ),
         ("for (let a of b) { let a; }", ""),
         ("for (const a of b) ;", ""),
         ("for (const a = 0;;) ;", ""),
-        ("class A { static { let a; var a; } }", "DeclaredTwice 30..31 of 23..24"),
+        (
+            "class A { static { let a; var a; } }",
+            "DeclaredTwice 30..31 of 23..24",
+        ),
         ("(a, a) => b", "EqualParameters 4..5 of 1..2"),
         ("function f(a, a) {}", ""),
-        ("'use strict'; function f(a, a) {}", "EqualParameters 28..29 of 25..26"),
-        ("function f(a, a) { 'use strict'; }", "EqualParameters 14..15 of 11..12"),
+        (
+            "'use strict'; function f(a, a) {}",
+            "EqualParameters 28..29 of 25..26",
+        ),
+        (
+            "function f(a, a) { 'use strict'; }",
+            "EqualParameters 14..15 of 11..12",
+        ),
         ("function f(a, [a]) {}", "EqualParameters 15..16 of 11..12"),
         ("({ a(b, b) {} })", "EqualParameters 8..9 of 5..6"),
         ("let let;", "LetDeclared 4..7"),
@@ -116,35 +150,86 @@ fn contexts() -> [(&'static str, &'static str); 40] {
         ("'use strict'; ({ eval } = a);", "AssignedInStrict 17..21"),
         ("eval = a; delete a; with (a) b;", ""),
         ("'use strict'; static;", "ReservedInStrict 14..20"),
-        ("function f(public) { \"use strict\"; }", "ReservedInStrict 11..17"),
-        ("function public() { 'use strict'; }", "ReservedInStrict 9..15"),
+        (
+            "function f(public) { \"use strict\"; }",
+            "ReservedInStrict 11..17",
+        ),
+        (
+            "function public() { 'use strict'; }",
+            "ReservedInStrict 9..15",
+        ),
         ("(public) => { 'use strict'; }", "ReservedInStrict 1..7"),
         ("'use strict'; delete a;", "NameDeleted 21..22"),
         ("'use strict'; delete (a);", "NameDeleted 22..23"),
         ("'use strict'; delete a.b;", ""),
-        ("class A { #a; b() { delete c.#a; } }", "PrivateDeleted 27..31"),
+        (
+            "class A { #a; b() { delete c.#a; } }",
+            "PrivateDeleted 27..31",
+        ),
         ("'use strict'; with (a) b;", "WithInStrict 14..25"),
-        ("class A { constructor() { super(); } }", "MisplacedSuperCall 26..31"),
-        ("class A extends B { constructor() { super(); (() => super.a)(); } }", ""),
+        (
+            "class A { constructor() { super(); } }",
+            "MisplacedSuperCall 26..31",
+        ),
+        (
+            "class A extends B { constructor() { super(); (() => super.a)(); } }",
+            "",
+        ),
         ("super.a", "MisplacedSuper 0..5"),
         ("({ a() { return super.b; } })", ""),
         ("class A { a = arguments; }", "ArgumentsInField 14..23"),
-        ("class A { static { arguments; } }", "ArgumentsInField 19..28"),
-        ("class A { a = () => arguments; }", "ArgumentsInField 20..29"),
+        (
+            "class A { static { arguments; } }",
+            "ArgumentsInField 19..28",
+        ),
+        (
+            "class A { a = () => arguments; }",
+            "ArgumentsInField 20..29",
+        ),
         ("class A { b() { return arguments; } }", ""),
         ("async (a = await b) => c", "MisplacedAwait 11..18"),
-        ("async function f() { (a = await b) => c; }", "MisplacedAwait 26..33"),
-        ("async function f() { class A { constructor(a = await b) {} } }", "MisplacedAwait 47..54"),
-        ("async function f() { class A { a = await b; } }", "MisplacedAwait 35..42"),
-        ("async function f() { class A { static { await a; } } }", "MisplacedAwait 40..47"),
+        (
+            "async function f() { (a = await b) => c; }",
+            "MisplacedAwait 26..33",
+        ),
+        (
+            "async function f() { class A { constructor(a = await b) {} } }",
+            "MisplacedAwait 47..54",
+        ),
+        (
+            "async function f() { class A { a = await b; } }",
+            "MisplacedAwait 35..42",
+        ),
+        (
+            "async function f() { class A { static { await a; } } }",
+            "MisplacedAwait 40..47",
+        ),
         ("async function f() { (async () => await a)(); }", ""),
         ("function* g(a = yield) {}", "MisplacedYield 16..21"),
-        ("function* g() { (a = yield) => b; }", "MisplacedYield 21..26"),
-        ("function* g() { class A { constructor(a = yield) {} } }", "MisplacedYield 42..47"),
-        ("function* g() { class A { a = yield; } }", "MisplacedYield 30..35"),
-        ("function* g() { class A { static { yield; } } }", "MisplacedYield 35..40"),
-        ("class A { static prototype() {} }", "StaticPrototype 17..26"),
-        ("class A { static prototype = a; }", "StaticPrototype 17..26"),
+        (
+            "function* g() { (a = yield) => b; }",
+            "MisplacedYield 21..26",
+        ),
+        (
+            "function* g() { class A { constructor(a = yield) {} } }",
+            "MisplacedYield 42..47",
+        ),
+        (
+            "function* g() { class A { a = yield; } }",
+            "MisplacedYield 30..35",
+        ),
+        (
+            "function* g() { class A { static { yield; } } }",
+            "MisplacedYield 35..40",
+        ),
+        (
+            "class A { static prototype() {} }",
+            "StaticPrototype 17..26",
+        ),
+        (
+            "class A { static prototype = a; }",
+            "StaticPrototype 17..26",
+        ),
         ("({ __proto__: a, __proto__: b })", "SecondProto 17..29"),
         ("({ __proto__: a, __proto__ })", ""),
     ]
@@ -154,12 +239,18 @@ fn contexts() -> [(&'static str, &'static str); 40] {
 fn modules() -> [(&'static str, &'static str); 7] {
     [
         ("import a from 'b'; var a;", "DeclaredTwice 23..24 of 7..8"),
-        ("function a() {} function a() {}", "DeclaredTwice 25..26 of 9..10"),
+        (
+            "function a() {} function a() {}",
+            "DeclaredTwice 25..26 of 9..10",
+        ),
         ("eval = a;", "AssignedInStrict 0..4"),
         ("delete a;", "NameDeleted 7..8"),
         ("class A { a = await b; }", "MisplacedAwait 14..21"),
         ("async () => { await a; };", ""),
-        ("export default function a() {} let a;", "DeclaredTwice 35..36 of 24..25"),
+        (
+            "export default function a() {} let a;",
+            "DeclaredTwice 35..36 of 24..25",
+        ),
     ]
 }
 
