@@ -16,12 +16,12 @@ or_earlier_none : (a : Option Found) → or_earlier a None ≡ a
 or_earlier_none (Some d) = refl
 or_earlier_none None = refl
 
-abbrev at : Text → Named → Option Found
-at q x = if bytes_eq x.text q then Some (found x) else None
+abbrev seen : Text → Named → Option Found
+seen q x = if bytes_eq x.text q then Some (found x) else None
 
-find_pushed : (q : Text) (xs : List Entry) (e : Entry) → find q (map named (xs ++ e ∷ [])) ≡ or_earlier (at q (named e)) (find q (map named xs))
-find_pushed q [] e = sym (or_earlier_none (at q (named e)))
-find_pushed q (y ∷ ys) e = ap (λ r. or_earlier r (at q (named y))) (find_pushed q ys e) ∙ or_earlier_twice (at q (named e)) (find q (map named ys)) (at q (named y))
+find_pushed : (q : Text) (xs : List Entry) (e : Entry) → find q (map named (xs ++ e ∷ [])) ≡ or_earlier (seen q (named e)) (find q (map named xs))
+find_pushed q [] e = sym (or_earlier_none (seen q (named e)))
+find_pushed q (y ∷ ys) e = ap (λ r. or_earlier r (seen q (named y))) (find_pushed q ys e) ∙ or_earlier_twice (seen q (named e)) (find q (map named ys)) (seen q (named y))
 
 either : (b : Bool) (x : Found) (old : Option Found) → cond b (Some x) old ≡ or_earlier (if b then Some x else None) old
 either true x old = refl

@@ -4,7 +4,7 @@ ghost use Rattle.std.specs.Prelude.{◌≡◌, ◌∷◌, ◌++◌, ◌&&◌, no
 ghost use Rattle.ecma_declarations.specs.Declarations as rule;
 ghost use Rattle.ecma_declarations.specs.Declarations.{errors_of, next, told};
 ghost use Rattle.ecma_declarations.specs.Entries.{named};
-ghost use Rattle.ecma_events.specs.Event as event;
+ghost use Rattle.ecma_events.specs.Event as steps;
 ghost use Rattle.ecma_events.specs.Event.{event_of};
 
 use crate::names::{Entry, Found, Names};
@@ -208,9 +208,9 @@ fn name<'a>(
 ) -> Result<(), AllocError>
     ensures errors { OnOk result
         (errors.new.items
-        ≡ errors.old.items ++ told scopes.old (event.name role name.now.span name.now.sym)) }
+        ≡ errors.old.items ++ told scopes.old (steps.name role name.now.span name.now.sym)) }
     ensures scopes { OnOk result
-        (scopes.new ≡ next scopes.old (event.name role name.now.span name.now.sym)) }
+        (scopes.new ≡ next scopes.old (steps.name role name.now.span name.now.sym)) }
 {
     match role {
         Role::Declared(binding, _) => {
@@ -228,7 +228,7 @@ fn tell_bare(
     span: Span,
 ) -> Result<(), AllocError>
     ensures { OnOk result
-        (errors.new.items ≡ errors.old.items ++ told scopes.now (event.bare span)) }
+        (errors.new.items ≡ errors.old.items ++ told scopes.now (steps.bare span)) }
 {
     if scopes.here().is_strict {
         return Ok(());

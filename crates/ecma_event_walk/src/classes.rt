@@ -1,7 +1,7 @@
 //! Classes.
 
 ghost use Rattle.std.specs.Prelude.{◌≡◌, ◌∷◌, not, map, OnOk};
-ghost use Rattle.ecma_events.specs.Event as event;
+ghost use Rattle.ecma_events.specs.Event as steps;
 ghost use Rattle.ecma_event_walk.specs.Events.{class_events, events, used};
 ghost use Rattle.ecma_events.specs.declared.event.Region.TheVariants as region;
 ghost use Rattle.swc_ecma_parser_ast.specs.Parts.{view_option};
@@ -22,7 +22,7 @@ fn inner<'a>(walk: &mut Walk<'a>, x: &'a Class) -> Result<(), AllocError>
     ensures { OnOk result
         (walk.new
         ≡ events used (view_option (λ b. b.node.tree) x.now.super_class)
-        (events used (listed (map view_class_member x.now.body.items)) (event.leave ∷ walk.old))) }
+        (events used (listed (map view_class_member x.now.body.items)) (steps.leave ∷ walk.old))) }
 {
     walk.event(Event::Leave)?;
     walk.push(Work::Members(x.body.as_slice()))?;
@@ -45,7 +45,7 @@ fn outer<'a>(walk: &mut Walk<'a>, x: &'a Class) -> Result<(), AllocError>
     ensures { OnOk result
         (walk.new
         ≡ events used (listed (map view_decorator x.now.decorators.items))
-        (event.enter (region.Class (not (is_absent (view_option (λ b. b.node.tree) x.now.super_class)))) x.now.span
+        (steps.enter (region.Class (not (is_absent (view_option (λ b. b.node.tree) x.now.super_class)))) x.now.span
         ∷ walk.old)) }
 {
     let is_derived = is_there(&x.super_class);

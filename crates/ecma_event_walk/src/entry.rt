@@ -2,7 +2,7 @@
 
 ghost use Rattle.std.specs.Prelude.{◌≡◌, ◌∷◌, [], map, IfOk};
 ghost use Rattle.ecma_event_walk.specs.Pending.{work_events};
-ghost use Rattle.ecma_events.specs.Event as event;
+ghost use Rattle.ecma_events.specs.Event as steps;
 ghost use Rattle.ecma_events.specs.Event.{event_of};
 ghost use Rattle.ecma_event_walk.specs.Events.{events_of};
 ghost use Rattle.swc_ecma_parser_ast.specs.View.{view_module, view_program, view_script};
@@ -24,7 +24,7 @@ fn whole<'a>(
 ) -> Result<Vec<Event<'a>>, AllocError>
     ensures { IfOk result
         (λ r. map event_of r.items
-        ≡ event.enter region span ∷ work_events body.entry (event.leave ∷ [])) }
+        ≡ steps.enter region span ∷ work_events body.entry (steps.leave ∷ [])) }
 {
     let mut walk = Walk::new(alloc);
     walk.event(Event::Leave)?;

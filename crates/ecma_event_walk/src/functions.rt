@@ -1,7 +1,7 @@
 //! Functions.
 
 ghost use Rattle.std.specs.Prelude.{◌≡◌, ◌∷◌, false, map, OnOk};
-ghost use Rattle.ecma_events.specs.Event as event;
+ghost use Rattle.ecma_events.specs.Event as steps;
 ghost use Rattle.ecma_event_walk.specs.Events.{arrow_events, body_events, code_of, declared, events, function_binding, function_events, is_directed, is_function, named, used};
 ghost use Rattle.ecma_events.specs.declared.event.Binding.TheVariants as binding;
 ghost use Rattle.ecma_events.specs.declared.event.CodeKind.TheVariants as kind;
@@ -23,7 +23,7 @@ use swc_ecma_parser_ast::{ArrowExpr, BlockStmt, BlockStmtOrExpr, FnExpr, Functio
 pub(crate) fn body<'a>(walk: &mut Walk<'a>, body: &'a Option<BlockStmt>) -> Result<(), AllocError>
     ensures { OnOk result
         (walk.new
-        ≡ event.body ∷ body_events (view_option view_block_stmt body.now) (event.leave ∷ walk.old)) }
+        ≡ steps.body ∷ body_events (view_option view_block_stmt body.now) (steps.leave ∷ walk.old)) }
 {
     walk.event(Event::Leave)?;
     if let Some(x) = body {
@@ -40,7 +40,7 @@ pub(crate) fn enter_accessor<'a>(
 ) -> Result<(), AllocError>
     ensures { OnOk result
         (walk.new
-        ≡ event.enter (region.Function (code_of kind.Method tree.absent (view_option view_block_stmt body.now) false false)) span
+        ≡ steps.enter (region.Function (code_of kind.Method tree.absent (view_option view_block_stmt body.now) false false)) span
         ∷ walk.old) }
 {
     walk.event(Event::Enter(
@@ -60,7 +60,7 @@ pub(crate) fn inner<'a>(walk: &mut Walk<'a>, x: &'a Function) -> Result<(), Allo
     ensures { OnOk result
         (walk.new
         ≡ events (declared binding.Parameter) (listed (map view_param x.now.params.items))
-        (event.body ∷ body_events (view_option view_block_stmt x.now.body) (event.leave ∷ walk.old))) }
+        (steps.body ∷ body_events (view_option view_block_stmt x.now.body) (steps.leave ∷ walk.old))) }
 {
     body(walk, &x.body)?;
     walk.push(Work::Params(x.params.as_slice()))
@@ -85,7 +85,7 @@ pub(crate) fn outer<'a>(
     ensures { OnOk result
         (walk.new
         ≡ events used (listed (map view_decorator x.now.decorators.items))
-        (event.enter (region.Function (code_of kind (listed (map view_param x.now.params.items)) (view_option view_block_stmt x.now.body) x.now.is_async x.now.is_generator)) x.now.span
+        (steps.enter (region.Function (code_of kind (listed (map view_param x.now.params.items)) (view_option view_block_stmt x.now.body) x.now.is_async x.now.is_generator)) x.now.span
         ∷ walk.old)) }
 {
     let may_repeat = is_function(kind) && are_plain(x.params.as_slice());
@@ -180,7 +180,7 @@ pub(crate) fn function_binding(x: &Function) -> Binding
 fn arrow_body<'a>(walk: &mut Walk<'a>, x: &'a BlockStmtOrExpr) -> Result<(), AllocError>
     ensures { let b = view_block_stmt_or_expr x.now in OnOk result
         (walk.new
-        ≡ arrow_events (events used b (event.leave ∷ walk.old)) b (event.leave ∷ walk.old)) }
+        ≡ arrow_events (events used b (steps.leave ∷ walk.old)) b (steps.leave ∷ walk.old)) }
 {
     walk.event(Event::Leave)?;
     match x {

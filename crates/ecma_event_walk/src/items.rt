@@ -1,7 +1,7 @@
 //! Imports, exports and items of modules.
 
 ghost use Rattle.std.specs.Prelude.{◌≡◌, ◌∷◌, map, OnOk};
-ghost use Rattle.ecma_events.specs.Event as event;
+ghost use Rattle.ecma_events.specs.Event as steps;
 ghost use Rattle.ecma_event_walk.specs.Events.{declared, events, exported, local, specifier, specifiers, used};
 ghost use Rattle.ecma_events.specs.declared.event.Binding.TheVariants as binding;
 ghost use Rattle.swc_ecma_parser_ast.specs.View.{view_export_default_decl, view_export_default_expr, view_export_specifier, view_import_specifier, view_module_decl, view_module_export_name, view_module_item, view_named_export};

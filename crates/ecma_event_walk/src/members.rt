@@ -1,7 +1,7 @@
 //! Members of classes.
 
 ghost use Rattle.std.specs.Prelude.{◌≡◌, ◌∷◌, OnOk};
-ghost use Rattle.ecma_events.specs.Event as event;
+ghost use Rattle.ecma_events.specs.Event as steps;
 ghost use Rattle.ecma_event_walk.specs.Events.{body_events, events, is_prototype_key, member_key_events, prototype, used};
 ghost use Rattle.ecma_events.specs.declared.event.Region.TheVariants as region;
 ghost use Rattle.swc_ecma_parser_ast.specs.Parts.{view_option};
@@ -93,8 +93,8 @@ fn private_method<'a>(walk: &mut Walk<'a>, x: &'a PrivateMethod) -> Result<(), A
 fn value<'a>(walk: &mut Walk<'a>, span: Span, value: &'a Option<ExprBox>) -> Result<(), AllocError>
     ensures { OnOk result
         (walk.new
-        ≡ event.enter region.Field span
-        ∷ events used (view_option (λ b. b.node.tree) value.now) (event.leave ∷ walk.old)) }
+        ≡ steps.enter region.Field span
+        ∷ events used (view_option (λ b. b.node.tree) value.now) (steps.leave ∷ walk.old)) }
 {
     walk.event(Event::Leave)?;
     optional_expr(walk, value)?;

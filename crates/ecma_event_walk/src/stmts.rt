@@ -1,7 +1,7 @@
 //! Statements and declarations.
 
 ghost use Rattle.std.specs.Prelude.{◌≡◌, ◌∷◌, false, map, OnOk};
-ghost use Rattle.ecma_events.specs.Event as event;
+ghost use Rattle.ecma_events.specs.Event as steps;
 ghost use Rattle.ecma_event_walk.specs.Events.{bare, binding_of, declared_events, is_const, catch_binding, declared, events, head_binding, head_events, used, assigned};
 ghost use Rattle.ecma_events.specs.declared.event.Region.TheVariants as region;
 ghost use Rattle.swc_ecma_parser_ast.specs.Parts.{view_option};
@@ -306,8 +306,8 @@ fn each<'a>(
     body: &'a StmtBox,
 ) -> Result<(), AllocError>
     ensures { let h = view_for_head left.now in
-        let following = events used right.now.node.tree (events used body.now.node.tree (event.leave ∷ walk.old)) in OnOk result
-        (walk.new ≡ event.enter region.Loop span ∷ head_events (events assigned h following) h following) }
+        let following = events used right.now.node.tree (events used body.now.node.tree (steps.leave ∷ walk.old)) in OnOk result
+        (walk.new ≡ steps.enter region.Loop span ∷ head_events (events assigned h following) h following) }
 {
     walk.event(Event::Leave)?;
     walk.two(Work::Expr(Role::Used, right), Work::Stmt(body))?;

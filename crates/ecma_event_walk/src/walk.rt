@@ -2,7 +2,7 @@
 
 ghost use Rattle.std.specs.Prelude.{◌≡◌, ◌∷◌, [], List, OnOk, MatchOption};
 ghost use Rattle.ecma_event_walk.specs.Pending.{pending, work_events};
-ghost use Rattle.ecma_events.specs.Event as event;
+ghost use Rattle.ecma_events.specs.Event as steps;
 ghost use Rattle.ecma_events.specs.Event.{event_of};
 
 use crate::work::Work;
@@ -55,7 +55,7 @@ impl<'a> Walk<'a> {
 
     /// Lays a name upon the stack.
     pub(crate) fn name(&mut self, role: Role, name: &'a Ident) -> Result<(), AllocError>
-        ensures { OnOk result (self.new ≡ event.name role name.now.span name.now.sym ∷ self.old) }
+        ensures { OnOk result (self.new ≡ steps.name role name.now.span name.now.sym ∷ self.old) }
     {
         self.push(Work::Event(Event::Name(role, name)))
     }
