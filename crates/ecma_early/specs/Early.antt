@@ -2,7 +2,7 @@
 use Rattle.std.specs.Prelude.{ℕ, List, ◌++◌}
 use Rattle.ecma_contexts.specs.Contexts as contexts
 use Rattle.ecma_declarations.specs.Declarations as declarations
-use Rattle.ecma_event_walk.specs.Events.{events_of}
+use Rattle.ecma_event_exprs.specs.Events.{events_of}
 use Rattle.ecma_events.specs.Event.{Event}
 use Rattle.ecma_events.specs.declared.early_error.EarlyError.{EarlyError}
 use Rattle.swc_ecma_parser_model.specs.Tree.{Tree}

@@ -1,16 +1,14 @@
 //! Scripts, modules and programs: a tree goes in, and its events come out.
 
 ghost use Rattle.std.specs.Prelude.{◌≡◌, ◌∷◌, [], map, IfOk};
-ghost use Rattle.ecma_event_walk.specs.Pending.{work_events};
+ghost use Rattle.ecma_event_exprs.specs.Pending.{work_events};
 ghost use Rattle.ecma_events.specs.Event as steps;
 ghost use Rattle.ecma_events.specs.Event.{event_of};
-ghost use Rattle.ecma_event_walk.specs.Events.{events_of};
+ghost use Rattle.ecma_event_exprs.specs.Events.{events_of};
 ghost use Rattle.swc_ecma_parser_ast.specs.View.{view_module, view_program, view_script};
 
-use crate::directives::are_directed;
 use crate::run::finish;
-use crate::walk::Walk;
-use crate::work::Work;
+use ecma_event_exprs::{Walk, Work, are_directed};
 use ecma_events::{Event, Region};
 use std::alloc::{AllocError, Global};
 use swc_ecma_parser_ast::{Module, Program, Script, Span};

@@ -2,16 +2,13 @@
 
 ghost use Rattle.std.specs.Prelude.{◌≡◌, ◌∷◌, map, OnOk};
 ghost use Rattle.ecma_events.specs.Event as steps;
-ghost use Rattle.ecma_event_walk.specs.Events.{declared, events, exported, local, specifier, specifiers, used};
+ghost use Rattle.ecma_event_exprs.specs.Events.{declared, events, exported, local, specifier, specifiers, used};
 ghost use Rattle.ecma_events.specs.declared.event.Binding.TheVariants as binding;
 ghost use Rattle.swc_ecma_parser_ast.specs.View.{view_export_default_decl, view_export_default_expr, view_export_specifier, view_import_specifier, view_module_decl, view_module_export_name, view_module_item, view_named_export};
 ghost use Rattle.swc_ecma_parser_model.specs.Tree.{trees};
 
-use crate::classes::class;
-use crate::functions::{function, function_binding, optional_name};
 use crate::stmts::{decl, declared, stmt};
-use crate::walk::Walk;
-use crate::work::Work;
+use ecma_event_exprs::{Walk, Work, class, function, function_binding, optional_name};
 use ecma_events::{Binding, Event, Role};
 use std::alloc::AllocError;
 use swc_ecma_parser_ast::{

@@ -4,19 +4,10 @@
 //! Nothing here recurs: what is yet to be walked over stands on a stack. So a chain of any length and the deepest nest are walked over.
 #![tactic(auto)]
 
-mod classes;
-mod directives;
 mod entry;
-mod exprs;
-mod functions;
 mod items;
 mod lists;
-mod members;
-mod objects;
-mod patterns;
 mod run;
 mod stmts;
-mod walk;
-mod work;
 
 pub use entry::{module_events, program_events, script_events};

@@ -1,14 +1,13 @@
 //! Lists: the first part of what is left, and then the rest.
 
 ghost use Rattle.std.specs.Prelude.{◌≡◌, map, OnOk};
-ghost use Rattle.ecma_event_walk.specs.Events.{all_events, declared, used};
+ghost use Rattle.ecma_event_exprs.specs.Events.{all_events, declared, used};
 ghost use Rattle.ecma_events.specs.declared.event.Binding.TheVariants as binding;
 ghost use Rattle.swc_ecma_parser_ast.specs.Parts.{view_option};
 ghost use Rattle.swc_ecma_parser_ast.specs.View.{view_class_member, view_declarator, view_decorator, view_expr_or_spread, view_import_specifier, view_module_item, view_object_pat_prop, view_param, view_param_or_ts_param_prop, view_pat, view_stmt, view_switch_case};
 ghost use Rattle.swc_ecma_parser_model.specs.Tree.{trees};
 
-use crate::walk::Walk;
-use crate::work::Work;
+use ecma_event_exprs::{Walk, Work};
 use ecma_events::Role;
 use std::alloc::AllocError;
 use swc_ecma_parser_ast::{

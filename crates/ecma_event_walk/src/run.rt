@@ -2,14 +2,15 @@
 
 ghost use Rattle.std.specs.Prelude.{◌≡◌, ◌∷◌, ◌++◌, map, IfOk, OnOk};
 ghost use Rattle.ecma_events.specs.Event.{event_of};
-ghost use Rattle.ecma_event_walk.specs.Events.{declared, deleted, events, used};
-ghost use Rattle.ecma_event_walk.specs.Pending.{work_events};
+ghost use Rattle.ecma_event_exprs.specs.Events.{declared, deleted, events, used};
+ghost use Rattle.ecma_event_exprs.specs.Pending.{work_events};
 ghost use Rattle.ecma_events.specs.declared.event.Binding.TheVariants as binding;
 ghost use Rattle.swc_ecma_parser_ast.specs.View.{view_param};
 
-use crate::walk::Walk;
-use crate::work::Work;
-use crate::{exprs, items, lists, members, objects, patterns, stmts};
+use crate::{items, lists, stmts};
+use ecma_event_exprs::{
+    Walk, Work, delete, expr, key, member, member_key, pat, pat_property, properties, property,
+};
 use ecma_events::{Binding, Event, Role};
 use std::alloc::AllocError;
 use swc_ecma_parser_ast::{ExprBox, Param, PatBox, StmtBox, StmtList};
@@ -18,7 +19,7 @@ fn boxed_expr<'a>(walk: &mut Walk<'a>, role: Role, x: &'a ExprBox) -> Result<(),
     ensures { OnOk result (walk.new ≡ events role x.now.node.tree walk.old) }
 {
     match x.get() {
-        Some(x) => exprs::expr(walk, role, x),
+        Some(x) => expr(walk, role, x),
         None => Err(AllocError),
     }
 }
@@ -27,7 +28,7 @@ fn deleted<'a>(walk: &mut Walk<'a>, x: &'a ExprBox) -> Result<(), AllocError>
     ensures { OnOk result (walk.new ≡ deleted x.now.node.tree walk.old) }
 {
     match x.get() {
-        Some(x) => exprs::delete(walk, x),
+        Some(x) => delete(walk, x),
         None => Err(AllocError),
     }
 }
@@ -36,7 +37,7 @@ fn boxed_pat<'a>(walk: &mut Walk<'a>, role: Role, x: &'a PatBox) -> Result<(), A
     ensures { OnOk result (walk.new ≡ events role x.now.node.tree walk.old) }
 {
     match x.get() {
-        Some(x) => patterns::pat(walk, role, x),
+        Some(x) => pat(walk, role, x),
         None => Err(AllocError),
     }
 }
@@ -80,22 +81,22 @@ fn step<'a>(walk: &mut Walk<'a>, work: Work<'a>) -> Result<(), AllocError>
         Work::Elements(xs) => lists::elements(walk, xs),
         Work::Argument(x) => boxed_expr(walk, Role::Used, &x.expr),
         Work::Arguments(xs) => lists::arguments(walk, xs),
-        Work::Property(x) => objects::property(walk, x),
-        Work::Properties(seen, xs) => objects::properties(walk, seen, xs),
-        Work::Key(x) => objects::key(walk, x),
-        Work::Member(x) => exprs::member_key(walk, x),
+        Work::Property(x) => property(walk, x),
+        Work::Properties(seen, xs) => properties(walk, seen, xs),
+        Work::Key(x) => key(walk, x),
+        Work::Member(x) => member_key(walk, x),
         Work::Pat(role, x) => boxed_pat(walk, role, x),
-        Work::Pattern(role, x) => patterns::pat(walk, role, x),
+        Work::Pattern(role, x) => pat(walk, role, x),
         Work::Patterns(role, xs) => lists::patterns(walk, role, xs),
         Work::PatElements(role, xs) => lists::pat_elements(walk, role, xs),
-        Work::PatProperty(role, x) => patterns::pat_property(walk, role, x),
+        Work::PatProperty(role, x) => pat_property(walk, role, x),
         Work::PatProperties(role, xs) => lists::pat_properties(walk, role, xs),
         Work::Param(x) => param(walk, x),
         Work::Params(xs) => lists::params(walk, xs),
         Work::ConstructorParams(xs) => lists::constructor_params(walk, xs),
         Work::Decorator(x) => boxed_expr(walk, Role::Used, &x.expr),
         Work::Decorators(xs) => lists::decorators(walk, xs),
-        Work::ClassMember(x) => members::member(walk, x),
+        Work::ClassMember(x) => member(walk, x),
         Work::Members(xs) => lists::members(walk, xs),
         Work::Stmt(x) => boxed_stmt(walk, x),
         Work::Statement(x) => stmts::stmt(walk, x),

@@ -2,17 +2,14 @@
 
 ghost use Rattle.std.specs.Prelude.{◌≡◌, ◌∷◌, false, map, OnOk};
 ghost use Rattle.ecma_events.specs.Event as steps;
-ghost use Rattle.ecma_event_walk.specs.Events.{bare, binding_of, declared_events, is_const, catch_binding, declared, events, head_binding, head_events, used, assigned};
+ghost use Rattle.ecma_event_exprs.specs.Events.{bare, binding_of, declared_events, is_const, catch_binding, declared, events, head_binding, head_events, used, assigned};
 ghost use Rattle.ecma_events.specs.declared.event.Region.TheVariants as region;
 ghost use Rattle.swc_ecma_parser_ast.specs.Parts.{view_option};
 ghost use Rattle.swc_ecma_parser_ast.specs.View.{view_block_stmt, view_catch_clause, view_decl, view_declarator, view_for_head, view_for_in_stmt, view_for_of_stmt, view_for_stmt, view_if_stmt, view_pat, view_stmt, view_switch_case, view_switch_stmt, view_try_stmt, view_var_decl_or_expr, view_with_stmt};
 
-use crate::classes::named_class;
-use crate::exprs::optional_expr;
-use crate::functions::{function_binding, named_function};
-use crate::patterns::pat;
-use crate::walk::Walk;
-use crate::work::Work;
+use ecma_event_exprs::{
+    Walk, Work, function_binding, named_class, named_function, optional_expr, pat,
+};
 use ecma_events::{Binding, Event, Region, Role};
 use std::alloc::AllocError;
 use swc_ecma_parser_ast::{
@@ -29,7 +26,7 @@ pub(crate) fn declared(binding: Binding) -> Role
 }
 
 /// A statement.
-#[tactic(auto, using(crate::proofs::Declared::declared_on_ok))]
+#[tactic(auto, using(ecma_event_exprs::proofs::Declared::declared_on_ok))]
 pub(crate) fn stmt<'a>(walk: &mut Walk<'a>, x: &'a Stmt) -> Result<(), AllocError>
     ensures { OnOk result (walk.new ≡ events used (view_stmt x.now) walk.old) }
 {
@@ -233,7 +230,7 @@ fn is_const(role: Role) -> bool
 }
 
 /// A `const` without initializer.
-#[tactic(auto, using(crate::proofs::Declared::held_stands))]
+#[tactic(auto, using(ecma_event_exprs::proofs::Declared::held_stands))]
 fn bare<'a>(
     walk: &mut Walk<'a>,
     role: Role,
@@ -266,7 +263,7 @@ fn for_stmt<'a>(walk: &mut Walk<'a>, x: &'a ForStmt) -> Result<(), AllocError>
 }
 
 /// The first part of a `for`.
-#[tactic(auto, using(crate::proofs::Declared::as_expr_on_ok))]
+#[tactic(auto, using(ecma_event_exprs::proofs::Declared::as_expr_on_ok))]
 fn init<'a>(walk: &mut Walk<'a>, x: &'a Option<VarDeclOrExpr>) -> Result<(), AllocError>
     ensures { OnOk result
         (walk.new ≡ events used (view_option view_var_decl_or_expr x.now) walk.old) }
@@ -281,7 +278,7 @@ fn init<'a>(walk: &mut Walk<'a>, x: &'a Option<VarDeclOrExpr>) -> Result<(), All
 }
 
 /// What stands before `in` and `of`.
-#[tactic(auto, using(crate::proofs::Declared::head_on_ok))]
+#[tactic(auto, using(ecma_event_exprs::proofs::Declared::head_on_ok))]
 fn head<'a>(walk: &mut Walk<'a>, x: &'a ForHead) -> Result<(), AllocError>
     ensures { let h = view_for_head x.now in OnOk result
         (walk.new ≡ head_events (events assigned h walk.old) h walk.old) }

@@ -1,7 +1,7 @@
 //! Objects and keys.
 
 ghost use Rattle.std.specs.Prelude.{◌≡◌, ◌∷◌, OnOk};
-ghost use Rattle.ecma_event_walk.specs.Events.{events, is_proto, key_events, property_events, second_proto, used};
+ghost use Rattle.ecma_event_exprs.specs.Events.{events, is_proto, key_events, property_events, second_proto, used};
 ghost use Rattle.swc_ecma_parser_model.specs.Forms.{is_proto_key};
 ghost use Rattle.swc_ecma_parser_ast.specs.View.{view_getter_prop, view_prop, view_prop_name, view_prop_or_spread, view_setter_prop};
 ghost use Rattle.std.specs.Prelude.{map};
@@ -15,7 +15,7 @@ use std::alloc::AllocError;
 use swc_ecma_parser_ast::{GetterProp, Prop, PropName, PropOrSpread, SetterProp};
 
 /// A key: what its brackets hold.
-pub(crate) fn key<'a>(walk: &mut Walk<'a>, x: &'a PropName) -> Result<(), AllocError>
+pub fn key<'a>(walk: &mut Walk<'a>, x: &'a PropName) -> Result<(), AllocError>
     ensures { OnOk result (walk.new ≡ key_events (view_prop_name x.now) walk.old) }
 {
     match x {
@@ -89,7 +89,7 @@ fn second_proto<'a>(walk: &mut Walk<'a>, seen: bool, x: &'a PropOrSpread) -> Res
 }
 
 /// Properties, where one `__proto__: value` was seen or not.
-pub(crate) fn properties<'a>(
+pub fn properties<'a>(
     walk: &mut Walk<'a>,
     seen: bool,
     parts: &'a [PropOrSpread],
@@ -109,7 +109,7 @@ pub(crate) fn properties<'a>(
 }
 
 /// A property.
-pub(crate) fn property<'a>(walk: &mut Walk<'a>, x: &'a PropOrSpread) -> Result<(), AllocError>
+pub fn property<'a>(walk: &mut Walk<'a>, x: &'a PropOrSpread) -> Result<(), AllocError>
     ensures { OnOk result (walk.new ≡ events used (view_prop_or_spread x.now) walk.old) }
 {
     match x {

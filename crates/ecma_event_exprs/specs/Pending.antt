@@ -1,9 +1,9 @@
 -- What is yet to be walked over, as the events that come of it and of what lies under it.
 use Rattle.std.specs.Prelude.{List, [], ◌∷◌, map}
-use Rattle.ecma_event_walk.specs.declared.work.Work.{Work}
-use Rattle.ecma_event_walk.specs.declared.work.Work.TheVariants as w
+use Rattle.ecma_event_exprs.specs.declared.work.Work.{Work}
+use Rattle.ecma_event_exprs.specs.declared.work.Work.TheVariants as w
 use Rattle.ecma_events.specs.Event.{Event, event_of}
-use Rattle.ecma_event_walk.specs.Events.{events, all_events, body_events, deleted, key_events, property_events, specifiers, used, declared}
+use Rattle.ecma_event_exprs.specs.Events.{events, all_events, body_events, deleted, key_events, property_events, specifiers, used, declared}
 use Rattle.ecma_events.specs.declared.event.Binding.TheVariants as binding
 use Rattle.swc_ecma_parser_ast.specs.Parts.{view_option}
 use Rattle.swc_ecma_parser_ast.specs.View.{view_block_stmt, view_catch_clause, view_class_member, view_declarator, view_decorator, view_export_specifier, view_expr_or_spread, view_import_specifier, view_member_prop, view_module_item, view_object_pat_prop, view_param, view_param_or_ts_param_prop, view_pat, view_prop_name, view_prop_or_spread, view_stmt, view_switch_case}

@@ -7,7 +7,7 @@ use swc_ecma_parser_ast::{
 
 /// What is yet to be walked over, or an event that is yet to come.
 #[derive(Clone, Copy)]
-pub(crate) enum Work<'a> {
+pub enum Work<'a> {
     Event(Event<'a>),
     Expr(Role, &'a ExprBox),
     Exprs(&'a [ExprBox]),

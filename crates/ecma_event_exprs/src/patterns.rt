@@ -1,7 +1,7 @@
 //! Patterns: each name in one stands for what the pattern does.
 
 ghost use Rattle.std.specs.Prelude.{◌≡◌, OnOk};
-ghost use Rattle.ecma_event_walk.specs.Events.{events};
+ghost use Rattle.ecma_event_exprs.specs.Events.{events};
 ghost use Rattle.swc_ecma_parser_ast.specs.View.{view_array_pat, view_object_pat, view_object_pat_prop, view_pat};
 
 use crate::exprs::optional_expr;
@@ -13,7 +13,7 @@ use swc_ecma_parser_ast::{ArrayPat, ObjectPat, ObjectPatProp, Pat};
 
 /// A pattern.
 #[tactic(auto, using(crate::proofs::Declared::as_expr_on_ok))]
-pub(crate) fn pat<'a>(walk: &mut Walk<'a>, role: Role, x: &'a Pat) -> Result<(), AllocError>
+pub fn pat<'a>(walk: &mut Walk<'a>, role: Role, x: &'a Pat) -> Result<(), AllocError>
     ensures { OnOk result (walk.new ≡ events role (view_pat x.now) walk.old) }
 {
     match x {
@@ -50,7 +50,7 @@ pub(crate) fn object_pat<'a>(
 }
 
 /// A property of a pattern.
-pub(crate) fn pat_property<'a>(
+pub fn pat_property<'a>(
     walk: &mut Walk<'a>,
     role: Role,
     x: &'a ObjectPatProp,

@@ -2,7 +2,7 @@
 
 ghost use Rattle.std.specs.Prelude.{◌≡◌, ◌∷◌, OnOk, map};
 ghost use Rattle.ecma_events.specs.Event as steps;
-ghost use Rattle.ecma_event_walk.specs.Events.{assigned, deleted, events, key_events, used};
+ghost use Rattle.ecma_event_exprs.specs.Events.{assigned, deleted, events, key_events, used};
 ghost use Rattle.swc_ecma_parser_ast.specs.Parts.{view_option};
 ghost use Rattle.swc_ecma_parser_ast.specs.View.{view_assign_expr, view_assign_target, view_call_expr, view_callee, view_expr, view_member_expr, view_member_prop, view_new_expr, view_super_prop_expr, view_unary_expr};
 
@@ -19,10 +19,7 @@ use swc_ecma_parser_ast::{
 };
 
 /// What may be left out.
-pub(crate) fn optional_expr<'a>(
-    walk: &mut Walk<'a>,
-    expr: &'a Option<ExprBox>,
-) -> Result<(), AllocError>
+pub fn optional_expr<'a>(walk: &mut Walk<'a>, expr: &'a Option<ExprBox>) -> Result<(), AllocError>
     ensures { OnOk result
         (walk.new ≡ events used (view_option (λ b. b.node.tree) expr.now) walk.old) }
 {
@@ -34,7 +31,7 @@ pub(crate) fn optional_expr<'a>(
 
 /// An expression in a role: that of the name that it may be.
 #[tactic(auto, using(crate::proofs::Declared::literal))]
-pub(crate) fn expr<'a>(walk: &mut Walk<'a>, role: Role, expr: &'a Expr) -> Result<(), AllocError>
+pub fn expr<'a>(walk: &mut Walk<'a>, role: Role, expr: &'a Expr) -> Result<(), AllocError>
     ensures { OnOk result (walk.new ≡ events role (view_expr expr.now) walk.old) }
 {
     match expr {
@@ -97,7 +94,7 @@ fn unary<'a>(walk: &mut Walk<'a>, x: &'a UnaryExpr) -> Result<(), AllocError>
 
 /// What `delete` is said of.
 #[tactic(auto, using(crate::proofs::Declared::literal_not_deleted))]
-pub(crate) fn delete<'a>(walk: &mut Walk<'a>, x: &'a Expr) -> Result<(), AllocError>
+pub fn delete<'a>(walk: &mut Walk<'a>, x: &'a Expr) -> Result<(), AllocError>
     ensures { OnOk result (walk.new ≡ deleted (view_expr x.now) walk.old) }
 {
     match x {
@@ -170,7 +167,7 @@ fn super_member<'a>(walk: &mut Walk<'a>, x: &'a SuperPropExpr) -> Result<(), All
 }
 
 /// What stands behind the point of a member.
-pub(crate) fn member_key<'a>(walk: &mut Walk<'a>, x: &'a MemberProp) -> Result<(), AllocError>
+pub fn member_key<'a>(walk: &mut Walk<'a>, x: &'a MemberProp) -> Result<(), AllocError>
     ensures { OnOk result (walk.new ≡ key_events (view_member_prop x.now) walk.old) }
 {
     match x {

@@ -1,7 +1,7 @@
 //! Whether code has the directive that turns it strict.
 
 ghost use Rattle.std.specs.Prelude.{◌≡◌, map};
-ghost use Rattle.ecma_event_walk.specs.Events.{directed, is_directed};
+ghost use Rattle.ecma_event_exprs.specs.Events.{directed, is_directed};
 ghost use Rattle.swc_ecma_parser_ast.specs.Parts.{view_option};
 ghost use Rattle.swc_ecma_parser_ast.specs.View.{view_block_stmt, view_param, view_stmt};
 ghost use Rattle.swc_ecma_parser_model.specs.Forms.{are_plain_params, is_plain_param};
@@ -10,7 +10,7 @@ ghost use Rattle.swc_ecma_parser_model.specs.Tree.{trees};
 use swc_ecma_parser_ast::{BlockStmt, Param, Pat, Stmt};
 
 /// Whether statements begin with strings among which is a `'use strict'`.
-pub(crate) fn are_directed(stmts: &[Stmt]) -> bool
+pub fn are_directed(stmts: &[Stmt]) -> bool
     ensures { result ≡ directed (trees (map view_stmt stmts.now)) }
 {
     for stmt in stmts {

@@ -2,7 +2,7 @@
 
 ghost use Rattle.std.specs.Prelude.{◌≡◌, ◌∷◌, not, map, OnOk};
 ghost use Rattle.ecma_events.specs.Event as steps;
-ghost use Rattle.ecma_event_walk.specs.Events.{class_events, events, used};
+ghost use Rattle.ecma_event_exprs.specs.Events.{class_events, events, used};
 ghost use Rattle.ecma_events.specs.declared.event.Region.TheVariants as region;
 ghost use Rattle.swc_ecma_parser_ast.specs.Parts.{view_option};
 ghost use Rattle.swc_ecma_parser_ast.specs.View.{view_class, view_class_expr, view_class_member, view_decorator, view_ident};
@@ -56,11 +56,7 @@ fn outer<'a>(walk: &mut Walk<'a>, x: &'a Class) -> Result<(), AllocError>
 }
 
 /// A class with a name.
-pub(crate) fn named_class<'a>(
-    walk: &mut Walk<'a>,
-    name: &'a Ident,
-    x: &'a Class,
-) -> Result<(), AllocError>
+pub fn named_class<'a>(walk: &mut Walk<'a>, name: &'a Ident, x: &'a Class) -> Result<(), AllocError>
     ensures { OnOk result
         (walk.new ≡ class_events (view_ident name.now) (view_class x.now) walk.old) }
 {
@@ -70,7 +66,7 @@ pub(crate) fn named_class<'a>(
 }
 
 /// A class with a name or without.
-pub(crate) fn class<'a>(
+pub fn class<'a>(
     walk: &mut Walk<'a>,
     name: &'a Option<Ident>,
     x: &'a Class,

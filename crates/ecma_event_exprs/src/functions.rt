@@ -2,7 +2,7 @@
 
 ghost use Rattle.std.specs.Prelude.{◌≡◌, ◌∷◌, false, map, OnOk};
 ghost use Rattle.ecma_events.specs.Event as steps;
-ghost use Rattle.ecma_event_walk.specs.Events.{arrow_events, body_events, code_of, declared, events, function_binding, function_events, is_directed, is_function, named, used};
+ghost use Rattle.ecma_event_exprs.specs.Events.{arrow_events, body_events, code_of, declared, events, function_binding, function_events, is_directed, is_function, named, used};
 ghost use Rattle.ecma_events.specs.declared.event.Binding.TheVariants as binding;
 ghost use Rattle.ecma_events.specs.declared.event.CodeKind.TheVariants as kind;
 ghost use Rattle.ecma_events.specs.declared.event.Region.TheVariants as region;
@@ -114,7 +114,7 @@ pub(crate) fn method<'a>(walk: &mut Walk<'a>, x: &'a Function) -> Result<(), All
 }
 
 /// A name, where there is one.
-pub(crate) fn optional_name<'a>(
+pub fn optional_name<'a>(
     walk: &mut Walk<'a>,
     role: Role,
     name: &'a Option<Ident>,
@@ -128,7 +128,7 @@ pub(crate) fn optional_name<'a>(
 }
 
 /// A function with a name or without.
-pub(crate) fn function<'a>(
+pub fn function<'a>(
     walk: &mut Walk<'a>,
     name: &'a Option<Ident>,
     x: &'a Function,
@@ -150,7 +150,7 @@ pub(crate) fn function_expr<'a>(walk: &mut Walk<'a>, x: &'a FnExpr) -> Result<()
 }
 
 /// A function with a name.
-pub(crate) fn named_function<'a>(
+pub fn named_function<'a>(
     walk: &mut Walk<'a>,
     name: &'a Ident,
     x: &'a Function,
@@ -165,7 +165,7 @@ pub(crate) fn named_function<'a>(
 }
 
 /// What a function declares its name as.
-pub(crate) fn function_binding(x: &Function) -> Binding
+pub fn function_binding(x: &Function) -> Binding
     ensures { result ≡ function_binding (view_function x.now) }
 {
     if x.is_async || x.is_generator {

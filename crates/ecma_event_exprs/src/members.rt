@@ -2,7 +2,7 @@
 
 ghost use Rattle.std.specs.Prelude.{◌≡◌, ◌∷◌, OnOk};
 ghost use Rattle.ecma_events.specs.Event as steps;
-ghost use Rattle.ecma_event_walk.specs.Events.{body_events, events, is_prototype_key, member_key_events, prototype, used};
+ghost use Rattle.ecma_event_exprs.specs.Events.{body_events, events, is_prototype_key, member_key_events, prototype, used};
 ghost use Rattle.ecma_events.specs.declared.event.Region.TheVariants as region;
 ghost use Rattle.swc_ecma_parser_ast.specs.Parts.{view_option};
 ghost use Rattle.swc_ecma_parser_ast.specs.View.{view_auto_accessor, view_class_member, view_class_method, view_class_prop, view_constructor, view_key, view_private_method, view_private_prop, view_prop_name, view_static_block};
@@ -21,7 +21,7 @@ use swc_ecma_parser_ast::{
 };
 
 /// A member.
-pub(crate) fn member<'a>(walk: &mut Walk<'a>, x: &'a ClassMember) -> Result<(), AllocError>
+pub fn member<'a>(walk: &mut Walk<'a>, x: &'a ClassMember) -> Result<(), AllocError>
     ensures { OnOk result (walk.new ≡ events used (view_class_member x.now) walk.old) }
 {
     match x {

@@ -3,7 +3,7 @@
 use Rattle.std.proofs.Common.{◌≡◌, Bool, true, false, List, Result, Ok, Err, OnOk, refl, ◌∙◌, sym}
 use Rattle.ecma_events.specs.Event.{Event}
 use Rattle.ecma_events.specs.declared.event.Role.{Role}
-use Rattle.ecma_event_walk.specs.Events.{events, declared_events, arrow_events, head_events, deleted, is_directed, used, assigned}
+use Rattle.ecma_event_exprs.specs.Events.{events, declared_events, arrow_events, head_events, deleted, is_directed, used, assigned}
 use Rattle.swc_ecma_parser_ast.specs.Parts.{as_expr, marked}
 use Rattle.swc_ecma_parser_ast.specs.View.{view_decl, view_lit, view_pat}
 use Rattle.swc_ecma_parser_ast.specs.declared.decl.Decl.{Decl}

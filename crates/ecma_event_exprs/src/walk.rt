@@ -1,7 +1,7 @@
 //! A stack of what is yet to be walked over.
 
 ghost use Rattle.std.specs.Prelude.{◌≡◌, ◌∷◌, [], List, OnOk, MatchOption};
-ghost use Rattle.ecma_event_walk.specs.Pending.{pending, work_events};
+ghost use Rattle.ecma_event_exprs.specs.Pending.{pending, work_events};
 ghost use Rattle.ecma_events.specs.Event as steps;
 ghost use Rattle.ecma_events.specs.Event.{event_of};
 
@@ -14,14 +14,14 @@ use swc_ecma_parser_ast::Ident;
 
 /// What is yet to be walked over. Contracts see it as the events that come of it.
 #[derive(Drop)]
-pub(crate) struct Walk<'a> {
+pub struct Walk<'a> {
     work: VecDeque<Work<'a>>,
 }
 
 impl<'a> Model for Walk<'a> {
     ghost use Rattle.std.specs.Prelude.{List};
     ghost use Rattle.ecma_events.specs.Event.{Event};
-    ghost use Rattle.ecma_event_walk.specs.Pending.{pending};
+    ghost use Rattle.ecma_event_exprs.specs.Pending.{pending};
 
     ghost Value = { List Event };
 
@@ -30,7 +30,7 @@ impl<'a> Model for Walk<'a> {
 
 impl<'a> Walk<'a> {
     /// A walk over nothing.
-    pub(crate) fn new(alloc: Global) -> Walk<'a>
+    pub fn new(alloc: Global) -> Walk<'a>
         ensures { result ≡ [] }
     {
         Walk {
@@ -39,7 +39,7 @@ impl<'a> Walk<'a> {
     }
 
     /// Lays work upon the stack: it is done before what lies there.
-    pub(crate) fn push(&mut self, work: Work<'a>) -> Result<(), AllocError>
+    pub fn push(&mut self, work: Work<'a>) -> Result<(), AllocError>
         ensures { OnOk result (self.new ≡ work_events work.entry self.old) }
     {
         self.work.push_front(work)?;
@@ -47,21 +47,21 @@ impl<'a> Walk<'a> {
     }
 
     /// Lays an event upon the stack.
-    pub(crate) fn event(&mut self, event: Event<'a>) -> Result<(), AllocError>
+    pub fn event(&mut self, event: Event<'a>) -> Result<(), AllocError>
         ensures { OnOk result (self.new ≡ event_of event.entry ∷ self.old) }
     {
         self.push(Work::Event(event))
     }
 
     /// Lays a name upon the stack.
-    pub(crate) fn name(&mut self, role: Role, name: &'a Ident) -> Result<(), AllocError>
+    pub fn name(&mut self, role: Role, name: &'a Ident) -> Result<(), AllocError>
         ensures { OnOk result (self.new ≡ steps.name role name.now.span name.now.sym ∷ self.old) }
     {
         self.push(Work::Event(Event::Name(role, name)))
     }
 
     /// Lays two pieces of work upon the stack; the first is done first.
-    pub(crate) fn two(&mut self, first: Work<'a>, second: Work<'a>) -> Result<(), AllocError>
+    pub fn two(&mut self, first: Work<'a>, second: Work<'a>) -> Result<(), AllocError>
         ensures { OnOk result
             (self.new ≡ work_events first.entry (work_events second.entry self.old)) }
     {
@@ -70,7 +70,7 @@ impl<'a> Walk<'a> {
     }
 
     /// Lays three pieces of work upon the stack; the first is done first.
-    pub(crate) fn three(
+    pub fn three(
         &mut self,
         first: Work<'a>,
         second: Work<'a>,
@@ -85,7 +85,7 @@ impl<'a> Walk<'a> {
     }
 
     /// Takes work from the stack.
-    pub(crate) fn pop(&mut self) -> Option<Work<'a>>
+    pub fn pop(&mut self) -> Option<Work<'a>>
         ensures { MatchOption result ((self.old ≡ []) × (self.new ≡ []))
             (λ work. self.old ≡ work_events work self.new) }
     {
