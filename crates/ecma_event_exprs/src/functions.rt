@@ -4,9 +4,8 @@ ghost use Rattle.std.specs.Prelude.{◌≡◌, ◌∷◌, false, map, OnOk};
 ghost use Rattle.ecma_events.specs.Event as steps;
 ghost use Rattle.ecma_event_exprs.specs.Events.{arrow_events, body_events, code_of, declared, events, function_binding, function_events, is_directed, is_function, named, used};
 ghost use Rattle.ecma_events.specs.declared.event.Binding.TheVariants as binding;
-ghost use Rattle.ecma_events.specs.declared.event.CodeKind.TheVariants as kind;
+ghost use Rattle.ecma_events.specs.declared.event.CodeKind.TheVariants as code_kind;
 ghost use Rattle.ecma_events.specs.declared.event.Region.TheVariants as region;
-ghost use Rattle.ecma_events.specs.declared.event.Role.TheVariants as role;
 ghost use Rattle.swc_ecma_parser_ast.specs.Parts.{view_option};
 ghost use Rattle.swc_ecma_parser_ast.specs.View.{view_arrow_expr, view_block_stmt, view_block_stmt_or_expr, view_decorator, view_fn_expr, view_function, view_ident, view_param};
 ghost use Rattle.swc_ecma_parser_model.specs.Tree as tree;
@@ -40,7 +39,7 @@ pub(crate) fn enter_accessor<'a>(
 ) -> Result<(), AllocError>
     ensures { OnOk result
         (walk.new
-        ≡ steps.enter (region.Function (code_of kind.Method tree.absent (view_option view_block_stmt body.now) false false)) span
+        ≡ steps.enter (region.Function (code_of code_kind.Method tree.absent (view_option view_block_stmt body.now) false false)) span
         ∷ walk.old) }
 {
     walk.event(Event::Enter(
@@ -107,7 +106,7 @@ pub(crate) fn outer<'a>(
 /// A method, which has no name of its own.
 pub(crate) fn method<'a>(walk: &mut Walk<'a>, x: &'a Function) -> Result<(), AllocError>
     ensures { OnOk result
-        (walk.new ≡ function_events kind.Method tree.absent (view_function x.now) walk.old) }
+        (walk.new ≡ function_events code_kind.Method tree.absent (view_function x.now) walk.old) }
 {
     inner(walk, x)?;
     outer(walk, CodeKind::Method, x)
@@ -135,7 +134,7 @@ pub fn function<'a>(
 ) -> Result<(), AllocError>
     ensures { OnOk result
         (walk.new
-        ≡ function_events kind.Function (view_option view_ident name.now) (view_function x.now) walk.old) }
+        ≡ function_events code_kind.Function (view_option view_ident name.now) (view_function x.now) walk.old) }
 {
     inner(walk, x)?;
     optional_name(walk, Role::Own, name)?;
@@ -157,7 +156,7 @@ pub fn named_function<'a>(
 ) -> Result<(), AllocError>
     ensures { OnOk result
         (walk.new
-        ≡ function_events kind.Function (view_ident name.now) (view_function x.now) walk.old) }
+        ≡ function_events code_kind.Function (view_ident name.now) (view_function x.now) walk.old) }
 {
     inner(walk, x)?;
     walk.name(Role::Own, name)?;

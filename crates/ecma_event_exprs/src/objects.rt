@@ -10,7 +10,7 @@ ghost use Rattle.swc_ecma_parser_model.specs.Tree.{trees};
 use crate::functions::{body, enter_accessor, method};
 use crate::walk::Walk;
 use crate::work::Work;
-use ecma_events::{Binding, CodeKind, Event, Role};
+use ecma_events::{Binding, Event, Role};
 use std::alloc::AllocError;
 use swc_ecma_parser_ast::{GetterProp, Prop, PropName, PropOrSpread, SetterProp};
 
