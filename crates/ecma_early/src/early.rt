@@ -11,6 +11,8 @@ use ecma_contexts::context_errors;
 use ecma_declarations::declaration_errors;
 use ecma_event_walk::{module_events, script_events};
 use ecma_events::{EarlyError, Event};
+use ecma_exports::export_errors;
+use ecma_private_names::private_name_errors;
 use std::alloc::{AllocError, Global};
 use swc_ecma_parser_ast::{Module, Program, Script};
 
@@ -21,8 +23,9 @@ fn in_order(alloc: Global, events: &[Event<'_>]) -> Result<Vec<EarlyError>, Allo
     ensures order { IfOk result (λ r. IsNonDecreasingBy place r.items) }
 {
     let mut errors = declaration_errors(alloc, events)?;
-    let mut further = context_errors(alloc, events)?;
-    errors.append(&mut further)?;
+    errors.append(&mut context_errors(alloc, events)?)?;
+    errors.append(&mut private_name_errors(alloc, events)?)?;
+    errors.append(&mut export_errors(alloc, events)?)?;
     errors.sort_by_key(|e| e.span.lo.0)?;
     Ok(errors)
 }

@@ -69,8 +69,25 @@ fn told_of(alloc: Global, is_module: bool, text: &str) -> Result<String, Fail> {
 }
 
 /// Scripts whose declarations stand against each other, or do not.
-fn declarations() -> [(&'static str, &'static str); 34] {
+fn declarations() -> [(&'static str, &'static str); 42] {
     [
+        ("a.#b", "PrivateUndeclared 2..4"),
+        ("class A { #a; #a; }", "PrivateTwice 14..16 of 10..12"),
+        ("class A { get #a() {} set #a(b) {} }", ""),
+        (
+            "class A { get #a() {} static set #a(b) {} }",
+            "PrivateTwice 33..35 of 14..16",
+        ),
+        (
+            "class A { get #a() {} set #a(b) {} get #a() {} }",
+            "PrivateTwice 39..41 of 26..28",
+        ),
+        ("class A { b() { this.#a } #a }", ""),
+        (
+            "class A { b = class { c() { d.#e } } }",
+            "PrivateUndeclared 30..32",
+        ),
+        ("class A { #a; b = class { c() { d.#a } } }", ""),
         ("let a, a;", "DeclaredTwice 7..8 of 4..5"),
         ("var a; let a;", "DeclaredTwice 11..12 of 4..5"),
         ("let a; { var a; }", "DeclaredTwice 13..14 of 4..5"),
@@ -236,8 +253,22 @@ fn contexts() -> [(&'static str, &'static str); 40] {
 }
 
 /// Modules.
-fn modules() -> [(&'static str, &'static str); 7] {
+fn modules() -> [(&'static str, &'static str); 15] {
     [
+        ("export { a, a }; let a", "ExportedTwice 12..13 of 9..10"),
+        ("export { a }", "ExportUndeclared 9..10"),
+        ("export { a as b, a as c }; var a", ""),
+        ("{ var a } export { a }", ""),
+        ("{ let a } export { a }", "ExportUndeclared 19..20"),
+        (
+            "function f() { var a } export { a }",
+            "ExportUndeclared 32..33",
+        ),
+        (
+            "export var a; export { a }",
+            "ExportedTwice 23..24 of 11..12",
+        ),
+        ("import a from 'b'; export { a }", ""),
         ("import a from 'b'; var a;", "DeclaredTwice 23..24 of 7..8"),
         (
             "function a() {} function a() {}",
