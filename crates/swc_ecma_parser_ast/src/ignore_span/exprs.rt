@@ -26,12 +26,7 @@ impl<N: EqIgnoreSpan> EqIgnoreSpan for MemberProp<N> {
     ghost like = { like_member_prop any_span N.like };
 
     fn eq_ignore_span(&self, other: &MemberProp<N>) -> bool {
-        match (self, other) {
-            (MemberProp::Ident(a), MemberProp::Ident(b)) => a.eq_ignore_span(b),
-            (MemberProp::PrivateName(a), MemberProp::PrivateName(b)) => a.eq_ignore_span(b),
-            (MemberProp::Computed(a), MemberProp::Computed(b)) => a.eq_ignore_span(b),
-            _ => false,
-        }
+        are_like_forms!(self, other, MemberProp: Ident PrivateName Computed)
     }
 }
 
@@ -47,11 +42,7 @@ impl<N: EqIgnoreSpan> EqIgnoreSpan for SuperProp<N> {
     ghost like = { like_super_prop any_span N.like };
 
     fn eq_ignore_span(&self, other: &SuperProp<N>) -> bool {
-        match (self, other) {
-            (SuperProp::Ident(a), SuperProp::Ident(b)) => a.eq_ignore_span(b),
-            (SuperProp::Computed(a), SuperProp::Computed(b)) => a.eq_ignore_span(b),
-            _ => false,
-        }
+        are_like_forms!(self, other, SuperProp: Ident Computed)
     }
 }
 
@@ -83,12 +74,7 @@ impl<N: EqIgnoreSpan> EqIgnoreSpan for Callee<N> {
     ghost like = { like_callee any_span N.like };
 
     fn eq_ignore_span(&self, other: &Callee<N>) -> bool {
-        match (self, other) {
-            (Callee::Super(a), Callee::Super(b)) => a.eq_ignore_span(b),
-            (Callee::Import(a), Callee::Import(b)) => a.eq_ignore_span(b),
-            (Callee::Expr(a), Callee::Expr(b)) => a.eq_ignore_span(b),
-            _ => false,
-        }
+        are_like_forms!(self, other, Callee: Super Import Expr)
     }
 }
 
@@ -112,32 +98,8 @@ impl<N: EqIgnoreSpan> EqIgnoreSpan for Expr<N> {
     ghost like = { like_expr any_span N.like };
 
     fn eq_ignore_span(&self, other: &Expr<N>) -> bool {
-        match (self, other) {
-            (Expr::This(a), Expr::This(b)) => a.eq_ignore_span(b),
-            (Expr::Array(a), Expr::Array(b)) => a.eq_ignore_span(b),
-            (Expr::Object(a), Expr::Object(b)) => a.eq_ignore_span(b),
-            (Expr::Fn(a), Expr::Fn(b)) => a.eq_ignore_span(b),
-            (Expr::Unary(a), Expr::Unary(b)) => a.eq_ignore_span(b),
-            (Expr::Update(a), Expr::Update(b)) => a.eq_ignore_span(b),
-            (Expr::Bin(a), Expr::Bin(b)) => a.eq_ignore_span(b),
-            (Expr::Assign(a), Expr::Assign(b)) => a.eq_ignore_span(b),
-            (Expr::Member(a), Expr::Member(b)) => a.eq_ignore_span(b),
-            (Expr::SuperProp(a), Expr::SuperProp(b)) => a.eq_ignore_span(b),
-            (Expr::Cond(a), Expr::Cond(b)) => a.eq_ignore_span(b),
-            (Expr::Call(a), Expr::Call(b)) => a.eq_ignore_span(b),
-            (Expr::New(a), Expr::New(b)) => a.eq_ignore_span(b),
-            (Expr::Seq(a), Expr::Seq(b)) => a.eq_ignore_span(b),
-            (Expr::Ident(a), Expr::Ident(b)) => a.eq_ignore_span(b),
-            (Expr::Lit(a), Expr::Lit(b)) => a.eq_ignore_span(b),
-            (Expr::Arrow(a), Expr::Arrow(b)) => a.eq_ignore_span(b),
-            (Expr::Class(a), Expr::Class(b)) => a.eq_ignore_span(b),
-            (Expr::Yield(a), Expr::Yield(b)) => a.eq_ignore_span(b),
-            (Expr::MetaProp(a), Expr::MetaProp(b)) => a.eq_ignore_span(b),
-            (Expr::Await(a), Expr::Await(b)) => a.eq_ignore_span(b),
-            (Expr::Paren(a), Expr::Paren(b)) => a.eq_ignore_span(b),
-            (Expr::Invalid(a), Expr::Invalid(b)) => a.eq_ignore_span(b),
-            _ => false,
-        }
+        are_like_forms!(self, other, Expr: This Array Object Fn Unary Update Bin Assign Member
+            SuperProp Cond Call New Seq Ident Lit Arrow Class Yield MetaProp Await Paren Invalid)
     }
 }
 
@@ -145,14 +107,7 @@ impl EqIgnoreSpan for Lit {
     ghost like = { like_lit any_span };
 
     fn eq_ignore_span(&self, other: &Lit) -> bool {
-        match (self, other) {
-            (Lit::Str(a), Lit::Str(b)) => a.eq_ignore_span(b),
-            (Lit::Bool(a), Lit::Bool(b)) => a.eq_ignore_span(b),
-            (Lit::Null(a), Lit::Null(b)) => a.eq_ignore_span(b),
-            (Lit::Num(a), Lit::Num(b)) => a.eq_ignore_span(b),
-            (Lit::BigInt(a), Lit::BigInt(b)) => a.eq_ignore_span(b),
-            _ => false,
-        }
+        are_like_forms!(self, other, Lit: Str Bool Null Num BigInt)
     }
 }
 
@@ -264,11 +219,7 @@ impl<N: EqIgnoreSpan> EqIgnoreSpan for AssignTarget<N> {
     ghost like = { like_assign_target any_span N.like };
 
     fn eq_ignore_span(&self, other: &AssignTarget<N>) -> bool {
-        match (self, other) {
-            (AssignTarget::Simple(a), AssignTarget::Simple(b)) => a.eq_ignore_span(b),
-            (AssignTarget::Pat(a), AssignTarget::Pat(b)) => a.eq_ignore_span(b),
-            _ => false,
-        }
+        are_like_forms!(self, other, AssignTarget: Simple Pat)
     }
 }
 
@@ -276,11 +227,7 @@ impl<N: EqIgnoreSpan> EqIgnoreSpan for AssignTargetPat<N> {
     ghost like = { like_assign_target_pat any_span N.like };
 
     fn eq_ignore_span(&self, other: &AssignTargetPat<N>) -> bool {
-        match (self, other) {
-            (AssignTargetPat::Array(a), AssignTargetPat::Array(b)) => a.eq_ignore_span(b),
-            (AssignTargetPat::Object(a), AssignTargetPat::Object(b)) => a.eq_ignore_span(b),
-            _ => false,
-        }
+        are_like_forms!(self, other, AssignTargetPat: Array Object)
     }
 }
 
@@ -288,13 +235,6 @@ impl<N: EqIgnoreSpan> EqIgnoreSpan for SimpleAssignTarget<N> {
     ghost like = { like_simple_assign_target any_span N.like };
 
     fn eq_ignore_span(&self, other: &SimpleAssignTarget<N>) -> bool {
-        match (self, other) {
-            (SimpleAssignTarget::Ident(a), SimpleAssignTarget::Ident(b)) => a.eq_ignore_span(b),
-            (SimpleAssignTarget::Member(a), SimpleAssignTarget::Member(b)) => a.eq_ignore_span(b),
-            (SimpleAssignTarget::SuperProp(a), SimpleAssignTarget::SuperProp(b)) =>
-                a.eq_ignore_span(b),
-            (SimpleAssignTarget::Paren(a), SimpleAssignTarget::Paren(b)) => a.eq_ignore_span(b),
-            _ => false,
-        }
+        are_like_forms!(self, other, SimpleAssignTarget: Ident Member SuperProp Paren)
     }
 }
