@@ -9,6 +9,7 @@ ghost use Rattle.swc_ecma_parser_ast.specs.Nodes.{view_any};
 ghost use Rattle.swc_ecma_parser_ast.specs.Chain as chain;
 ghost use Rattle.swc_ecma_parser_ast.specs.Equal as equal;
 
+use crate::boxed::in_block;
 use crate::branch::IfStmt;
 use crate::call::{CallExpr, Callee, ExprOrSpread, MemberExpr, MemberProp};
 use crate::chain::{
@@ -345,7 +346,7 @@ impl ExprBox<Node> {
     pub fn new(alloc: Global, value: Expr<Node>) -> Result<ExprBox<Node>, AllocError>
         ensures { IfOk result (λ b. b.node.tree ≡ view_expr value) }
     {
-        let inner = Any::Expr(Box::new(alloc, value)?);
+        let inner = Any::Expr(in_block(alloc, value)?);
         Ok(ExprBox {
             node: Node { inner },
         })
@@ -385,7 +386,7 @@ impl PatBox<Node> {
     pub fn new(alloc: Global, value: Pat<Node>) -> Result<PatBox<Node>, AllocError>
         ensures { IfOk result (λ b. b.node.tree ≡ view_pat value) }
     {
-        let inner = Any::Pat(Box::new(alloc, value)?);
+        let inner = Any::Pat(in_block(alloc, value)?);
         Ok(PatBox {
             node: Node { inner },
         })
@@ -425,7 +426,7 @@ impl StmtBox<Node> {
     pub fn new(alloc: Global, value: Stmt<Node>) -> Result<StmtBox<Node>, AllocError>
         ensures { IfOk result (λ b. b.node.tree ≡ view_stmt value) }
     {
-        let inner = Any::Stmt(Box::new(alloc, value)?);
+        let inner = Any::Stmt(in_block(alloc, value)?);
         Ok(StmtBox {
             node: Node { inner },
         })
@@ -463,7 +464,7 @@ impl StmtList<Node> {
     pub fn new(alloc: Global, stmts: Vec<Stmt<Node>>) -> Result<StmtList<Node>, AllocError>
         ensures { IfOk result (λ l. l.node.tree ≡ listed (map view_stmt stmts.items)) }
     {
-        let inner = Any::Stmts(Box::new(alloc, stmts)?);
+        let inner = Any::Stmts(in_block(alloc, stmts)?);
         Ok(StmtList {
             node: Node { inner },
         })
