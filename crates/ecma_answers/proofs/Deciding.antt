@@ -11,7 +11,8 @@ use Rattle.swc_ecma_parser_input.specs.declared.syntax.Syntax.{Syntax}
 use Rattle.swc_ecma_parser_input.specs.TokenSource.{TokenSource}
 use Rattle.swc_ecma_parser_lexer.specs.Source.{outset}
 use Rattle.swc_ecma_parser_model.specs.Tree as model
-use Rattle.swc_ecma_parser.specs.Headline.{Headline, IsClean, IsNew}
+use Rattle.swc_ecma_parser.specs.Headline.{Headline, IsClean, IsNew, end_of}
+use Rattle.swc_ecma_parser.proofs.Same.{some_place}
 use Rattle.ecma_answers.specs.declared.options.Options.{Options}
 use Rattle.ecma_answers.specs.declared.parsing.Reading.{Reading}
 use Rattle.ecma_answers.specs.Outcomes.{is_out_of_memory}
@@ -29,20 +30,21 @@ pub begins : (syntax : Syntax) (start : BytePos) (given text : List ℕ) → sta
 begins syntax start given text e f = rw (e, f) refl
 
 decided_of : {X : Type 0} (view : X → model.Tree) (o : Options) (text : List ℕ) (r : Reading) (answer : Result X Error) (fs : List Fault)
-    → Headline view (entry_of o.goal) o.limit (source_of o.syntax text) answer fs
+    → Headline view (entry_of o.goal) o.limit (source_of o.syntax text) answer fs (end_of (source_of o.syntax text))
     → ((x : model.Tree) → IsRead r x ↔ IsClean view answer fs x) → (Lasts r.tree → Lasts answer) → Lasts r.tree → Decides o text r
 unfolding Spells
 decided_of view o text r answer fs h same lasts l = λ x.
     let read = same x in
-    let spelled = h (is_new o text) (lasts l) x in
+    let source = source_of o.syntax text in
+    let spelled = some_place view (entry_of o.goal) o.limit source answer fs (end_of source) h (is_new o text) (lasts l) x in
     (λ is_read. spelled.0 (read.0 is_read), λ spells. read.1 (spelled.1 spells))
 
 -- the same, of an entry and a source that are those that are asked for
 pub decided : {X : Type 0} (view : X → model.Tree) (o : Options) (text : List ℕ) (r : Reading) (answer : Result X Error) (fs : List Fault)
     → (entry : Entry) (s : TokenSource) → entry ≡ entry_of o.goal → s ≡ source_of o.syntax text
-    → Headline view entry o.limit s answer fs
+    → Headline view entry o.limit s answer fs (end_of s)
     → ((x : model.Tree) → IsRead r x ↔ IsClean view answer fs x) → (Lasts r.tree → Lasts answer) → Lasts r.tree → Decides o text r
 decided view o text r answer fs entry s e f h =
     decided_of view o text r answer fs
-    (subst (λ (n : Entry). Headline view n o.limit (source_of o.syntax text) answer fs) e
-    (subst (λ (t : TokenSource). Headline view entry o.limit t answer fs) f h))
+    (subst (λ (n : Entry). Headline view n o.limit (source_of o.syntax text) answer fs (end_of (source_of o.syntax text))) e
+    (subst (λ (t : TokenSource). Headline view entry o.limit t answer fs (end_of t)) f h))

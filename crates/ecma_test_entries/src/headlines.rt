@@ -65,7 +65,11 @@ fn a_script_is_read(rt: HostRuntime) -> Result<(), Fail> {
         ("", 1_000, "0..0"),
         ("with (a) return;", 1_000, "0..16"),
         ("break;", 1_000, "0..6 TS1105 0..6"),
-        ("break;throw\na", 1_000, "refused LineBreakInThrow 12..13 TS1105 0..6"),
+        (
+            "break;throw\na",
+            1_000,
+            "refused LineBreakInThrow 12..13 TS1105 0..6",
+        ),
         ("import 'foo';", 1_000, "refused ImportExportInScript 0..6"),
         ("{{}}", 1, TOO_DEEP),
     ] {
@@ -82,7 +86,11 @@ fn a_module_is_read(rt: HostRuntime) -> Result<(), Fail> {
         ("", 1_000, "0..0"),
         ("import 'foo';", 1_000, "0..13"),
         ("with (a) return;", 1_000, "0..16 WithInStrict 0..4"),
-        ("break;throw\na", 1_000, "refused LineBreakInThrow 12..13 TS1105 0..6"),
+        (
+            "break;throw\na",
+            1_000,
+            "refused LineBreakInThrow 12..13 TS1105 0..6",
+        ),
         ("{{}}", 1, TOO_DEEP),
     ] {
         let (answer, faults) = read_module(alloc, tokens(alloc, text)?, limit);
@@ -98,7 +106,11 @@ fn a_program_is_read(rt: HostRuntime) -> Result<(), Fail> {
         ("", 1_000, "0..0"),
         ("with (a) b; c", 1_000, "0..13"),
         ("with (a) b; export {};", 1_000, "0..22 WithInStrict 0..4"),
-        ("break;throw\na", 1_000, "refused LineBreakInThrow 12..13 TS1105 0..6"),
+        (
+            "break;throw\na",
+            1_000,
+            "refused LineBreakInThrow 12..13 TS1105 0..6",
+        ),
         ("{{}}", 1, TOO_DEEP),
     ] {
         let (answer, faults) = read_program(alloc, tokens(alloc, text)?, limit);

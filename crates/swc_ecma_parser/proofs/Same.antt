@@ -155,9 +155,12 @@ module _ {X : Type 0} (view : X → Tree) (limit : ℕ) (s : TokenSource) (plain
       → Comes (λ x. (view x, hs)) (program_whole limit hs (opened s)) r fs
   comes_program (Ok x) hs is settled h l =
       let (t, (recorded, k), f, at) = h.reads l in
-      let told : map as_note recorded ≡ hs = program_told limit recorded (opened s) (view x) (map as_note recorded) t k ∙ sym is in
-      (t, subst (λ z. program_whole limit z (opened s) ≡ Ok ((view x, hs), t)) (same_notes recorded hs told settled)
-      (subst (λ z. program_whole limit recorded (opened s) ≡ Ok ((view x, z), t)) told k), f)
+      let told : map as_note recorded ≡ hs = program_told limit recorded (opened s) (view x) (map as_note recorded) t k ∙ sym is in (
+        t,
+        subst (λ z. program_whole limit z (opened s) ≡ Ok ((view x, hs), t)) (same_notes recorded hs told settled)
+            (subst (λ z. program_whole limit recorded (opened s) ≡ Ok ((view x, z), t)) told k),
+        f,
+      )
   comes_program (Err e) hs is settled h l =
       let (t, f, k) = h.refuses in
       let (recorded, told, w) = k l in
