@@ -115,7 +115,7 @@ fn ended<E: Write>(alloc: Global, errors: &mut E, sum: Result<Sum, Fault>) -> u8
 }
 
 /// Reads each file and prints what it comes to. It fails where nothing can be written any more.
-#[tactic(auto, using(crate::proofs::Files::answered_none, crate::proofs::Files::answered_more))]
+#[tactic(auto, using(crate::proofs::Files::answered_none))]
 fn answers<R: Files + AllocGlobal, I: Read, W: Write, E: Write>(
     rt: &R,
     settings: Settings,

@@ -54,7 +54,8 @@ fn push_more_text(out: &mut Vec<u8>, file: &str, more: usize) -> Result<(), Allo
     push_name(out, file)?;
     out.extend_from_slice(b": note: more faults: ")?;
     push_count(out, more as u64)?;
-    out.extend_from_slice(b"; --max-faults 0 reports all\n")
+    out.extend_from_slice(b"; --max-faults 0 reports all\n")?;
+    Ok(())
 }
 
 /// Writes how many more faults there are, as a line of JSON.
