@@ -547,77 +547,30 @@ export type Pattern =
   | RestElement
   | Invalid;
 
+/** Any node. */
 export type Node =
+  | Expression
+  | Statement
+  | ModuleDeclaration
+  | Pattern
   | Program
-  | Identifier
   | PrivateIdentifier
-  | Literal
-  | ThisExpression
   | Super
-  | Invalid
-  | ExpressionStatement
-  | BlockStatement
   | StaticBlock
-  | EmptyStatement
-  | DebuggerStatement
-  | WithStatement
-  | ReturnStatement
-  | ThrowStatement
-  | LabeledStatement
-  | BreakStatement
-  | ContinueStatement
-  | IfStatement
-  | SwitchStatement
   | SwitchCase
-  | TryStatement
   | CatchClause
-  | WhileStatement
-  | DoWhileStatement
-  | ForStatement
-  | ForInStatement
-  | ForOfStatement
-  | VariableDeclaration
   | VariableDeclarator
-  | FunctionDeclaration
-  | FunctionExpression
-  | ArrowFunctionExpression
-  | ClassDeclaration
-  | ClassExpression
   | ClassBody
   | MethodDefinition
   | PropertyDefinition
   | AccessorProperty
   | Decorator
-  | ArrayExpression
-  | ArrayPattern
-  | ObjectExpression
-  | ObjectPattern
   | Property
   | SpreadElement
-  | RestElement
-  | AssignmentPattern
-  | UnaryExpression
-  | UpdateExpression
-  | BinaryExpression
-  | LogicalExpression
-  | AssignmentExpression
-  | ConditionalExpression
-  | SequenceExpression
-  | MemberExpression
-  | CallExpression
-  | NewExpression
-  | ImportExpression
-  | MetaProperty
-  | YieldExpression
-  | AwaitExpression
-  | ImportDeclaration
   | ImportAttribute
   | ImportSpecifier
   | ImportDefaultSpecifier
   | ImportNamespaceSpecifier
-  | ExportNamedDeclaration
   | ExportSpecifier
   | ExportDefaultSpecifier
-  | ExportNamespaceSpecifier
-  | ExportDefaultDeclaration
-  | ExportAllDeclaration;
+  | ExportNamespaceSpecifier;
