@@ -28,8 +28,9 @@ enum {
     ECMA_UNKNOWN_OPTION = -5  /* a goal or a flag is none of those below */
 };
 
-/* What a text is read as: a goal symbol of ECMA-262, section 5.1.4, or whichever of the two it turns out to be. */
-enum { ECMA_SCRIPT = 0, ECMA_MODULE = 1, ECMA_PROGRAM = 2 };
+/* What a text is read as: a goal symbol of ECMA-262, section 5.1.4; a module where one of the statements makes it one, and else a script
+ * (ECMA_PROGRAM); or whichever of the two it can be read as (ECMA_AUTO). `sourceType` of the tree says which it was. */
+enum { ECMA_SCRIPT = 0, ECMA_MODULE = 1, ECMA_PROGRAM = 2, ECMA_AUTO = 3 };
 
 /* What is read besides ECMA-262. */
 enum {
@@ -52,7 +53,7 @@ enum {
 
 /* What is asked for. */
 typedef struct EcmaOptions {
-    uint32_t goal;  /* ECMA_SCRIPT, ECMA_MODULE or ECMA_PROGRAM */
+    uint32_t goal;  /* ECMA_SCRIPT, ECMA_MODULE, ECMA_PROGRAM or ECMA_AUTO */
     uint32_t limit; /* how many levels deep the text may nest; more than 1,000 count as 1,000 */
     uint32_t flags; /* the sum of those that are wanted */
     uint32_t max_faults; /* how many recorded faults are told at most, and 0 for all; why there is no tree is told in any case */

@@ -1,7 +1,7 @@
 'use strict';
 // What every host of the parser shares: options as numbers, and what the parser answered as a tree and faults, or as an error.
 
-const GOALS = { script: 0, module: 1, program: 2 };
+const GOALS = { script: 0, module: 1, program: 2, auto: 3 };
 
 const FLAGS = {
   decorators: 0x1,
@@ -88,8 +88,8 @@ const DEFAULT_FAULTS = 1000;
 /** The numbers that the parser takes. */
 function numbersOf(options = {}) {
   if (typeof options !== 'object' || options === null) throw new TypeError(`options are an object, not ${shown(options)}`);
-  const { sourceType = 'program', limit = DEFAULT_LIMIT, maxFaults = DEFAULT_FAULTS, flags = [], ...rest } = options;
-  if (!Object.hasOwn(GOALS, sourceType)) throw new TypeError(`sourceType is 'script', 'module' or 'program', not ${shown(sourceType)}`);
+  const { sourceType = 'auto', limit = DEFAULT_LIMIT, maxFaults = DEFAULT_FAULTS, flags = [], ...rest } = options;
+  if (!Object.hasOwn(GOALS, sourceType)) throw new TypeError(`sourceType is 'script', 'module', 'program' or 'auto', not ${shown(sourceType)}`);
   if (!Number.isInteger(limit) || limit < 0 || limit > MAX_LIMIT) throw new RangeError(`limit is 0 to ${MAX_LIMIT}, not ${shown(limit)}`);
   if (!Number.isInteger(maxFaults) || maxFaults < 0 || maxFaults > MOST) throw new RangeError(`maxFaults is 0 to ${MOST}, not ${shown(maxFaults)}`);
   if (!Array.isArray(flags)) throw new TypeError(`flags are a list of names, not ${shown(flags)}`);

@@ -13,8 +13,12 @@ export type Flag =
   | 'explicitResourceManagement';
 
 export interface Options {
-  /** What the text is read as; `program`, the default, is a module where an import or an export stands in it. */
-  sourceType?: 'script' | 'module' | 'program';
+  /**
+   * What the text is read as. `auto`, the default, is a script where the text can be read as one without a fault, else a module where it can be
+   * read as one without a fault, else the one whose faults say more of the text; `program` is a module where one of its statements makes it one.
+   * `sourceType` of the tree says which of the two it was.
+   */
+  sourceType?: 'script' | 'module' | 'program' | 'auto';
   /** How many levels deep the text may nest: 300 by default, which fit Node's stack; 200 fit a worker's in a browser; 1,000 at most. */
   limit?: number;
   /** How many faults are told at most: 1,000 by default, and 0 for all. Why there is no tree is told in any case. */

@@ -21,9 +21,25 @@ test('a script has its tree and no faults', () => {
   });
 });
 
+test('a text is a script or a module, whichever it can be read as', () => {
+  for (const text of ['export default 1', 'const a = await b();', 'function a() { return import.meta; }', 'await a', 'if (a) await b;']) {
+    const { tree, faults } = parse(text);
+    assert.deepStrictEqual([tree.sourceType, faults], ['module', []], text);
+  }
+  for (const text of ['a', 'with (a) b;', 'async function a() { await b; }', 'await = a', 'await: ;']) {
+    assert.strictEqual(parse(text).tree.sourceType, 'script', text);
+  }
+});
+
+test('of a text that is neither what is told is of the one that it looks like', () => {
+  assert.deepStrictEqual(parse('const a = await b(); return a').faults.map(it => it.kind), ['ReturnNotAllowed']);
+  assert.deepStrictEqual(parse('with (a) b; return a').faults.map(it => it.kind), ['ReturnNotAllowed']);
+  assert.throws(() => parse("import a from 'a'; with (b) c; d("), { kind: 'Eof', pos: 33 });
+});
+
 test('a program is a module where an export stands in it', () => {
-  assert.strictEqual(parse('export default 1').tree.sourceType, 'module');
-  assert.strictEqual(parse('a').tree.sourceType, 'script');
+  assert.strictEqual(parse('export default 1', { sourceType: 'program' }).tree.sourceType, 'module');
+  assert.strictEqual(parse('a', { sourceType: 'program' }).tree.sourceType, 'script');
 });
 
 test('a fault stands beside the tree, with both offsets', () => {

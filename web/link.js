@@ -33,7 +33,7 @@ function optionsUnpacked(words, first) {
   const told = new URLSearchParams(words);
   const limit = Number(told.get('limit') ?? first.limit);
   return {
-    goal: ['program', 'script', 'module'].includes(told.get('as')) ? told.get('as') : first.goal,
+    goal: ['auto', 'script', 'module', 'program'].includes(told.get('as')) ? told.get('as') : first.goal,
     limit: Number.isInteger(limit) && limit >= 0 && limit <= 1000 ? limit : first.limit,
     boxes: (told.get('with') ?? '').split(',').filter(it => it !== ''),
   };

@@ -13,7 +13,7 @@ const EXTRAS = { locations: 'lines and columns', ranges: 'ranges', comments: 'co
 const BOXES = { ...FLAGS, ...EXTRAS };
 const FIRST = 'while (a) b;\nbreak\n';
 /** The options that an address does not tell. */
-const FIRST_OPTIONS = { goal: 'program', limit: 200 };
+const FIRST_OPTIONS = { goal: 'auto', limit: 200 };
 /** How long the cursor and the search rest before they are asked for, and how long behind a key. */
 const [REST_MS, TYPED_MS] = [40, 200];
 /** How many of the nodes around the cursor are named. */

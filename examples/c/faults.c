@@ -1,6 +1,6 @@
 /* Tells the faults of a file, and writes its tree.
  *
- * usage: faults [script | module | program] < FILE
+ * usage: faults [script | module | program | auto] < FILE
  */
 #include "ecma.h"
 
@@ -77,9 +77,11 @@ static int32_t write_tree(const uint8_t *text, size_t length, const EcmaOptions 
 
 int main(int count, char **words)
 {
-    EcmaOptions options = {ECMA_PROGRAM, 1000, 0, 1000};
-    if (count > 1)
-        options.goal = !strcmp(words[1], "script") ? ECMA_SCRIPT : !strcmp(words[1], "module") ? ECMA_MODULE : ECMA_PROGRAM;
+    EcmaOptions options = {ECMA_AUTO, 1000, 0, 1000};
+    static const char *const goals[] = {"script", "module", "program"};
+    for (uint32_t goal = ECMA_SCRIPT; goal <= ECMA_PROGRAM; goal++)
+        if (count > 1 && !strcmp(words[1], goals[goal]))
+            options.goal = goal;
     size_t length;
     uint8_t *text = read_all(&length);
     if (!text)

@@ -47,7 +47,7 @@ static int32_t tree(const char *text, const EcmaOptions *options, size_t room)
 
 static void statuses(void)
 {
-    const EcmaOptions shallow = {ECMA_SCRIPT, 2, 0, 0}, no_goal = {3, 1000, 0, 0}, no_flag = {ECMA_SCRIPT, 1000, 0x80, 0};
+    const EcmaOptions shallow = {ECMA_SCRIPT, 2, 0, 0}, no_goal = {4, 1000, 0, 0}, no_flag = {ECMA_SCRIPT, 1000, 0x80, 0};
     check(tree("a", &SCRIPT, ROOM) == ECMA_CLEAN, "a clean script");
     check(tree("break", &SCRIPT, ROOM) == ECMA_FAULTY, "a script with a fault");
     check(tree("a b", &SCRIPT, ROOM) == ECMA_REFUSED && needed == 0, "a script without a tree");

@@ -1,7 +1,7 @@
 'use strict';
 // `require('./ecma').parse(text, options)` answers the tree as ESTree and the faults, as the package in npm/ does, by the addon.
 //
-// usage: ecma.js [script | module | program] < FILE
+// usage: ecma.js [script | module | program | auto] < FILE
 
 const path = require('node:path');
 const { numbersOf, resultOf } = require('../../npm/answer.js');

@@ -10,7 +10,7 @@ function line({ loc, kind, message }, word) {
 function tell(parse) {
   const text = fs.readFileSync(0, 'utf8');
   try {
-    const { tree, faults } = parse(text, { sourceType: process.argv[2] ?? 'program', limit: 1000 });
+    const { tree, faults } = parse(text, { sourceType: process.argv[2] ?? 'auto', limit: 1000 });
     for (const fault of faults) line(fault, 'fault');
     console.log(JSON.stringify(tree, (_, value) => (typeof value === 'bigint' ? null : value)));
     return faults.length > 0 ? 1 : 0;

@@ -1,6 +1,6 @@
 """The parser by ctypes: `parse(text)` answers the tree and the faults.
 
-usage: ecma.py LIBRARY [script | module | program] < FILE
+usage: ecma.py LIBRARY [script | module | program | auto] < FILE
 
 LIBRARY is a shared object: `gcc -shared -Wl,--whole-archive libecma_link.a -Wl,--no-whole-archive liblibc_c.a -o libecma.so`.
 """
@@ -8,7 +8,7 @@ import ctypes
 import json
 import sys
 
-GOALS = {'script': 0, 'module': 1, 'program': 2}
+GOALS = {'script': 0, 'module': 1, 'program': 2, 'auto': 3}
 FLAGS = {
     'decorators': 0x1, 'decorators_before_export': 0x2, 'export_default_from': 0x4, 'import_attributes': 0x8,
     'return_outside_function': 0x10, 'auto_accessors': 0x20, 'explicit_resource_management': 0x40,
@@ -41,7 +41,7 @@ def called(call, text, options):
             return status, out.raw[:needed.value] if status >= 0 else b''
 
 
-def parse(call, text, goal='program', limit=1000, flags=(), max_faults=1000):
+def parse(call, text, goal='auto', limit=1000, flags=(), max_faults=1000):
     """The status, the tree, which is None where there is none, the faults, and how many more there are."""
     asked = Options(GOALS[goal], limit, sum(FLAGS[it] for it in flags), max_faults)
     status, written = called(call, text.encode(), asked)
@@ -55,7 +55,7 @@ def parse(call, text, goal='program', limit=1000, flags=(), max_faults=1000):
 
 def main():
     call = load(sys.argv[1])
-    status, tree, faults, more = parse(call, sys.stdin.read(), goal=sys.argv[2] if len(sys.argv) > 2 else 'program')
+    status, tree, faults, more = parse(call, sys.stdin.read(), goal=sys.argv[2] if len(sys.argv) > 2 else 'auto')
     for it in faults:
         print(f"{it['line']}:{it['column']}: {it['severity']} [{it['kind']}]: {it['message']}")
     if more:

@@ -1,6 +1,6 @@
 //! Tells the faults of a text, and writes its tree.
 //!
-//! usage: tree [script | module | program] < FILE
+//! usage: tree [script | module | program | auto] < FILE
 //!
 //! `rustc -O main.rs -C link-arg=libecma_link.a -C link-arg=liblibc_c.a`
 
@@ -60,7 +60,8 @@ fn main() -> ExitCode {
     let goal = match std::env::args().nth(1).as_deref() {
         Some("script") => 0,
         Some("module") => 1,
-        _ => 2,
+        Some("program") => 2,
+        _ => 3,
     };
     let mut text = String::new();
     io::stdin().read_to_string(&mut text).expect("standard input is UTF-8");

@@ -49,7 +49,7 @@ function asked(words) {
   for (const flag of flags) if (!Object.hasOwn(FLAGS, flag)) throw new Usage(`--enable takes no '${flag}'`);
   const { locations, ranges, comments, tokens } = values;
   const maxFaults = number(values['max-faults'], 'max-faults', 2 ** 32 - 1);
-  const options = { sourceType: goals[0] ?? 'program', maxFaults, flags, locations, ranges, comments, tokens };
+  const options = { sourceType: goals[0] ?? 'auto', maxFaults, flags, locations, ranges, comments, tokens };
   if (values.limit !== undefined) options.limit = number(values.limit, 'limit', 1000);
   const files = positionals.length > 0 ? positionals : ['-'];
   if (values.format === 'estree' && files.length > 1) throw new Usage('--format estree takes one file');

@@ -1,3 +1,4 @@
+mod Choosing
 mod Deciding
 mod Drawing
 mod Listing

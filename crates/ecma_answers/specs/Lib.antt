@@ -1,3 +1,4 @@
+pub mod Chosen
 pub mod Spelled
 pub mod Outcomes
 pub mod Written

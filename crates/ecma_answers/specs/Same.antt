@@ -1,27 +1,34 @@
 -- Two readings of one text with one setting.
 use Rattle.std.specs.Prelude.{◌≡◌, ℕ, List}
 use Rattle.swc_ecma_parser_error.specs.Kind.{faults_of}
-use Rattle.swc_ecma_parser_state.specs.Opened.{opened}
 use Rattle.swc_ecma_parser.specs.Same as parser
+use Rattle.ecma_answers.specs.declared.options.Goal.{Goal}
+use Rattle.ecma_answers.specs.declared.options.Goal.TheVariants as goal
 use Rattle.ecma_answers.specs.declared.options.Options.{Options}
 use Rattle.ecma_answers.specs.declared.parsing.Reading.{Reading}
 use Rattle.ecma_answers.specs.Outcomes.{outcome_of}
-use Rattle.ecma_answers.specs.Spelled.{Decides, entry_of, source_of, view_tree}
+use Rattle.ecma_answers.specs.Spelled.{Decides, view_tree}
 
 -- the same tree with the same faults, or the same refusal; a fault by its kind and its span
 abbrev pub AreSame : Reading → Reading → Type 0
 AreSame r q = parser.IsSame view_tree r.tree (faults_of r.faults.items) q.tree (faults_of q.faults.items)
 
 -- all goals but a program, of which the faults of a `with` that were held back are known by where they begin
-abbrev pub IsSettled : Options → List ℕ → Type 0
-IsSettled o text = parser.IsSettled (entry_of o.goal) o.limit (opened (source_of o.syntax text))
+abbrev pub IsSettledIn : Goal → Type 0
+IsSettledIn goal.Script = Unit {0}
+IsSettledIn goal.Module = Unit {0}
+IsSettledIn goal.Auto = Unit {0}
+IsSettledIn goal.Program = ⊥
+
+abbrev pub IsSettled : Options → Type 0
+IsSettled o = IsSettledIn o.goal
 
 -- two readings are the same
 abbrev pub OneReading : Type 0
-OneReading = (o : Options) (text : List ℕ) (r q : Reading) → IsSettled o text → Decides o text r → Decides o text q → AreSame r q
+OneReading = (o : Options) (text : List ℕ) (r q : Reading) → IsSettled o → Decides o text r → Decides o text q → AreSame r q
 
 -- and come out in the same way: so a text is too deep for all readings or for none
 abbrev pub OneOutcome : Type 0
 OneOutcome =
-    (o : Options) (text : List ℕ) (r q : Reading) → IsSettled o text → Decides o text r → Decides o text q
+    (o : Options) (text : List ℕ) (r q : Reading) → IsSettled o → Decides o text r → Decides o text q
     → outcome_of r.tree r.faults.items ≡ outcome_of q.tree q.faults.items

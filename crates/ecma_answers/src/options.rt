@@ -11,7 +11,11 @@ pub const MAX_LIMIT: u32 = 1000;
 pub enum Goal {
     Script,
     Module,
+    /// A module where one of the statements makes it one, as `parse_program` of the parser has it; else a script.
     Program,
+    /// A script where it can be read as one without a fault, with `await` as the standard has it there; else a module where it can be read as
+    /// one without a fault; else the one of which what is told says more of the text.
+    Auto,
 }
 
 /// What is asked for.

@@ -67,12 +67,13 @@ abbrev pub syntax_named : Option (List (List ℕ)) → Syntax
 syntax_named None = plain
 syntax_named (Some words) = syntax.Es (all_enabled plain_setting (names_in words))
 
--- what a file is read as: a script or a module, where that word stands there; else a program
+-- what a file is read as: a script, a module or a program, where that word stands there; else whichever of the first two it turns out to be
 abbrev pub IsGoal : Found → Goal → Type 0
 IsGoal f g =
     (IsSet f (codes "script") → g ≡ goal.Script)
     × (IsUnset f (codes "script") → IsSet f (codes "module") → g ≡ goal.Module)
-    × (IsUnset f (codes "script") → IsUnset f (codes "module") → g ≡ goal.Program)
+    × (IsUnset f (codes "script") → IsUnset f (codes "module") → IsSet f (codes "program") → g ≡ goal.Program)
+    × (IsUnset f (codes "script") → IsUnset f (codes "module") → IsUnset f (codes "program") → g ≡ goal.Auto)
 
 -- one of three at most is so
 abbrev pub is_at_most_one : (first second third : Bool) → Bool

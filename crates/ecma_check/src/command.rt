@@ -93,13 +93,18 @@ fn files<'a>(alloc: Global) -> Arg<'a> {
 
 /// The words that say what files are read as. Each excludes the others, which `settings_of` sees to.
 fn with_goals<'a>(alloc: Global, command: Command<'a>) -> Result<Command<'a>, AllocError> {
+    let script = flag(
+        alloc,
+        "script",
+        "reads each file as a script; without --script, --module and --program a file is a script or a module, whichever it can be read as",
+    );
     let program = flag(
         alloc,
         "program",
-        "reads each file as a module where it holds an import or export, the default",
+        "reads each file as a module where one of its statements makes it one, and else as a script",
     );
     command
-        .arg(flag(alloc, "script", "reads each file as a script"))?
+        .arg(script)?
         .arg(flag(alloc, "module", "reads each file as a module"))?
         .arg(program)
 }
@@ -153,8 +158,10 @@ fn goal_of(matches: &ArgMatches<'_>) -> Goal
         Goal::Script
     } else if matches.get_flag("module") {
         Goal::Module
-    } else {
+    } else if matches.get_flag("program") {
         Goal::Program
+    } else {
+        Goal::Auto
     }
 }
 

@@ -457,6 +457,63 @@ fn goals_and_limits(rt: HostRuntime) -> Result<(), Fail> {
 }
 
 #[test]
+fn scripts_and_modules(rt: HostRuntime) -> Result<(), Fail> {
+    let rows = [
+        ("a", "script", "||0"),
+        ("with (a) b", "script", "||0"),
+        ("async function a() { await b }", "script", "||0"),
+        ("import 'a'", "module", "||0"),
+        ("const a = await b();", "module", "||0"),
+        ("if (a) await b;", "module", "||0"),
+        ("await a", "module", "||0"),
+        ("function a() { return import.meta }", "module", "||0"),
+        ("await = a", "script", "\n|1"),
+        ("const a = await b(); with (c) d", "module", "\n|1"),
+        ("with (c) d; break", "script", "\n|1"),
+    ];
+    for (text, goal, end) in rows {
+        let found = printed(&rt, plain(&["--format", "estree"], text.as_bytes()))?;
+        let part = format!(in rt.alloc(); "\"sourceType\":\"{goal}\"")?;
+        let found = found.as_str();
+        assert!(rt;
+            found.contains(part.as_str()) && found.ends_with(end),
+            "{found:?}"
+        );
+    }
+    Ok(())
+}
+
+#[test]
+fn neither_script_nor_module(rt: HostRuntime) -> Result<(), Fail> {
+    let rows = [
+        (
+            "import a from 'a'; with (b) c; d(",
+            "-:1:20: fault: ",
+            ", faults: 1, refused: 1, unread: 0\n||2",
+        ),
+        (
+            "const a = await b(); c(",
+            "-:1:24: refused: ",
+            ", faults: 0, refused: 1, unread: 0\n||2",
+        ),
+        (
+            "const a = await b(); return c",
+            "-:1:22: fault: ",
+            ", faults: 1, refused: 0, unread: 0\n||1",
+        ),
+    ];
+    for (text, begin, end) in rows {
+        let found = printed(&rt, plain(&[], text.as_bytes()))?;
+        let found = found.as_str();
+        assert!(rt;
+            found.starts_with(begin) && found.ends_with(end),
+            "{found:?}"
+        );
+    }
+    Ok(())
+}
+
+#[test]
 fn what_is_wrong_in_a_condition(rt: HostRuntime) -> Result<(), Fail> {
     let found = printed(&rt, plain(&["--script"], b"if ()"))?;
     assert_eq!(rt;

@@ -20,7 +20,7 @@ use Rattle.ecma_link.specs.Same.{IsSettled, IsWithoutComments}
 same_options : (given : EcmaOptions) (o p : Options) → asked given ≡ Some o → asked given ≡ Some p → p ≡ o
 same_options given o p e f = ap (λ z. unwrap_or z o) (sym f ∙ e)
 
-pub one_status : (w v : Wanted) (given : EcmaOptions) (text : List ℕ) (a b : Outcome) (out other : List ℕ) → IsSettled given text
+pub one_status : (w v : Wanted) (given : EcmaOptions) (text : List ℕ) (a b : Outcome) (out other : List ℕ) → IsSettled given
     → IsCall w given text a out → IsCall v given text b other → a ≡ b
 one_status w v given text a b out other settled h k =
     let o = h.1.0 in
@@ -42,7 +42,7 @@ same_tree o text n (Err e) (Err f) fs gs s out other h k = h ∙ sym k
 same_tree o text n (Ok x) (Err f) fs gs s out other h k = absurd s
 same_tree o text n (Err e) (Ok y) fs gs s out other h k = absurd s
 
-pub one_tree : (given : EcmaOptions) (text : List ℕ) (a b : Outcome) (out other : List ℕ) → IsSettled given text → IsWithoutComments given
+pub one_tree : (given : EcmaOptions) (text : List ℕ) (a b : Outcome) (out other : List ℕ) → IsSettled given → IsWithoutComments given
     → IsCall wanted.Tree given text a out → IsCall wanted.Tree given text b other → out ≡ other
 one_tree given text a b out other settled plain h k =
     let o = h.1.0 in

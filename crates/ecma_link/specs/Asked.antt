@@ -12,7 +12,12 @@ abbrev pub has : (flags bit : ℕ) → Bool
 has flags bit = not (bit_and flags bit == 0)
 
 abbrev pub goal_of : ℕ → Option Goal
-goal_of n = if n == 0 then Some goal.Script else (if n == 1 then Some goal.Module else (if n == 2 then Some goal.Program else None))
+goal_of n =
+    if n == 0 then Some goal.Script
+    else if n == 1 then Some goal.Module
+    else if n == 2 then Some goal.Program
+    else if n == 3 then Some goal.Auto
+    else None
 
 -- what is read besides ECMA-262
 abbrev pub syntax_of : ℕ → Syntax

@@ -10,8 +10,8 @@ use Rattle.ecma_link.specs.Asked.{asked}
 use Rattle.ecma_link.specs.Calls.{IsCall}
 
 -- all goals but a program
-abbrev pub IsSettled : EcmaOptions → List ℕ → Type 0
-IsSettled given text = (o : Options) → asked given ≡ Some o → answers.IsSettled o text
+abbrev pub IsSettled : EcmaOptions → Type 0
+IsSettled given = (o : Options) → asked given ≡ Some o → answers.IsSettled o
 
 -- no comments are asked for
 abbrev pub IsWithoutComments : EcmaOptions → Type 0
@@ -20,11 +20,11 @@ IsWithoutComments given = (o : Options) → asked given ≡ Some o → o.comment
 -- all answers have one status: so a call says that the text is too deep where it is, whatever is asked for of the tree
 abbrev pub OneStatus : Type 0
 OneStatus =
-    (w v : Wanted) (given : EcmaOptions) (text : List ℕ) (a b : Outcome) (out other : List ℕ) → IsSettled given text
+    (w v : Wanted) (given : EcmaOptions) (text : List ℕ) (a b : Outcome) (out other : List ℕ) → IsSettled given
     → IsCall w given text a out → IsCall v given text b other → a ≡ b
 
 -- A tree without comments has one text. So a call for it in a room of as many bytes as were needed before is answered, unless memory runs out.
 abbrev pub OneTree : Type 0
 OneTree =
-    (given : EcmaOptions) (text : List ℕ) (a b : Outcome) (out other : List ℕ) → IsSettled given text → IsWithoutComments given
+    (given : EcmaOptions) (text : List ℕ) (a b : Outcome) (out other : List ℕ) → IsSettled given → IsWithoutComments given
     → IsCall wanted.Tree given text a out → IsCall wanted.Tree given text b other → out ≡ other

@@ -13,7 +13,7 @@ use swc_ecma_parser::input::{EsSyntax, Syntax};
 #[repr(C)]
 #[derive(Clone, Copy)]
 pub struct EcmaOptions {
-    /// 0 for a script, 1 for a module, 2 for a program.
+    /// 0 for a script, 1 for a module, 2 for a program, 3 for a script or a module, whichever the text can be read as.
     pub goal: u32,
     /// How many levels deep the text may nest; more than 1,000 count as 1,000.
     pub limit: u32,
@@ -57,6 +57,7 @@ fn goal_of(number: u32) -> Result<Goal, Failure>
         0 => Ok(Goal::Script),
         1 => Ok(Goal::Module),
         2 => Ok(Goal::Program),
+        3 => Ok(Goal::Auto),
         _ => Err(Failure::UnknownOption),
     }
 }

@@ -1,0 +1,15 @@
+-- What the parser promises of the tokens, of the tree in the place where it is kept.
+use Rattle.swc_ecma_parser_error.specs.Kind.{faults_of}
+use Rattle.swc_ecma_parser_grammar.specs.language.Programs as programs
+use Rattle.swc_ecma_parser.specs.Headline.{end_of}
+use Rattle.ecma_answers.specs.declared.parsing.Tree.TheVariants as tree
+use Rattle.ecma_answers.specs.Spelled.{wrapped}
+use Rattle.ecma_answers.proofs.Deciding.{of_module, read_as, where_ok}
+use Rattle.ecma_answers.proofs.goals.as_module.Goals as goal
+
+pub returns : goal.returns
+returns g c =
+    let s = g.I.Tokens.seen c.args.tokens in
+    let read = c.read_module in
+    where_ok c.lasting.result c.lasting.ensures (read_as programs.«module» c.args.limit s (wrapped tree.Module read.result.0) read.result.1.items c.of_module.result _
+    c.of_module.ensures.tree c.of_module.ensures.faults (of_module c.args.limit s (faults_of read.result.1.items) (end_of s) read.result.0 read.ensures))

@@ -1,0 +1,15 @@
+-- What the parser promises of the tokens, of the tree in the place where it is kept.
+use Rattle.swc_ecma_parser_error.specs.Kind.{faults_of}
+use Rattle.swc_ecma_parser_grammar.specs.language.Programs as programs
+use Rattle.swc_ecma_parser.specs.Headline.{end_of}
+use Rattle.ecma_answers.specs.declared.parsing.Tree.TheVariants as tree
+use Rattle.ecma_answers.specs.Spelled.{wrapped}
+use Rattle.ecma_answers.proofs.Deciding.{of_script, read_as, where_ok}
+use Rattle.ecma_answers.proofs.goals.as_script.Goals as goal
+
+pub returns : goal.returns
+returns g c =
+    let s = g.I.Tokens.seen c.args.tokens in
+    let read = c.read_script in
+    where_ok c.lasting.result c.lasting.ensures (read_as programs.script c.args.limit s (wrapped tree.Script read.result.0) read.result.1.items c.of_script.result _
+    c.of_script.ensures.tree c.of_script.ensures.faults (of_script c.args.limit s (faults_of read.result.1.items) (end_of s) read.result.0 read.ensures))
