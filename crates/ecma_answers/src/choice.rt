@@ -5,7 +5,7 @@ ghost use Rattle.swc_ecma_parser_error.specs.Kind.{faults_of, kind_of};
 ghost use Rattle.ecma_answers.specs.Chosen as spec;
 ghost use Rattle.ecma_answers.specs.Chosen.{told_of};
 
-use crate::parsing::{Outcome, Reading};
+use crate::parsing::Reading;
 use swc_ecma_parser::error::{Error, SyntaxError};
 
 /// Whether a tree was read, and no fault stands beside it.
