@@ -1,7 +1,8 @@
 -- What was read, from what the parser decides.
-use Rattle.std.proofs.Common.{◌≡◌, ◌≢◌, ◌∙◌, ◌↔◌, ◌⊎◌, inl, inr, ℕ, Bool, true, false, ◌||◌, if◌then◌else◌, List, [], ◌∷◌, Result, Ok, Err, ap, refl, subst, sym, true≢false}
+use Rattle.std.proofs.Common.{◌≡◌, ◌≢◌, ◌∙◌, ◌↔◌, ◌⊎◌, inl, inr, ℕ, Bool, true, false, ◌||◌, if◌then◌else◌, List, [], ◌∷◌, Result, Ok, Err, ap, arith, length, nat_lt, refl, subst, suc, sym, true≢false}
 use Rattle.std.specs.Prelude.{IfOk}
 use Rattle.std.specs.Str.{chars}
+use Rattle.std.proofs.lemmas.Bool.Decides.{nat_tests}
 use Rattle.swc_ecma_parser_common.specs.declared.span.BytePos.{BytePos}
 use Rattle.swc_ecma_parser_error.specs.declared.error.Error.{Error}
 use Rattle.swc_ecma_parser_error.specs.Kind.{Fault, Kind, OutOfMemory, faults_of}
@@ -81,7 +82,7 @@ spelled_as entry limit s r new h x = some_place view_tree entry limit s r.tree (
 -- ---- clean readings
 
 clean_tree : (x : Result Tree Error) (es : List Error) → is_clean (told_by x es) ≡ true → (y : model.Tree) × IsClean view_tree x (faults_of es) y
-clean_tree (Ok y) [] h = (view_tree y, refl, refl)
+clean_tree (Ok y) [] h = (view_tree y, (refl, refl))
 clean_tree (Ok y) (e ∷ es) h = absurd (true≢false (sym h))
 clean_tree (Err e) es h = absurd (true≢false (sym h))
 
@@ -98,10 +99,16 @@ or_true : (b : Bool) → (b || true) ≡ true
 or_true true = refl
 or_true false = refl
 
+is_less : (n : ℕ) → nat_lt 0 (suc n) ≡ true
+is_less n = grind (arith, nat_tests)
+
+or_less : (a b : Bool) → b ≡ true → (a || b) ≡ true
+or_less a b h = ap (λ z. a || z) h ∙ or_true a
+
 -- a module that alone is clean is taken
 taken : (s m : Told) → is_clean s ≡ false → is_clean m ≡ true → prefers_module s m ≡ true
 taken (Ok []) m h k = absurd (true≢false h)
-taken (Ok (f ∷ fs)) (Ok []) h k = or_true (has_module_fault (f ∷ fs))
+taken (Ok (f ∷ fs)) (Ok []) h k = or_less (has_module_fault (f ∷ fs)) (nat_lt 0 (length (f ∷ fs))) (is_less (length fs))
 taken (Ok (f ∷ fs)) (Ok (g ∷ gs)) h k = absurd (true≢false (sym k))
 taken (Ok (f ∷ fs)) (Err g) h k = absurd (true≢false (sym k))
 taken (Err f) (Ok gs) h k = refl
@@ -114,32 +121,32 @@ one_of P false s m h k = h
 -- ---- a script or a module
 
 module _ (limit : ℕ) (s : TokenSource) (new : IsNew s) (new_script : IsNew (without_await s)) where
-  abbrev Script : model.Tree → Type 0
-  Script x = SpellsAs programs.script limit (without_await s) x
+  abbrev AsScript : model.Tree → Type 0
+  AsScript x = SpellsAs programs.script limit (without_await s) x
 
-  abbrev Module : model.Tree → Type 0
-  Module x = SpellsAs programs.«module» limit s x
+  abbrev AsModule : model.Tree → Type 0
+  AsModule x = SpellsAs programs.«module» limit s x
 
   abbrev Either : model.Tree → Type 0
-  Either x = Script x ⊎ (((y : model.Tree) → ¬ Script y) × Module x)
+  Either x = AsScript x ⊎ (((y : model.Tree) → ¬ AsScript y) × AsModule x)
 
-  is_script : (r : Reading) (x y : model.Tree) → ((z : model.Tree) → IsRead r z ↔ Script z) → IsRead r y → Either x → IsRead r x
+  is_script : (r : Reading) (x y : model.Tree) → ((z : model.Tree) → IsRead r z ↔ AsScript z) → IsRead r y → Either x → IsRead r x
   is_script r x y h k (inl p) = (h x).1 p
   is_script r x y h k (inr q) = absurd (q.0 y ((h y).0 k))
 
-  is_module : (x : model.Tree) → ((y : model.Tree) → ¬ Script y) → Either x → Module x
+  is_module : (x : model.Tree) → ((y : model.Tree) → ¬ AsScript y) → Either x → AsModule x
   is_module x none (inl p) = absurd (none x p)
   is_module x none (inr q) = q.1
 
   -- the script is not clean
-  again : (script m r : Reading) → ((x : model.Tree) → IsRead script x ↔ Script x) → ((x : model.Tree) → IsRead m x ↔ Module x) → is_clean (told_of script) ≡ false → (b : Bool) → is_clean (told_of m) ≡ b
+  again : (script m r : Reading) → ((x : model.Tree) → IsRead script x ↔ AsScript x) → ((x : model.Tree) → IsRead m x ↔ AsModule x) → is_clean (told_of script) ≡ false → (b : Bool) → is_clean (told_of m) ≡ b
       → r ≡ chosen script m → (x : model.Tree) → IsRead r x ↔ Either x
   again script m r h k faulty true clean e x =
-      let none : (y : model.Tree) → ¬ Script y = λ y p. none_read script faulty y ((h y).1 p) in
+      let none : (y : model.Tree) → ¬ AsScript y = λ y p. none_read script faulty y ((h y).1 p) in
       let same : r ≡ m = e ∙ ap (λ (b : Bool). if b then m else script) (taken (told_of script) (told_of m) faulty clean) in
       rw same ((λ p. inr (none, (k x).0 p)), (λ q. (k x).1 (is_module x none q)))
   again script m r h k faulty false not_clean e x =
-      let none : (y : model.Tree) → ¬ Script y = λ y p. none_read script faulty y ((h y).1 p) in
+      let none : (y : model.Tree) → ¬ AsScript y = λ y p. none_read script faulty y ((h y).1 p) in
       let unread : (y : model.Tree) → ¬ IsRead (chosen script m) y =
       none_read (chosen script m) (one_of (λ (z : Reading). is_clean (told_of z) ≡ false) (prefers_module (told_of script) (told_of m)) script m faulty not_clean) in
       rw e ((λ p. absurd (unread x p)), (λ q. absurd (none_read m not_clean x ((k x).1 (is_module x none q)))))
@@ -194,3 +201,20 @@ either_decided o text r g h =
     let s = source_of o.syntax text in
     decided_in goal.Auto o text r g (either_spelled o.limit s (is_new o text) (is_new_script o text) r h, h)
     (chosen_lasts o.limit s h.script r h.read.lasts (is_clean (told_of h.script)) h.choice)
+
+-- ---- the second reading
+
+module _ (o : Options) (text : List ℕ) (script : Reading) where
+  pub again_read : {E : Type 0} (m r : Reading) (s : TokenSource) (answer : Result Reading E) → s ≡ source_of o.syntax text → answer ≡ Ok m
+      → IfOk answer (IsReadAs programs.«module» o.limit s) → r ≡ chosen script m → IsChosen false o.limit (source_of o.syntax text) script r
+  again_read {E} m r s answer e f h g =
+      let read : IsReadAs programs.«module» o.limit s m = subst (λ (z : Result Reading E). IfOk z (IsReadAs programs.«module» o.limit s)) f h in
+      (m, subst (ReadAs programs.«module» o m) e read, g)
+
+  pub either_read : (s : TokenSource) (b : Bool) (r : Reading) → s ≡ without_await (source_of o.syntax text) → IsReadAs programs.script o.limit s script
+      → b ≡ is_clean (told_of script) → IsChosen b o.limit (source_of o.syntax text) script r → IsEither o.limit (source_of o.syntax text) r
+  either_read s b r e h f k = record {
+    script = script;
+    read = subst (ReadAs programs.script o script) e h;
+    choice = subst (λ (z : Bool). IsChosen z o.limit (source_of o.syntax text) script r) f k;
+  }

@@ -160,7 +160,7 @@ fn read_again(
 {
     let tokens = lexer_of(alloc, options.syntax, text);
     match as_module(alloc, tokens, options.limit) {
-        Ok(module) => Ok(chosen(script, module)),
+        Ok(other) => Ok(chosen(script, other)),
         Err(error) => {
             script.discard();
             Err(error)

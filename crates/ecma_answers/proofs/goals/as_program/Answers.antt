@@ -11,5 +11,5 @@ pub returns : goal.returns
 returns g c =
     let s = g.I.Tokens.seen c.args.tokens in
     let read = c.read_program in
-    where_ok c.lasting.result c.lasting.ensures (read_as programs.program c.args.limit s (wrapped tree.Program read.result.0) read.result.1.items c.of_program.result _
-    c.of_program.ensures.tree c.of_program.ensures.faults (of_program c.args.limit s (faults_of read.result.1.items) (end_of s) read.result.0 read.ensures))
+    where_ok c.lasting.result c.lasting.ensures (λ it p. read_as programs.program c.args.limit s (wrapped tree.Program read.result.0) read.result.1.items c.of_program.result it
+    c.of_program.ensures.tree c.of_program.ensures.faults (of_program c.args.limit s (faults_of read.result.1.items) (end_of s) read.result.0 read.ensures) p)
