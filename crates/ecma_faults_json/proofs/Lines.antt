@@ -1,8 +1,8 @@
 -- How the line of a fault is read.
-use Rattle.std.proofs.Common.{◌≡◌, ℕ, suc, List, [], ◌∷◌, ◌++◌, ◌+◌, ◌*◌, ◌<◌, ◌≤◌, ◌^◌, Bool, true, false, cond, Option, Some, None, arith, refl, ap, sym, ◌∙◌, subst, append_assoc, append-nil, codes, decimal, length}
+use Rattle.std.proofs.Common.{◌≡◌, ℕ, suc, List, [], ◌∷◌, ◌++◌, ◌+◌, ◌*◌, ◌<◌, ◌^◌, Bool, true, false, cond, Option, Some, None, arith, refl, ap, sym, ◌∙◌, subst, append_assoc, append-nil, codes, decimal, length}
 use Rattle.ecma_estree_json.specs.Json.{Json, Fields}
 use Rattle.ecma_estree_json.specs.Made.{done, field, object, text, count}
-use Rattle.ecma_estree_json.specs.Reading.{First, value, alone, parse_json}
+use Rattle.ecma_estree_json.specs.Reading.{value, alone, parse_json}
 use Rattle.ecma_estree_json.specs.Reading.{first as read_first}
 use Rattle.ecma_estree_json.proofs.Bounds.{offset_small, IsSmall, spot_small}
 use Rattle.ecma_estree_json.proofs.Chars.{all_simple}
@@ -47,14 +47,14 @@ unfolding spot_fields
 spot_leaves line column q {ys} h g s l =
     leaves_at (append_assoc (number line q.line) (number column (q.column + 1)) ys) (number_leaves line q.line h s.line (number_leaves column (q.column + 1) g s.column l))
 
-if_there : (b : Bool) {xs ys zs : List ℕ} {o p : Option Fields} → Leaves (xs ++ ys) o zs → Leaves ys p zs → Leaves (cond b xs [] ++ ys) (cond b o p) zs
-if_there true x y = x
-if_there false x y = y
+if_there : (b : Bool) (xs : List ℕ) {ys zs : List ℕ} {o p : Option Fields} → Leaves (xs ++ ys) o zs → Leaves ys p zs → Leaves (cond b xs [] ++ ys) (cond b o p) zs
+if_there true xs x y = x
+if_there false xs x y = y
 
 place_leaves : (x : Placed) (line column : List ℕ) (n : ℕ) {ys zs : List ℕ} {p : Option Fields} → length x.text < 2 ^ 63 → all_simple line ≡ true → all_simple column ≡ true
     → Leaves ys p zs → Leaves (place_json x line column n ++ ys) (place_fields x line column n p) zs
 unfolding place_fields
-place_leaves x line column n b h g l = if_there x.has_locations (spot_leaves line column (spot_at x.text n) h g (spot_small x.text n b) l) l
+place_leaves x line column n b h g l = if_there x.has_locations (spot_json line column (spot_at x.text n)) (spot_leaves line column (spot_at x.text n) h g (spot_small x.text n b) l) l
 
 offsets_layout : (a b c d ys : List ℕ) → (a ++ (b ++ (c ++ d))) ++ ys ≡ a ++ (b ++ (c ++ (d ++ ys)))
 offsets_layout a b c d ys = simp append_assoc
@@ -117,7 +117,7 @@ line_starts : (x : Placed) (file severity kind message : List ℕ) (s : Span) (n
 unfolding line
 line_starts x file severity kind message s note b f g =
     subst (λ us. Starts us (object (field (codes "file") (text file) (field (codes "severity") (text severity) (field (codes "kind") (text kind)
-        (field (codes "message") (text message) (span_fields x s (note_field x note done))))))) (10 ∷ []))
+    (field (codes "message") (text message) (span_fields x s (note_field x note done))))))) (10 ∷ []))
     (sym (head_layout file severity kind message (span_json x s ++ (note_json x note ++ codes "}\n"))))
     (object_starts (field_leaves (codes "file") refl (quoted_spells file) (string_leaves (codes "severity") severity refl
     (string_leaves (codes "kind") kind refl (string_leaves (codes "message") message refl
