@@ -4,6 +4,8 @@
 
 const seek = (() => {
   const MOST_HITS = 1000;
+  /** The most levels that are opened at once, and the most nodes around a place that are named. */
+  const [MOST_LEVELS, MOST_NAMED] = [500, 9];
   /** A fault's line ends, or it tells a place. What stands in a string has a backslash before each quotation mark. */
   const PLACE = /\n|"start":(\d+),"end":(\d+)/g;
   /** How many numbers a mark has: where it begins, where it ends, and whether it is a note. */
@@ -44,6 +46,9 @@ const seek = (() => {
     return way;
   }
 
+  /** The path of the innermost node of a way that is not too deep to be opened. */
+  const pathOf = way => way.findLast((it, index) => it.head && index < MOST_LEVELS).path;
+
   /** Has a list show a part of it that stands at an index. */
   function windowTo(path, index) {
     const [first, end] = windows.get(path) ?? [0, MOST_ENTRIES];
@@ -78,9 +83,10 @@ const seek = (() => {
   function around([start, end], unfolds) {
     if (!isTree()) return { at: [start, end], way: [] };
     const way = wayTo(start, end);
-    const { head, path } = way.at(-1);
+    const { head } = way.at(-1);
+    const path = pathOf(way);
     if (unfolds) follow(path);
-    const said = way.filter(it => it.head).map(saidAt);
+    const said = way.filter(it => it.head).slice(-MOST_NAMED).map(saidAt);
     const found = { at: [start, end], path, start: Number(head[2]), end: Number(head[3]), way: said };
     return unfolds ? { ...found, tree: treeShown() } : found;
   }
@@ -100,10 +106,17 @@ const seek = (() => {
   }
 
   /** The name of a node, as `nameAt` finds it in what was written. */
-  function nameOf(node) {
+  function nameOf(node, levels = MOST_NAME_LEVELS) {
     if (typeof node === 'string') return node;
-    if (Array.isArray(node)) return nameOf(node[0]);
-    return node && NAMES[node.type] ? nameOf(node[NAMES[node.type]]) : undefined;
+    if (Array.isArray(node)) return nameOf(node[0], levels);
+    return node && NAMES[node.type] && levels > 0 ? nameOf(node[NAMES[node.type]], levels - 1) : undefined;
+  }
+
+  /** The path of what stands in the objects and lists above it. */
+  function pathTo(at) {
+    const names = [];
+    for (; at; at = at.above) names.push(`/${at.name}`);
+    return names.reverse().join('');
   }
 
   /** The nodes whose kind, or kind and name, hold some words, and how many there are. Capitals count as small letters. */
@@ -111,16 +124,17 @@ const seek = (() => {
     const wanted = words.toLowerCase();
     const hits = [];
     let count = 0;
-    const left = wanted && isTree() ? [{ node: JSON.parse(valueOf(TREE.length)), path: '/' }] : [];
+    const left = wanted && isTree() ? [{ node: JSON.parse(valueOf(TREE.length)), name: '', above: null }] : [];
     while (left.length > 0) {
-      const { node, path } = left.pop();
-      const { type, start, end } = node;
-      if (typeof type === 'string' && start !== undefined && `${type} ${nameOf(node) ?? ''}`.toLowerCase().includes(wanted)) {
+      const at = left.pop();
+      const { type, start, end } = at.node;
+      if (typeof type === 'string' && start !== undefined && `${type} ${nameOf(at.node) ?? ''}`.toLowerCase().includes(wanted)) {
         count++;
-        if (hits.length < MOST_HITS) hits.push({ path, start, end });
+        if (hits.length < MOST_HITS) hits.push({ path: pathTo(at), start, end });
       }
-      const inner = Object.entries(node).filter(([, it]) => it !== null && typeof it === 'object').reverse();
-      for (const [name, it] of inner) left.push({ node: it, path: `${path}/${name}` });
+      const inner = [];
+      for (const name in at.node) if (typeof at.node[name] === 'object' && at.node[name]) inner.push({ node: at.node[name], name, above: at });
+      while (inner.length > 0) left.push(inner.pop());
     }
     return { words, hits, count };
   }

@@ -9,6 +9,8 @@ const NODE = /^\{"type":"(\w+)","start":(\d+),"end":(\d+)/;
 const MOST_HEAD = 128;
 const OWN_NAMES = ['type', 'start', 'end'];
 const LITERAL = '{"type":"Literal"';
+/** What stands behind the faults, where there are more. */
+const MORE = /"more":(\d+)/;
 /** The field that names a node of a kind: a text, or a node or a list whose name it is. */
 const NAMES = {
   Identifier: 'name', PrivateIdentifier: 'name', Literal: 'raw', VariableDeclaration: 'declarations', VariableDeclarator: 'id',
@@ -19,6 +21,8 @@ const NAMES = {
 };
 /** How much of a name is shown. */
 const MOST_NAME = 40;
+/** How many levels below a node its name is looked for. */
+const MOST_NAME_LEVELS = 20;
 /** What stands before the tree, behind the body of a program, and before the faults. */
 const [TREE, REST, FAULTS] = ['{"tree":', ',"sourceType":"', ',"faults":['];
 const [OPEN, OPEN_LIST, CLOSE_LIST, MARK, NEWLINE] = ['{', '[', ']', '"', '\n'].map(it => it.charCodeAt(0));
@@ -47,12 +51,12 @@ const isOpen = path => opened.has(path) || followed.has(path);
 const headOf = from => NODE.exec(parts.textOf(written, from, from + MOST_HEAD));
 
 /** The name of the node or of the first node of the list that begins at a place, if it has one. */
-function nameAt(from) {
+function nameAt(from, levels = MOST_NAME_LEVELS) {
   if (written[from] === MARK) return JSON.parse(valueOf(from));
-  if (written[from] === OPEN_LIST) return nameAt(from + 1);
+  if (written[from] === OPEN_LIST) return nameAt(from + 1, levels);
   const field = written[from] === OPEN && NAMES[headOf(from)?.[1]];
-  if (!field) return undefined;
-  for (const part of parts.partsOf(written, from)) if (part.name === field) return nameAt(part.from);
+  if (!field || levels === 0) return undefined;
+  for (const part of parts.partsOf(written, from)) if (part.name === field) return nameAt(part.from, levels - 1);
   return undefined;
 }
 
@@ -109,14 +113,15 @@ function faultsIn(places) {
   return places.map(([at, end]) => answers.faultOf(JSON.parse(parts.textOf(written, at, end))));
 }
 
-/** How many faults there are, and those that are shown. Each stands in a line. Where there is no tree, the last says why. */
+/** How many faults there are, how many more the parser does not tell, and those that are shown. Each stands in a line. Where there is no tree, the last says why. */
 function faultsOf(from, hasTree) {
   faultPlaces = [];
   for (let end; (end = written.indexOf(NEWLINE, from)) >= 0; from = end + 1) faultPlaces.push([from + 1, end]);
   const count = faultPlaces.length;
+  const [, more = 0] = MORE.exec(parts.textOf(written, from)) ?? [];
   const faults = faultsIn(faultPlaces.filter((_, index) => index < MOST_FAULTS || (!hasTree && index === count - 1)));
   if (!hasTree) faults.at(-1).isRefusal = true;
-  return { count, faults };
+  return { count, more: Number(more), faults };
 }
 
 /** What is shown of an answer. */
