@@ -89,6 +89,8 @@ class Reader extends TextView {
 
   reveal(offset) {
     this.rows.reveal(this.rowOf(offset));
+    // A row that is not there yet can't be scrolled to sideways.
+    this.rows.paint();
     this.revealAcross(offset, this.margin);
   }
 

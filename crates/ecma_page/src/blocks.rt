@@ -4,6 +4,9 @@
 pub(crate) const BLOCKS: &str = r#"'use strict';
 // What the worker of a page of ecma-check has in the place of a parser: the page has the answer already.
 
+/** The path of the whole tree. */
+const WHOLE = '/';
+
 const answers = {
   numbersOf: () => ({}),
   failureOf: () => null,
@@ -20,7 +23,7 @@ function answeredOf(ask) {
     const { written: bytes, hasTree } = event.data;
     if (!bytes) return ask(event);
     answer = () => ({ status: hasTree ? 0 : NO_TREE, bytes });
-    opened.add('//body');
+    opened.add(`${WHOLE}/body`);
     answered({ text: '', options: {}, number: 0 });
   };
 }

@@ -59,7 +59,7 @@ textarea { position: absolute; inset: 0; width: 100%; height: 100%; margin: 0; r
 textarea::selection { background: var(--cursor); color: var(--ink); }
 .source { position: relative; overflow: auto; min-width: 0; min-height: 0; font: 13px/20px ui-monospace, monospace; tab-size: 4; }
 .source .row { cursor: text; }
-.source .row::before { content: attr(data-line); position: sticky; left: 0; display: inline-block; width: calc(var(--digits) * 1ch + 20px); height: 20px; margin-right: 12px; padding: 0 8px 0 12px; text-align: right; vertical-align: top; color: var(--faint); background: var(--panel); }
+.source .row::before { content: attr(data-line); position: sticky; left: 0; display: inline-block; box-sizing: border-box; width: calc(var(--digits) * 1ch + 20px); height: 20px; margin-right: 12px; padding: 0 8px 0 12px; text-align: right; vertical-align: top; color: var(--faint); background: var(--panel); }
 .caret { background: var(--cursor); }
 .source:focus .caret { box-shadow: inset 2px 0 0 var(--noted); }
 .tail::after { content: '\00a0'; }
