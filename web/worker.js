@@ -41,6 +41,10 @@ const opened = new Set(['/']);
 let followed = new Set();
 /** Which parts of a long list are shown, by its path: the first, and the end of them. */
 const windows = new Map();
+/** Where the parts of lists begin, by where the lists do: of those in which something was looked for. */
+const starts = new Map();
+/** Where those nodes and lists end that were gone over, by where they begin. */
+const ends = new Map();
 /** Where each fault begins and ends in what was written. */
 let faultPlaces = [];
 
@@ -89,17 +93,28 @@ function literalEntries(from) {
   return named.map(([name, value]) => ({ name, label: typeof value === 'bigint' ? `${value}n` : JSON.stringify(value) }));
 }
 
-/** What stands in a node or a list, as far as it is shown. The end of a program's body is looked for from behind. */
+/** The parts of a node or a list. The end of a program's body is looked for from behind. */
+const partsAt = from => parts.partsOf(written, from, from === TREE.length ? { body: parts.lastIndexOf(written, REST, 'T') } : {}, ends);
+
+/** Where the parts of a list begin. It is gone over once. */
+function startsOf(from) {
+  if (!starts.has(from)) starts.set(from, parts.startsOf(written, from));
+  return starts.get(from);
+}
+
+/** The parts of a list from one on, as far as one behind an end. */
+const partsFrom = (from, first, end) => startsOf(from).slice(first, end + 1).map((it, index) => ({ name: String(first + index), from: it }));
+
+/** What stands in a node or a list, as far as it is shown. */
 function entriesOf(from, path) {
   if (parts.textOf(written, from, from + LITERAL.length) === LITERAL) return literalEntries(from);
-  const ends = from === TREE.length ? { body: parts.lastIndexOf(written, REST, 'T') } : {};
   const [first, end] = windows.get(path) ?? [0, MOST_ENTRIES];
   const entries = first > 0 ? [{ name: '..', label: `${first} before` }] : [];
-  let index = 0;
-  for (const part of parts.partsOf(written, from, ends)) {
+  let index = first;
+  for (const part of first > 0 ? partsFrom(from, first, end) : partsAt(from)) {
     if (OWN_NAMES.includes(part.name)) continue;
     if (index === end) return [...entries, { name: '..', label: 'more' }];
-    if (index >= first) entries.push(entryOf(part, path));
+    entries.push(entryOf(part, path));
     index++;
   }
   if (index > first || first === 0) return entries;
@@ -135,6 +150,8 @@ function answerShown(status) {
 function told(text, options) {
   places = [];
   faultPlaces = [];
+  starts.clear();
+  ends.clear();
   generation += 1;
   const begun = performance.now();
   let found;

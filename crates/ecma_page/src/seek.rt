@@ -21,21 +21,44 @@ const seek = (() => {
     return start === end && start === to ? 'beside' : 'around';
   }
 
-  /** The part of a list or a node in which some text lies, with the list that it stands in. What only ends there is taken where nothing else is. */
+  /** Where the last node of a list up to an index begins; a hole is none. */
+  function placeUpTo(list, index) {
+    while (index >= 0 && written[list[index]] !== OPEN) index--;
+    return index < 0 ? -1 : Number(headOf(list[index])[2]);
+  }
+
+  /** The node of a list in which some text lies, or that ends there. Nodes stand in the order of their places; comments and tokens are none. */
+  function innerOfList({ from, path }, start, end) {
+    if (written[from + 1] === OPEN && !headOf(from + 1)) return null;
+    const list = startsOf(from);
+    let low = 0;
+    for (let high = list.length; low < high;) {
+      const middle = (low + high) >> 1;
+      if (placeUpTo(list, middle) > start) high = middle;
+      else low = middle + 1;
+    }
+    while (low > 0 && written[list[low - 1]] !== OPEN) low--;
+    const head = low > 0 && headOf(list[low - 1]);
+    const lies = head && liesAt(head, start, end);
+    return lies ? { way: [{ from: list[low - 1], path: `${path}/${low - 1}`, head }], lies } : null;
+  }
+
+  /** What a part of a node is to some text: a node, or a list with one, in which the text lies. */
+  function innerOfPart(inner, start, end) {
+    if (written[inner.from] === OPEN_LIST) {
+      const below = innerOfList(inner, start, end);
+      return below && { way: [inner, ...below.way], lies: below.lies };
+    }
+    const head = written[inner.from] === OPEN && headOf(inner.from);
+    const lies = head && liesAt(head, start, end);
+    return lies ? { way: [{ ...inner, head }], lies } : null;
+  }
+
+  /** The part of a node in which some text lies, with the list that it stands in. What only ends there is taken where nothing else is. */
   function innerOf({ from, path }, start, end) {
     let beside = null;
-    for (const part of parts.partsOf(written, from)) {
-      const inner = { from: part.from, path: `${path}/${part.name}` };
-      let found = null;
-      if (written[part.from] === OPEN) {
-        const head = headOf(part.from);
-        if (head && Number(head[2]) > end && written[from] === OPEN_LIST) break;
-        const lies = head && liesAt(head, start, end);
-        if (lies) found = { way: [{ ...inner, head }], lies };
-      } else if (written[part.from] === OPEN_LIST) {
-        const below = innerOf(inner, start, end);
-        if (below) found = { way: [inner, ...below.way], lies: below.lies };
-      }
+    for (const part of partsAt(from)) {
+      const found = innerOfPart({ from: part.from, path: `${path}/${part.name}` }, start, end);
       if (found?.lies === 'around') return found;
       beside = found ?? beside;
     }
@@ -115,10 +138,10 @@ const seek = (() => {
     return node && NAMES[node.type] && levels > 0 ? nameOf(node[NAMES[node.type]], levels - 1) : undefined;
   }
 
-  /** The path of what stands in the objects and lists above it. */
+  /** The path of what stands in the objects and lists above it, or of the innermost that is not too deep to be opened. */
   function pathTo(at) {
     const names = [];
-    for (; at; at = at.above) names.push(`/${at.name}`);
+    for (; at; at = at.above) if (at.level < MOST_LEVELS) names.push(`/${at.name}`);
     return names.reverse().join('');
   }
 
@@ -127,7 +150,7 @@ const seek = (() => {
     const wanted = words.toLowerCase();
     const hits = [];
     let count = 0;
-    const left = wanted && isTree() ? [{ node: JSON.parse(valueOf(TREE.length)), name: '', above: null }] : [];
+    const left = wanted && isTree() ? [{ node: JSON.parse(valueOf(TREE.length)), name: '', level: 0, above: null }] : [];
     while (left.length > 0) {
       const at = left.pop();
       const { type, start, end } = at.node;
@@ -136,7 +159,7 @@ const seek = (() => {
         if (hits.length < MOST_HITS) hits.push({ path: pathTo(at), start, end });
       }
       const inner = [];
-      for (const name in at.node) if (typeof at.node[name] === 'object' && at.node[name]) inner.push({ node: at.node[name], name, above: at });
+      for (const name in at.node) if (typeof at.node[name] === 'object' && at.node[name]) inner.push({ node: at.node[name], name, level: at.level + 1, above: at });
       while (inner.length > 0) left.push(inner.pop());
     }
     return { words, hits, count };
