@@ -34,10 +34,13 @@ const tree = new TreeView($('nodes'), {
 let moving;
 let isGoing = false;
 
-/** Asks for the node around the cursor once it rests. */
+/** Asks for the node around the cursor once it rests, and looks for a fault there. */
 function moved(after = REST_MS) {
   clearTimeout(moving);
-  moving = setTimeout(() => asks({ at: editor.range(), unfolds: $('follow').checked }), after);
+  moving = setTimeout(() => {
+    faults.point(editor.range()[0]);
+    asks({ at: editor.range(), unfolds: $('follow').checked });
+  }, after);
 }
 
 /** Opens the tree to the cursor, and goes there: once the text is answered. */
@@ -153,7 +156,11 @@ function heard(data) {
 }
 
 /** The worker whose script stands in the page. */
-const workerOf = () => new Worker(URL.createObjectURL(new Blob([$('worker').textContent], { type: 'text/javascript' })));
+function workerOf() {
+  const made = new Worker(URL.createObjectURL(new Blob([$('worker').textContent], { type: 'text/javascript' })));
+  made.onerror = ({ message }) => { $('state').textContent = message || 'this browser runs no worker here'; };
+  return made;
+}
 
 /** The keys that the whole page has. */
 function key(event) {

@@ -97,6 +97,14 @@ class FaultList {
     select((next + length) % length);
   }
 
+  /** Goes to the item of a fault that is told at an offset, where one is. */
+  point(offset) {
+    const isThere = it => it && it.fault.start <= offset && offset < Math.max(it.fault.end, it.fault.start + 1);
+    const items = Array.from(this.list.children);
+    const index = isThere(items[this.cursor]) ? -1 : items.findIndex(isThere);
+    if (index >= 0) this.move(index);
+  }
+
   clicked({ target, button }) {
     const it = target.closest('li');
     if (it && button === 0 && getSelection().isCollapsed) this.tells.select(this.move(Array.from(this.list.children).indexOf(it)));
