@@ -13,59 +13,15 @@ const assert = require('node:assert');
 const fs = require('node:fs');
 const path = require('node:path');
 const { pathToFileURL } = require('node:url');
-const { Browser, Tab } = require('./browser.js');
+const { Browser } = require('./browser.js');
 const { textsWithin } = require('./nests.js');
 const { pointsAt, WIDTHS } = require('./page_points.js');
+const { Playground } = require('./viewer.js');
 
-const PAGE = pathToFileURL(path.join(__dirname, '../web/index.html')).href;
 const CHUNK = 200;
 const ROUNDS = 21;
 const SIZE = 100_000;
 const word = name => (process.argv.includes(name) ? process.argv[process.argv.indexOf(name) + 1] : undefined);
-
-class Playground extends Tab {
-  static async open(browser, url = PAGE) {
-    const page = await browser.open(Playground);
-    await page.send('Page.navigate', { url });
-    await page.until('document.documentElement?.dataset.shown !== undefined');
-    return page;
-  }
-
-  /** Waits until what was asked last is shown. */
-  settled() {
-    return this.until('document.documentElement?.dataset.shown === document.documentElement?.dataset.asked');
-  }
-
-  /** Puts a text into the page, and waits until it is answered. */
-  async given(source) {
-    await this.value(`text.value = ${JSON.stringify(source)}; changed(); 0`);
-    await this.settled();
-  }
-
-  async clickOn(selector) {
-    const { x, y } = await this.value(`(() => { const it = document.querySelector(${JSON.stringify(selector)}); it.scrollIntoView();
-      const { x, y, height } = it.getBoundingClientRect(); return { x: x + 5, y: y + height / 2 }; })()`);
-    await this.click(x, y);
-  }
-
-  async type(text) {
-    for (const key of text) await this.send('Input.dispatchKeyEvent', { type: 'char', text: key });
-  }
-
-  /** Presses a key that has a code of its own (of Windows, as the protocol has them), or that is a character. */
-  async key(key, modifiers = 0) {
-    const text = key === 'Enter' ? '\r' : key.length === 1 ? key : undefined;
-    const of = { key, code: key, windowsVirtualKeyCode: CODES[key] ?? key.toUpperCase().charCodeAt(0), modifiers };
-    await this.send('Input.dispatchKeyEvent', { type: 'keyDown', ...of, text });
-    await this.send('Input.dispatchKeyEvent', { type: 'keyUp', ...of });
-  }
-
-  resize(width, height) {
-    return this.send('Emulation.setDeviceMetricsOverride', { width, height, deviceScaleFactor: 1, mobile: false });
-  }
-}
-
-const CODES = { Tab: 9, Enter: 13, Escape: 27, ' ': 32, PageUp: 33, PageDown: 34, End: 35, Home: 36, ArrowLeft: 37, ArrowUp: 38, ArrowRight: 39, ArrowDown: 40, F2: 113, F8: 119, '/': 191 };
 
 const PICTURED = `const limit = 100;
 function total(items) {
@@ -79,25 +35,25 @@ again: again: while (total([])) break;
 
 /** Typing, clicks, the address. */
 async function used(page) {
-  assert.strictEqual(await page.value(`$('faults').childElementCount`), 1, await page.value(`$('state').textContent`));
+  assert.strictEqual(await page.value(`$('list').childElementCount`), 1, await page.value(`$('state').textContent`));
   await page.clickOn('#text');
   await page.given('');
   await page.type('a;\r b c');
   await page.settled();
-  assert.ok((await page.value(`$('faults').textContent`)).startsWith('2:4 refused'));
-  await page.clickOn('#faults li');
+  assert.ok((await page.value(`$('list').textContent`)).startsWith('2:4 refused'));
+  await page.clickOn('#list li');
   assert.deepStrictEqual(await page.value('[text.selectionStart, text.selectionEnd]'), [6, 7]);
   await page.value('text.select(); self.before = number; 0');
   await page.type('q');
   await page.settled();
   assert.deepStrictEqual(await page.value('[text.value, asked, number - before]'), ['q', 'q', 1], 'a key is asked for once');
   await page.given('f(\u00e9, 1n)');
-  assert.strictEqual(await page.value(`$('faults').childElementCount`), 0);
+  assert.strictEqual(await page.value(`$('list').childElementCount`), 0);
   await page.clickOn('#node-1 .kind');
-  await page.until(`$('tree').textContent.includes('ExpressionStatement')`);
+  await page.until(`$('nodes').textContent.includes('ExpressionStatement')`);
   await page.given('f(\u00e9, 1n);');
   // What is open stays open, and tells its new place.
-  await page.until(`$('tree').textContent.includes('ExpressionStatement 0\u20139')`);
+  await page.until(`$('nodes').textContent.includes('ExpressionStatement 0\u20139')`);
   await page.given('f(\u00e9, 1n)');
   await page.until(`unpacked(location.hash.slice(1)).then(it => it === text.value, () => false)`);
   await page.value('self.isOld = true; location.reload()');
@@ -187,7 +143,7 @@ async function starved(page) {
     return found; })()`);
   assert.ok(found.length > 10 && found.slice(0, -1).every(it => it === -2), JSON.stringify(found));
   await page.given('{'.repeat(100000));
-  assert.ok((await page.value(`$('faults').textContent`)).includes('[TooDeep]'));
+  assert.ok((await page.value(`$('list').textContent`)).includes('[TooDeep]'));
   console.error('want of memory and depth: told');
 }
 
@@ -231,7 +187,7 @@ async function pictured(page, file) {
   await page.given(PICTURED);
   await page.key('F8');
   await page.key('F2');
-  await page.until(`document.activeElement.id === 'tree' && document.querySelector('#layer .lit') !== null`);
+  await page.until(`document.activeElement.id === 'nodes' && document.querySelector('#layer .lit') !== null`);
   await page.picture(file);
 }
 

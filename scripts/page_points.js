@@ -1,5 +1,5 @@
 'use strict';
-// What the page in web/ has for a reader, tried at a width of the window: by keys alone, but for the point that speaks of a click.
+// What both pages have for a reader (scripts/viewer.js), tried at a width of the window: by keys alone, but for the points that speak of a click.
 const assert = require('node:assert');
 
 const WIDTHS = [400, 1000, 1600];
@@ -13,9 +13,9 @@ function total(items) {
 }
 with (a) b;
 `;
-const LIT = `[...document.querySelectorAll('#layer .lit')].map(it => it.textContent).join('').trim()`;
-const ROW = `document.querySelector('#tree .row.lit')?.textContent ?? ''`;
-const LIST = `$('faults')`;
+const LIT = `[...editor.sheet.querySelectorAll('.lit')].map(it => it.textContent).join('').trim()`;
+const ROW = `document.querySelector('#nodes .row.lit')?.textContent ?? ''`;
+const LIST = `$('list')`;
 
 /** Goes by the tabulator to an element. */
 async function tabTo(page, id) {
@@ -39,29 +39,31 @@ async function comes(page, expression, wanted) {
 /** The cursor in the text lights the tree, and a key opens the tree to it; a node lights its text. */
 async function lights(page) {
   await page.given(TEXT);
-  await page.value('tree.cursor = 0; text.focus(); text.setSelectionRange(0, 0); 0');
+  await page.value('tree.cursor = 0; 0');
+  await page.put(0);
   for (const key of ['ArrowDown', 'Home', 'ArrowRight']) await page.key(key);
   await comes(page, LIT, /^function total[^]*\}$/);
-  await comes(page, ROW, /body: \[..\]/);
+  await comes(page, ROW, /body: \[..\]|FunctionDeclaration total/);
   await comes(page, `$('path').textContent`, 'Program \u203a FunctionDeclaration total');
   for (let left = 9; left > 0; left--) await page.key('ArrowRight');
   await comes(page, LIT, 'total');
   await page.key('F2');
   await comes(page, ROW, /id: Identifier total 28/);
-  assert.strictEqual(await page.value('document.activeElement.id'), 'tree');
+  assert.strictEqual(await page.value('document.activeElement.id'), 'nodes');
   await page.key('ArrowUp');
   await comes(page, LIT, /^function total[^]*\}$/);
   await page.key('ArrowDown');
   await comes(page, LIT, 'total');
   await page.key('Enter');
-  assert.deepStrictEqual(await page.value('[document.activeElement.id, text.selectionStart, text.selectionEnd]'), ['text', 28, 33]);
+  assert.deepStrictEqual(await page.value('[document.activeElement.id, editor.range()[0]]'), ['text', 28]);
+  await comes(page, LIT, 'total');
 }
 
 /** The tree opens to the cursor by itself where that is asked for. */
 async function follows(page) {
   await tabTo(page, 'follow');
   await page.key(' ');
-  await page.value('text.focus(); text.setSelectionRange(6, 6); 0');
+  await page.put(6);
   await comes(page, ROW, /id: Identifier limit 6/);
   await tabTo(page, 'follow');
   await page.key(' ');
@@ -71,13 +73,13 @@ async function follows(page) {
 /** A click on the name of a node lights its text and scrolls there. */
 async function clicked(page) {
   await page.given(`${'a;\n'.repeat(300)}last(1);\n`);
-  await page.value('text.focus(); text.setSelectionRange(901, 901); 0');
+  await page.put(901);
   await page.key('F2');
   await comes(page, ROW, /Identifier last|callee/);
-  await page.value('text.scrollTop = 0; editor.light(0, 0); 0');
-  await page.clickOn('#tree .row.lit .kind');
+  await page.value('editor.pane.scrollTop = 0; editor.light(0, 0); 0');
+  await page.clickOn('#nodes .row.lit .kind');
   await comes(page, LIT, 'last');
-  assert.ok(await page.value('text.scrollTop') > 3000, 'the text is scrolled to');
+  assert.ok(await page.value('editor.pane.scrollTop') > 3000, 'the text is scrolled to');
 }
 
 /** Faults are underlined, lines are numbered, and both scroll with the text. */
@@ -85,19 +87,20 @@ async function underlined(page) {
   await page.given(`${'\n'.repeat(120)}${' '.repeat(300)}break;\n`);
   await tabTo(page, 'text');
   await page.key('F8');
-  await comes(page, `document.querySelector('#layer .wrong')?.textContent`, 'break;');
+  await comes(page, `[...editor.sheet.querySelectorAll('.wrong')].map(it => it.textContent).join('')`, 'break;');
   const places = `(() => {
-    const wrong = document.querySelector('#layer .wrong').getBoundingClientRect();
-    const line = [...$('numbers').children].find(it => it.textContent === '121').getBoundingClientRect();
-    const area = text.getBoundingClientRect();
-    const off = wrong.left - area.left - 12 - 300 * editor.width() + text.scrollLeft;
+    const wrong = editor.sheet.querySelector('.wrong').getBoundingClientRect();
+    const line = ${page.lineNumber(121)}.getBoundingClientRect();
+    const area = editor.pane.getBoundingClientRect();
+    const off = wrong.left - (${page.textLeft}) - 300 * editor.width() + editor.pane.scrollLeft;
     return JSON.stringify({ isBeside: Math.abs(wrong.top - line.top) < 6 && Math.abs(off) <= 1, isAcross: wrong.left > area.left && wrong.right < area.right,
       isDown: wrong.top > area.top && wrong.bottom < area.bottom }); })()`;
   await comes(page, places, JSON.stringify({ isBeside: true, isAcross: true, isDown: true }));
+  if (!page.isEdited) return;
   await page.key('Home');
   await page.type('\r');
   await page.settled();
-  await comes(page, `[...$('numbers').children].some(it => it.textContent === '122')`, true);
+  await comes(page, `${page.lineNumber(122)} !== undefined`, true);
 }
 
 /** All faults are reached by keys, and what is left is told. */
@@ -105,7 +108,7 @@ async function faultsByKeys(page) {
   await page.given('break;\n'.repeat(630));
   const button = `$('further').hidden ? '' : $('further').textContent`;
   assert.strictEqual(await page.value(button), '530 more: show the next');
-  await tabTo(page, 'faults');
+  await tabTo(page, 'list');
   await page.key('End');
   await page.key('ArrowDown');
   await comes(page, button, '430 more: show the next');
@@ -114,7 +117,7 @@ async function faultsByKeys(page) {
   await tabTo(page, 'further');
   await page.key('Enter');
   await comes(page, button, '330 more: show the next');
-  await tabTo(page, 'faults');
+  await tabTo(page, 'list');
   for (let shown = 400; shown <= 630 + 99; shown += 100) {
     await page.key('End');
     await page.key('ArrowDown');
@@ -122,9 +125,9 @@ async function faultsByKeys(page) {
   }
   await page.key('End');
   await page.key('Enter');
-  assert.deepStrictEqual(await page.value('[document.activeElement.id, text.selectionStart]'), ['text', 629 * 7]);
+  assert.deepStrictEqual(await page.value('[document.activeElement.id, editor.range()[0]]'), ['text', 629 * 7]);
   await page.key('F8', SHIFT);
-  assert.strictEqual(await page.value('text.selectionStart'), 628 * 7);
+  assert.strictEqual(await page.value('editor.range()[0]'), 628 * 7);
   assert.strictEqual(await page.value(button), '');
 }
 
@@ -138,7 +141,7 @@ async function refused(page) {
   await comes(page, `${LIST}.childElementCount`, 151);
   assert.deepStrictEqual(await page.value(shown), [151, 'refused', true, false, 1]);
   await page.key('F8', SHIFT);
-  assert.strictEqual(await page.value('text.selectionStart'), 99 * 7, 'the first of the further ones was gone to');
+  assert.strictEqual(await page.value('editor.range()[0]'), 99 * 7, 'the first of the further ones was gone to');
 }
 
 /** A long message is wrapped, and seen as a whole. */
@@ -153,7 +156,7 @@ async function wrapped(page) {
 /** Nodes are found by kind and by name. */
 async function searched(page) {
   await page.given(TEXT);
-  await tabTo(page, 'tree');
+  await tabTo(page, 'nodes');
   await page.key('/');
   assert.strictEqual(await page.value('document.activeElement.id'), 'search');
   await page.type('functiondecl');
@@ -169,20 +172,21 @@ async function searched(page) {
   await comes(page, `$('hits').textContent`, '1 of 4');
   await comes(page, ROW, /Identifier items/);
   await page.key('Escape');
-  assert.deepStrictEqual(await page.value(`[document.activeElement.id, $('search').value]`), ['tree', '']);
+  assert.deepStrictEqual(await page.value(`[document.activeElement.id, $('search').value]`), ['nodes', '']);
 }
 
 /** The JSON of a node and of the whole is copied. */
 async function copied(page) {
   await page.browser.send('Browser.grantPermissions', { permissions: ['clipboardReadWrite', 'clipboardSanitizedWrite'] });
   await page.given('f;\n');
-  await tabTo(page, 'tree');
+  await tabTo(page, 'nodes');
   await page.key('Home');
   await page.key('c');
   await comes(page, `$('hits').textContent`, /^copied: \d+ characters$/);
   const whole = { type: 'Program', start: 0, end: 3, body: [{ type: 'ExpressionStatement', start: 0, end: 2, expression: { type: 'Identifier', start: 0, end: 1, name: 'f' } }], sourceType: 'script' };
   assert.deepStrictEqual(JSON.parse(await page.value('navigator.clipboard.readText()')), whole);
-  await page.value(`tree.show(tree.root); $('text').focus(); text.setSelectionRange(0, 1); 0`);
+  await page.value(`tree.show(tree.root); 0`);
+  await page.put(0);
   await page.key('F2');
   await comes(page, ROW, /Identifier f 0/);
   await tabTo(page, 'copy-node');
@@ -194,13 +198,14 @@ async function copied(page) {
 /** Names stand beside kinds. */
 async function named(page) {
   await page.given(TEXT);
-  await page.value('text.focus(); text.setSelectionRange(28, 33); 0');
+  await page.put(28);
   await page.key('F2');
-  for (const said of ['VariableDeclaration limit', 'FunctionDeclaration total', 'Identifier total']) await comes(page, `$('tree').textContent.includes('${said}')`, true);
+  for (const said of ['VariableDeclaration limit', 'FunctionDeclaration total', 'Identifier total']) await comes(page, `$('nodes').textContent.includes('${said}')`, true);
 }
 
 /** Goal, limit and flags are chosen by keys and kept in the address. */
 async function linked(page) {
+  if (!page.isEdited) return;
   await page.given('with (a) b;\n');
   await comes(page, `${LIST}.childElementCount`, 0);
   await tabTo(page, 'goal');
@@ -231,7 +236,7 @@ const CONTRAST = `(() => {
   const ground = it => { for (; it; it = it.parentElement) { const color = getComputedStyle(it).backgroundColor; if (numbers(color)[3] !== 0) return color; } return 'rgb(255, 255, 255)'; };
   const found = [];
   for (const it of document.querySelectorAll('body *')) {
-    if (it.closest('#layer, script') || it.checkVisibility && !it.checkVisibility()) continue;
+    if (it.closest('#layer, script, style') || it.checkVisibility && !it.checkVisibility()) continue;
     if (![...it.childNodes].some(inner => inner.nodeType === 3 && inner.data.trim()) && !it.matches('textarea, input, select')) continue;
     found.push([between(getComputedStyle(it).color, ground(it)), it.outerHTML.slice(0, 80)]);
   }
@@ -263,7 +268,7 @@ async function colored(page) {
 /** Nothing sticks out of the window, and each part has room. */
 async function fits(page, width) {
   await page.given(TEXT);
-  const [wide, ...high] = await page.value(`[document.documentElement.scrollWidth, ...['text', 'tree', 'told'].map(it => $(it).clientHeight)]`);
+  const [wide, ...high] = await page.value(`[document.documentElement.scrollWidth, ...['text', 'nodes', 'told'].map(it => $(it).clientHeight)]`);
   assert.ok(wide <= width, `the page is ${wide} px wide`);
   assert.ok(high[0] >= 100 && high[1] >= 100 && high[2] >= 20, JSON.stringify(high));
 }

@@ -2,9 +2,10 @@
 
 class FaultList {
   /** `tells` has what becomes of a choice: `light`, `select`, `further`. */
-  constructor(list, button, tells) {
-    Object.assign(this, { list, button, tells, faults: [], count: 0, cursor: -1, refusal: null, then: null });
-    list.addEventListener('click', event => this.clicked(event));
+  constructor(list, button, untold, tells) {
+    Object.assign(this, { list, button, untold, tells, faults: [], count: 0, cursor: -1, refusal: null, then: null });
+    // An item that is made anew between press and release gets no click.
+    list.addEventListener('mouseup', event => this.clicked(event));
     list.addEventListener('keydown', event => this.key(event));
     // By a key: a click goes to the item that is clicked.
     list.addEventListener('focus', () => list.matches(':focus-visible') && this.move(Math.max(0, this.cursor)));
@@ -14,11 +15,14 @@ class FaultList {
     }));
   }
 
-  show(faults, count) {
+  /** Shows the first faults of so many, beside which there are more that the parser does not tell. */
+  show(faults, count, more) {
     const refusal = faults.at(-1)?.isRefusal && faults.length < count ? faults.at(-1) : null;
     Object.assign(this, { refusal, count, cursor: -1, then: null });
     this.faults = refusal ? faults.slice(0, -1) : faults;
     this.list.replaceChildren(...this.faults.map((it, index) => this.item(it, index)));
+    this.untold.hidden = more === 0;
+    this.untold.textContent = `${more} more are not told`;
     this.shownRest();
   }
 
@@ -56,7 +60,7 @@ class FaultList {
     const it = make('li');
     const { line, column } = fault.loc.start;
     Object.assign(it, { id: `fault-${index}`, role: 'option', ariaSelected: false, fault });
-    it.append(make('span', 'place', `${line}:${column + 1}`), ' ', make('span', 'severity', fault.isRefusal ? 'refused' : 'fault'), ` ${fault.message} `, make('span', 'place', `[${fault.kind}]`));
+    it.append(make('span', 'place', `${line}:${column + 1}`), ' ', make('span', 'severity', fault.severity ?? (fault.isRefusal ? 'refused' : 'fault')), ` ${fault.message} `, make('span', 'place', `[${fault.kind}]`));
     if (fault.note) it.append(make('span', 'note', `${fault.note.loc.start.line}:${fault.note.loc.start.column + 1} ${fault.note.message}`));
     return it;
   }
@@ -89,9 +93,17 @@ class FaultList {
     select((next + length) % length);
   }
 
-  clicked({ target }) {
+  /** Goes to the item of a fault that is told at an offset, where one is. */
+  point(offset) {
+    const isThere = it => it && it.fault.start <= offset && offset < Math.max(it.fault.end, it.fault.start + 1);
+    const items = Array.from(this.list.children);
+    const index = isThere(items[this.cursor]) ? -1 : items.findIndex(isThere);
+    if (index >= 0) this.move(index);
+  }
+
+  clicked({ target, button }) {
     const it = target.closest('li');
-    if (it) this.tells.select(this.move(Array.from(this.list.children).indexOf(it)));
+    if (it && button === 0 && getSelection().isCollapsed) this.tells.select(this.move(Array.from(this.list.children).indexOf(it)));
   }
 
   key(event) {

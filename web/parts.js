@@ -55,21 +55,33 @@ const parts = (() => {
     return first === OPEN || first === OPEN_LIST ? bracketEnd(bytes, at) : wordEnd(bytes, at);
   }
 
-  /** The parts of the object or the list that begins at a place, one by one: the name of each, and where its value begins. `ends` has where
-   * values end that are known to. */
-  function* partsOf(bytes, at, ends = {}) {
-    const isList = bytes[at] === OPEN_LIST;
+  /** The parts of the object or the list that begins at a place, one by one: the name of each, and where its value begins. `ends` has by their
+   * names, and `known` by their places, where values end; this one is added to `known` once its end is found. */
+  function* partsOf(bytes, at, ends = {}, known = new Map()) {
+    const [whole, isList] = [at, bytes[at] === OPEN_LIST];
     if (isClose(bytes[at + 1])) return;
     for (let count = 0; !isClose(bytes[at]); count++) {
       const nameEnd = isList ? at : stringEnd(bytes, at + 1);
       const name = isList ? String(count) : JSON.parse(textOf(bytes, at + 1, nameEnd));
       const from = nameEnd + 1;
       yield { name, from };
-      at = ends[name] ?? valueEnd(bytes, from);
+      at = ends[name] ?? known.get(from) ?? valueEnd(bytes, from);
     }
+    known.set(whole, at + 1);
   }
 
-  return { partsOf, valueEnd, textOf, lastIndexOf };
+  /** Where each part of the list that begins at a place begins itself. */
+  function startsOf(bytes, at) {
+    const starts = [];
+    while (!isClose(bytes[++at])) {
+      starts.push(at);
+      at = valueEnd(bytes, at);
+      if (bytes[at] !== COMMA) break;
+    }
+    return starts;
+  }
+
+  return { partsOf, startsOf, valueEnd, textOf, lastIndexOf };
 })();
 
 if (typeof module !== 'undefined') module.exports = parts;

@@ -4,6 +4,8 @@
 
 const seek = (() => {
   const MOST_HITS = 1000;
+  /** The most levels that are opened at once, and the most nodes around a place that are named. */
+  const [MOST_LEVELS, MOST_NAMED] = [500, 9];
   /** A fault's line ends, or it tells a place. What stands in a string has a backslash before each quotation mark. */
   const PLACE = /\n|"start":(\d+),"end":(\d+)/g;
   /** How many numbers a mark has: where it begins, where it ends, and whether it is a note. */
@@ -16,21 +18,44 @@ const seek = (() => {
     return start === end && start === to ? 'beside' : 'around';
   }
 
-  /** The part of a list or a node in which some text lies, with the list that it stands in. What only ends there is taken where nothing else is. */
+  /** Where the last node of a list up to an index begins; a hole is none. */
+  function placeUpTo(list, index) {
+    while (index >= 0 && written[list[index]] !== OPEN) index--;
+    return index < 0 ? -1 : Number(headOf(list[index])[2]);
+  }
+
+  /** The node of a list in which some text lies, or that ends there. Nodes stand in the order of their places; comments and tokens are none. */
+  function innerOfList({ from, path }, start, end) {
+    if (written[from + 1] === OPEN && !headOf(from + 1)) return null;
+    const list = startsOf(from);
+    let low = 0;
+    for (let high = list.length; low < high;) {
+      const middle = (low + high) >> 1;
+      if (placeUpTo(list, middle) > start) high = middle;
+      else low = middle + 1;
+    }
+    while (low > 0 && written[list[low - 1]] !== OPEN) low--;
+    const head = low > 0 && headOf(list[low - 1]);
+    const lies = head && liesAt(head, start, end);
+    return lies ? { way: [{ from: list[low - 1], path: `${path}/${low - 1}`, head }], lies } : null;
+  }
+
+  /** What a part of a node is to some text: a node, or a list with one, in which the text lies. */
+  function innerOfPart(inner, start, end) {
+    if (written[inner.from] === OPEN_LIST) {
+      const below = innerOfList(inner, start, end);
+      return below && { way: [inner, ...below.way], lies: below.lies };
+    }
+    const head = written[inner.from] === OPEN && headOf(inner.from);
+    const lies = head && liesAt(head, start, end);
+    return lies ? { way: [{ ...inner, head }], lies } : null;
+  }
+
+  /** The part of a node in which some text lies, with the list that it stands in. What only ends there is taken where nothing else is. */
   function innerOf({ from, path }, start, end) {
     let beside = null;
-    for (const part of parts.partsOf(written, from)) {
-      const inner = { from: part.from, path: `${path}/${part.name}` };
-      let found = null;
-      if (written[part.from] === OPEN) {
-        const head = headOf(part.from);
-        if (head && Number(head[2]) > end && written[from] === OPEN_LIST) break;
-        const lies = head && liesAt(head, start, end);
-        if (lies) found = { way: [{ ...inner, head }], lies };
-      } else if (written[part.from] === OPEN_LIST) {
-        const below = innerOf(inner, start, end);
-        if (below) found = { way: [inner, ...below.way], lies: below.lies };
-      }
+    for (const part of partsAt(from)) {
+      const found = innerOfPart({ from: part.from, path: `${path}/${part.name}` }, start, end);
       if (found?.lies === 'around') return found;
       beside = found ?? beside;
     }
@@ -43,6 +68,9 @@ const seek = (() => {
     for (let found; (found = innerOf(way.at(-1), start, end));) way.push(...found.way);
     return way;
   }
+
+  /** The path of the innermost node of a way that is not too deep to be opened. */
+  const pathOf = way => way.findLast((it, index) => it.head && index < MOST_LEVELS).path;
 
   /** Has a list show a part of it that stands at an index. */
   function windowTo(path, index) {
@@ -78,9 +106,10 @@ const seek = (() => {
   function around([start, end], unfolds) {
     if (!isTree()) return { at: [start, end], way: [] };
     const way = wayTo(start, end);
-    const { head, path } = way.at(-1);
+    const { head } = way.at(-1);
+    const path = pathOf(way);
     if (unfolds) follow(path);
-    const said = way.filter(it => it.head).map(saidAt);
+    const said = way.filter(it => it.head).slice(-MOST_NAMED).map(saidAt);
     const found = { at: [start, end], path, start: Number(head[2]), end: Number(head[3]), way: said };
     return unfolds ? { ...found, tree: treeShown() } : found;
   }
@@ -100,10 +129,17 @@ const seek = (() => {
   }
 
   /** The name of a node, as `nameAt` finds it in what was written. */
-  function nameOf(node) {
+  function nameOf(node, levels = MOST_NAME_LEVELS) {
     if (typeof node === 'string') return node;
-    if (Array.isArray(node)) return nameOf(node[0]);
-    return node && NAMES[node.type] ? nameOf(node[NAMES[node.type]]) : undefined;
+    if (Array.isArray(node)) return nameOf(node[0], levels);
+    return node && NAMES[node.type] && levels > 0 ? nameOf(node[NAMES[node.type]], levels - 1) : undefined;
+  }
+
+  /** The path of what stands in the objects and lists above it, or of the innermost that is not too deep to be opened. */
+  function pathTo(at) {
+    const names = [];
+    for (; at; at = at.above) if (at.level < MOST_LEVELS) names.push(`/${at.name}`);
+    return names.reverse().join('');
   }
 
   /** The nodes whose kind, or kind and name, hold some words, and how many there are. Capitals count as small letters. */
@@ -111,16 +147,17 @@ const seek = (() => {
     const wanted = words.toLowerCase();
     const hits = [];
     let count = 0;
-    const left = wanted && isTree() ? [{ node: JSON.parse(valueOf(TREE.length)), path: '/' }] : [];
+    const left = wanted && isTree() ? [{ node: JSON.parse(valueOf(TREE.length)), name: '', level: 0, above: null }] : [];
     while (left.length > 0) {
-      const { node, path } = left.pop();
-      const { type, start, end } = node;
-      if (typeof type === 'string' && start !== undefined && `${type} ${nameOf(node) ?? ''}`.toLowerCase().includes(wanted)) {
+      const at = left.pop();
+      const { type, start, end } = at.node;
+      if (typeof type === 'string' && start !== undefined && `${type} ${nameOf(at.node) ?? ''}`.toLowerCase().includes(wanted)) {
         count++;
-        if (hits.length < MOST_HITS) hits.push({ path, start, end });
+        if (hits.length < MOST_HITS) hits.push({ path: pathTo(at), start, end });
       }
-      const inner = Object.entries(node).filter(([, it]) => it !== null && typeof it === 'object').reverse();
-      for (const [name, it] of inner) left.push({ node: it, path: `${path}/${name}` });
+      const inner = [];
+      for (const name in at.node) if (typeof at.node[name] === 'object' && at.node[name]) inner.push({ node: at.node[name], name, level: at.level + 1, above: at });
+      while (inner.length > 0) left.push(inner.pop());
     }
     return { words, hits, count };
   }

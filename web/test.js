@@ -8,16 +8,20 @@ const vm = require('node:vm');
 const { partsOf, valueEnd, textOf } = require('./parts.js');
 
 const SOURCES = ['../npm/answer.js', 'parts.js', 'worker.js', 'seek.js'];
+/** Those of a page that ecma-check writes, which has its answer already. */
+const SOURCES_OF_WRITTEN = ['parts.js', 'worker.js', 'seek.js', 'blocks.js'];
+
+const scriptOf = sources => sources.map(it => fs.readFileSync(path.join(__dirname, it), 'utf8')).join('\n');
 
 /** An answer as the parser writes it: each fault in a line. */
-function written({ tree, faults }) {
-  return new TextEncoder().encode(`{"tree":${JSON.stringify(tree)},"faults":[${faults.map(it => `${JSON.stringify(it)}\n`).join()}]}`);
+function written({ tree, faults, whole }) {
+  return new TextEncoder().encode(whole ?? `{"tree":${JSON.stringify(tree)},"faults":[${faults.map(it => `${JSON.stringify(it)}\n`).join()}]}`);
 }
 
 /** A worker whose parser answers what is given, and what it tells of that. */
 function told(status, answer) {
   const context = vm.createContext({ self: {}, performance, TextDecoder, given: { status, bytes: written(answer) } });
-  vm.runInContext(SOURCES.map(it => fs.readFileSync(path.join(__dirname, it), 'utf8')).join('\n'), context);
+  vm.runInContext(scriptOf(SOURCES), context);
   const run = code => JSON.parse(vm.runInContext(`JSON.stringify(${code})`, context) ?? 'null');
   vm.runInContext('answer = () => given', context);
   const again = () => run(`told('', {})`);
@@ -171,4 +175,31 @@ test('further faults and all places are handed out, notes as such', () => {
 test('where there is no tree, nothing is found in it', () => {
   const { asked } = told(2, { tree: null, faults: [fault(1)] });
   assert.deepStrictEqual([asked({ at: [0, 0] }).way, asked({ words: 'a' }).count], [[], 0]);
+});
+
+test('a deep tree is opened as far as that is quick', () => {
+  // Put together from inside: JSON.stringify has no room for so many levels.
+  let text = '{"type":"Identifier","start":0,"end":1,"name":"a"}';
+  for (let end = 3; end < 9000; end += 2) text = `{"type":"MemberExpression","start":0,"end":${end},"object":${text},"property":{"type":"Identifier","start":${end - 1},"end":${end},"name":"b"}}`;
+  const whole = `{"tree":{"type":"Program","start":0,"end":9000,"body":[{"type":"ExpressionStatement","start":0,"end":9000,"expression":${text}}],"sourceType":"script"},"faults":[]}`;
+  const { asked } = told(0, { whole });
+  const { path, way } = asked({ at: [0, 1], unfolds: true });
+  assert.strictEqual(way.at(-1), 'Identifier a');
+  assert.strictEqual(way.length, 9);
+  assert.ok(path.length > 1000 && path.length < 10000, `${path.length}`);
+});
+
+test('the blocks of a page are an answer', () => {
+  const heard = [];
+  const context = vm.createContext({ self: { postMessage: it => heard.push(JSON.parse(JSON.stringify(it))) }, performance, TextDecoder, setTimeout: run => run() });
+  vm.runInContext(scriptOf(SOURCES_OF_WRITTEN), context);
+  const given = { ...fault(5), severity: 'fault', note: fault(3) };
+  const bytes = new TextEncoder().encode(`{"tree":${JSON.stringify(call)},"faults":[${JSON.stringify(given)}\n],"more":7}`);
+  context.self.onmessage({ data: { written: bytes, hasTree: true } });
+  const [{ count, more, faults, tree, number, generation }, marks] = heard;
+  assert.deepStrictEqual([count, more, number, faults[0].severity, faults[0].loc.start, faults[0].note.loc.start], [1, 7, 0, 'fault', { line: 1, column: 5 }, { line: 1, column: 3 }]);
+  assert.deepStrictEqual(tree.entries[0].entries.map(it => it.label), ['EmptyStatement', 'ExpressionStatement'], 'the body is open');
+  assert.deepStrictEqual(Object.values(marks.marks), [3, 3, 1, 5, 5, 0]);
+  context.self.onmessage({ data: { words: 'call', generation } });
+  assert.strictEqual(heard.at(-1).hits[0].path, '//body/1/expression');
 });

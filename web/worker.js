@@ -9,6 +9,8 @@ const NODE = /^\{"type":"(\w+)","start":(\d+),"end":(\d+)/;
 const MOST_HEAD = 128;
 const OWN_NAMES = ['type', 'start', 'end'];
 const LITERAL = '{"type":"Literal"';
+/** What stands behind the faults, where there are more. */
+const MORE = /"more":(\d+)/;
 /** The field that names a node of a kind: a text, or a node or a list whose name it is. */
 const NAMES = {
   Identifier: 'name', PrivateIdentifier: 'name', Literal: 'raw', VariableDeclaration: 'declarations', VariableDeclarator: 'id',
@@ -19,6 +21,8 @@ const NAMES = {
 };
 /** How much of a name is shown. */
 const MOST_NAME = 40;
+/** How many levels below a node its name is looked for. */
+const MOST_NAME_LEVELS = 20;
 /** What stands before the tree, behind the body of a program, and before the faults. */
 const [TREE, REST, FAULTS] = ['{"tree":', ',"sourceType":"', ',"faults":['];
 const [OPEN, OPEN_LIST, CLOSE_LIST, MARK, NEWLINE] = ['{', '[', ']', '"', '\n'].map(it => it.charCodeAt(0));
@@ -37,6 +41,10 @@ const opened = new Set(['/']);
 let followed = new Set();
 /** Which parts of a long list are shown, by its path: the first, and the end of them. */
 const windows = new Map();
+/** Where the parts of lists begin, by where the lists do: of those in which something was looked for. */
+const starts = new Map();
+/** Where those nodes and lists end that were gone over, by where they begin. */
+const ends = new Map();
 /** Where each fault begins and ends in what was written. */
 let faultPlaces = [];
 
@@ -47,12 +55,12 @@ const isOpen = path => opened.has(path) || followed.has(path);
 const headOf = from => NODE.exec(parts.textOf(written, from, from + MOST_HEAD));
 
 /** The name of the node or of the first node of the list that begins at a place, if it has one. */
-function nameAt(from) {
+function nameAt(from, levels = MOST_NAME_LEVELS) {
   if (written[from] === MARK) return JSON.parse(valueOf(from));
-  if (written[from] === OPEN_LIST) return nameAt(from + 1);
+  if (written[from] === OPEN_LIST) return nameAt(from + 1, levels);
   const field = written[from] === OPEN && NAMES[headOf(from)?.[1]];
-  if (!field) return undefined;
-  for (const part of parts.partsOf(written, from)) if (part.name === field) return nameAt(part.from);
+  if (!field || levels === 0) return undefined;
+  for (const part of parts.partsOf(written, from)) if (part.name === field) return nameAt(part.from, levels - 1);
   return undefined;
 }
 
@@ -85,17 +93,28 @@ function literalEntries(from) {
   return named.map(([name, value]) => ({ name, label: typeof value === 'bigint' ? `${value}n` : JSON.stringify(value) }));
 }
 
-/** What stands in a node or a list, as far as it is shown. The end of a program's body is looked for from behind. */
+/** The parts of a node or a list. The end of a program's body is looked for from behind. */
+const partsAt = from => parts.partsOf(written, from, from === TREE.length ? { body: parts.lastIndexOf(written, REST, 'T') } : {}, ends);
+
+/** Where the parts of a list begin. It is gone over once. */
+function startsOf(from) {
+  if (!starts.has(from)) starts.set(from, parts.startsOf(written, from));
+  return starts.get(from);
+}
+
+/** The parts of a list from one on, as far as one behind an end. */
+const partsFrom = (from, first, end) => startsOf(from).slice(first, end + 1).map((it, index) => ({ name: String(first + index), from: it }));
+
+/** What stands in a node or a list, as far as it is shown. */
 function entriesOf(from, path) {
   if (parts.textOf(written, from, from + LITERAL.length) === LITERAL) return literalEntries(from);
-  const ends = from === TREE.length ? { body: parts.lastIndexOf(written, REST, 'T') } : {};
   const [first, end] = windows.get(path) ?? [0, MOST_ENTRIES];
   const entries = first > 0 ? [{ name: '..', label: `${first} before` }] : [];
-  let index = 0;
-  for (const part of parts.partsOf(written, from, ends)) {
+  let index = first;
+  for (const part of first > 0 ? partsFrom(from, first, end) : partsAt(from)) {
     if (OWN_NAMES.includes(part.name)) continue;
     if (index === end) return [...entries, { name: '..', label: 'more' }];
-    if (index >= first) entries.push(entryOf(part, path));
+    entries.push(entryOf(part, path));
     index++;
   }
   if (index > first || first === 0) return entries;
@@ -109,14 +128,15 @@ function faultsIn(places) {
   return places.map(([at, end]) => answers.faultOf(JSON.parse(parts.textOf(written, at, end))));
 }
 
-/** How many faults there are, and those that are shown. Each stands in a line. Where there is no tree, the last says why. */
+/** How many faults there are, how many more the parser does not tell, and those that are shown. Each stands in a line. Where there is no tree, the last says why. */
 function faultsOf(from, hasTree) {
   faultPlaces = [];
   for (let end; (end = written.indexOf(NEWLINE, from)) >= 0; from = end + 1) faultPlaces.push([from + 1, end]);
   const count = faultPlaces.length;
+  const [, more = 0] = MORE.exec(parts.textOf(written, from)) ?? [];
   const faults = faultsIn(faultPlaces.filter((_, index) => index < MOST_FAULTS || (!hasTree && index === count - 1)));
   if (!hasTree) faults.at(-1).isRefusal = true;
-  return { count, faults };
+  return { count, more: Number(more), faults };
 }
 
 /** What is shown of an answer. */
@@ -130,6 +150,8 @@ function answerShown(status) {
 function told(text, options) {
   places = [];
   faultPlaces = [];
+  starts.clear();
+  ends.clear();
   generation += 1;
   const begun = performance.now();
   let found;

@@ -29,8 +29,20 @@ text_blocks p =
 unfoldable pub head_text : Frame → List ℕ
 head_text f = f.head.now ++ (f.style.now ++ f.body.now)
 
+-- the script of the worker
+unfoldable pub worker_text : Frame → List ℕ
+worker_text f = f.parts.now ++ (f.worker.now ++ (f.seek.now ++ f.blocks.now))
+
+-- of the script of what is seen, the parts that show the text
+unfoldable pub text_view : Frame → List ℕ
+text_view f = f.rows.now ++ (f.text.now ++ f.reader.now)
+
+-- and those that show faults and tree, and read the data
+unfoldable pub tree_view : Frame → List ℕ
+tree_view f = f.faults.now ++ (f.tree.now ++ (f.view.now ++ f.check.now))
+
 unfoldable pub script_text : Frame → List ℕ
-script_text f = f.rows.now ++ (f.source.now ++ (f.tree.now ++ f.view.now))
+script_text f = worker_text f ++ (text_view f ++ tree_view f)
 
 -- A page: a text, the script that shows it, the tree, which may be long, and what has it shown.
 unfoldable pub page_text : Frame → Page → List ℕ

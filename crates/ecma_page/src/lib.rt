@@ -2,14 +2,21 @@
 #![tactic(auto)]
 
 mod block;
+mod blocks;
+mod check;
+mod faults;
 mod frame;
 mod head;
 mod page;
+mod parts;
+mod reader;
 mod rows;
-mod source;
+mod seek;
 mod style;
+mod text;
 mod tree;
 mod view;
+mod worker;
 
 pub use frame::{FRAME, Frame};
 pub use page::{Page, push_page};

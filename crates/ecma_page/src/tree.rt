@@ -1,195 +1,209 @@
-//! The third part of the script: the tree.
+//! The script's fifth part: the tree. Made by `scripts/frame write` from `web/tree.js`.
 
-/// Shows a tree that is unfolded node by node.
-pub(crate) const TREE: &str = r#"
-// The fields of a node that say where it stands.
-const PLACES = new Set(['type', 'start', 'end', 'loc', 'range']);
-// The most units of a field that are shown.
-const LONGEST = 60;
+/// Shows a tree that is opened node by node.
+pub(crate) const TREE: &str =
+    r#"// The tree: a row for each entry that the worker handed out. Of these the document holds those in sight.
 
-function isNode(value) {
-    return value !== null && typeof value === 'object' && typeof value.type === 'string';
-}
+/** How far a level is moved in, and up to which. */
+const [STEP, MOST_STEPS] = [14, 40];
+/** The entry that stands for the parts of a long list that are not shown. */
+const isRest = ({ name }) => name === '..';
 
-// The nodes right below a node, with the fields that hold them, as they stand.
-function partsOf(node) {
-    const parts = [];
-    for (const key in node) {
-        const value = node[key];
-        if (isNode(value)) parts.push({ key, node: value });
-        else if (Array.isArray(value)) {
-            value.forEach((each, index) => {
-                if (isNode(each)) parts.push({ key: `${key}[${index}]`, node: each });
-            });
-        }
-    }
-    return parts;
-}
+class TreeView {
+  /** `tells` has what becomes of a choice: `light`, `select`, `toggle`, `widen`, `copy`, `search`. */
+  constructor(pane, tells) {
+    Object.assign(this, { pane, tells, listed: [], cursor: 0, lit: -1, root: null, isDue: false });
+    this.rows = new Rows(pane, index => this.row(index));
+    // A row that is painted anew between press and release gets no click.
+    pane.addEventListener('mousedown', event => this.clicked(event));
+    pane.addEventListener('keydown', event => this.key(event));
+  }
 
-// The fields of a node that hold no nodes; those that are empty are left out.
-function fieldsOf(node) {
-    const fields = [];
-    for (const key in node) {
-        const value = node[key];
-        if (PLACES.has(key) || value === null || value === false || isNode(value) || Array.isArray(value)) continue;
-        const text = JSON.stringify(value);
-        fields.push(`${key}: ${text.length > LONGEST ? `${text.slice(0, LONGEST)}\u2026` : text}`);
-    }
-    return fields;
-}
+  /** Shows the tree of a new text, or why there is none, with the next frame: to ask how high the pane is has the browser lay out all. */
+  renew(root, why) {
+    this.take(root, why);
+    if (this.isDue) return;
+    this.isDue = true;
+    requestAnimationFrame(() => {
+      this.isDue = false;
+      this.rows.resize(this.listed.length);
+    });
+  }
 
-// A tree of which a node is read as it is unfolded: by itself, or with all nodes of its kind.
-class Tree {
-    constructor(pane, root) {
-        this.pane = pane;
-        this.parts = new Map();
-        this.folds = new Map();
-        this.kinds = new Set([root.type]);
-        this.root = { key: '', node: root, level: 1 };
-        this.lit = -1;
-        this.cursor = 0;
-        this.rows = new Rows(pane, (index) => this.row(index));
-        this.list();
-    }
+  /** Shows a tree at once. */
+  show(root) {
+    this.take(root, '');
+    this.rows.resize(this.listed.length);
+  }
 
-    partsOf(node) {
-        let parts = this.parts.get(node);
-        if (!parts) this.parts.set(node, parts = partsOf(node));
-        return parts;
-    }
+  /** Takes in a tree. The cursor stays where it was, or goes to what that is folded into. */
+  take(root, why) {
+    const path = this.listed[this.cursor]?.path ?? '/';
+    const lit = this.listed[this.lit]?.path;
+    this.root = root;
+    this.listed = root ? this.unfolded(root, 1, '', null) : [];
+    this.cursor = Math.max(0, this.indexOf(path));
+    this.lit = lit === undefined ? -1 : this.indexOf(lit);
+    $('none').hidden = root !== null;
+    $('none').textContent = root ? '' : why;
+    this.pane.hidden = root === null;
+    this.named();
+  }
 
-    isOpen(node) {
-        return this.folds.get(node) ?? this.kinds.has(node.type);
-    }
+  /** An entry and all that is shown below it. */
+  unfolded(entry, level, above, parent) {
+    const row = { entry, level, parent, path: `${above}/${entry.name}` };
+    return [row, ...(entry.entries ?? []).flatMap(it => this.unfolded(it, level + 1, row.path, row))];
+  }
 
-    // An entry and all that is unfolded below it, in their order.
-    unfolded(entry) {
-        const listed = [];
-        const left = [entry];
-        while (left.length) {
-            const { key, node, level } = left.pop();
-            listed.push({ key, node, level });
-            if (!this.isOpen(node)) continue;
-            const parts = this.partsOf(node);
-            for (let index = parts.length - 1; index >= 0; index--) {
-                left.push({ key: parts[index].key, node: parts[index].node, level: level + 1 });
-            }
-        }
-        return listed;
-    }
+  /** The row of a path, or of the innermost that it is folded into. */
+  indexOf(path) {
+    const found = new Map(this.listed.map((row, index) => [row.path, index]));
+    for (; path.length > 1; path = path.slice(0, path.lastIndexOf('/'))) if (found.has(path)) return found.get(path);
+    return this.listed.length > 0 ? 0 : -1;
+  }
 
-    // Lists all rows anew. The cursor stays with its node, or goes to what it is folded into.
-    list() {
-        const path = this.entries ? this.pathTo(this.cursor) : [this.root.node];
-        this.lit = -1;
-        this.entries = this.unfolded(this.root);
-        this.cursor = this.indexOf(this.seenOf(path));
-        this.rows.resize(this.entries.length);
-    }
+  /** Shows what stands in an entry that was opened, or that nothing does where it was closed. */
+  fill(id, entries) {
+    const row = this.listed.find(({ entry }) => entry.id === id);
+    if (!row) return;
+    row.entry.entries = entries;
+    this.show(this.root);
+  }
 
-    // The nodes from the root to a row.
-    pathTo(index) {
-        const path = [];
-        let level = Infinity;
-        for (; index >= 0; index--) {
-            const entry = this.entries[index];
-            if (entry.level >= level) continue;
-            level = entry.level;
-            path.push(entry.node);
-        }
-        return path.reverse();
-    }
+  move(index) {
+    this.cursor = Math.max(0, Math.min(index, this.listed.length - 1));
+    this.rows.reveal(this.cursor);
+    this.rows.paint();
+    this.named();
+  }
 
-    // The innermost node of a path that has a row.
-    seenOf(path) {
-        const folded = path.find((node) => !this.isOpen(node));
-        return folded ?? path[path.length - 1];
-    }
+  /** Names the row of the cursor to who does not see it. */
+  named() {
+    this.pane.setAttribute('aria-activedescendant', `node-${this.cursor}`);
+  }
 
-    indexOf(node) {
-        return this.entries.findIndex((entry) => entry.node === node);
-    }
+  /** Lights the row of a path, and has it seen. */
+  light(path) {
+    this.lit = path === undefined ? -1 : this.indexOf(path);
+    if (this.lit >= 0) this.rows.reveal(this.lit);
+    else this.rows.touch();
+  }
 
-    // The nodes around an offset, from the root on.
-    pathAt(offset) {
-        const path = [this.root.node];
-        for (let node = this.root.node; node;) {
-            node = this.partsOf(node).find((part) => part.node.start <= offset && offset < part.node.end)?.node;
-            if (node) path.push(node);
-        }
-        return path;
-    }
+  /** Goes to a path. */
+  goTo(path) {
+    this.lit = this.indexOf(path);
+    this.move(this.lit);
+  }
 
-    fold(index, isOpen) {
-        const { node, level } = this.entries[index];
-        this.folds.set(node, isOpen);
-        this.lit = -1;
-        let end = index + 1;
-        while (end < this.entries.length && this.entries[end].level > level) end++;
-        this.entries = this.entries.slice(0, index).concat(this.unfolded(this.entries[index]), this.entries.slice(end));
-        this.rows.resize(this.entries.length);
-    }
+  row(index) {
+    const { entry, level } = this.listed[index];
+    const row = make('div', 'row');
+    Object.assign(row, { id: `node-${index}`, role: 'treeitem', ariaLevel: level, ariaSelected: index === this.cursor });
+    row.dataset.index = index;
+    row.style.paddingLeft = `${12 + STEP * Math.min(level - 1, MOST_STEPS)}px`;
+    if (index === this.lit) row.classList.add('lit');
+    if (index === this.cursor) row.classList.add('cursor');
+    row.append(...(isRest(entry) ? this.rest(entry) : this.shown(entry, row)));
+    return row;
+  }
 
-    foldKind(kind, isOpen) {
-        if (isOpen) this.kinds.add(kind);
-        else this.kinds.delete(kind);
-        for (const node of this.folds.keys()) {
-            if (node.type === kind) this.folds.delete(node);
-        }
-        this.list();
-    }
+  rest({ label }) {
+    return [make('span', 'twist', ''), make('span', 'rest', `.. ${label}`)];
+  }
 
-    // Unfolds all above the last node of a path, and goes there.
-    unfoldTo(path) {
-        for (const node of path.slice(0, -1)) this.folds.set(node, true);
-        this.entries = this.unfolded(this.root);
-        this.rows.resize(this.entries.length);
-        this.move(this.indexOf(path[path.length - 1]));
-    }
+  /** What a row shows: the field, the kind, the name, the place. */
+  shown(entry, row) {
+    const canOpen = entry.id !== undefined && entry.label !== '[]';
+    const isOpen = entry.entries !== undefined;
+    if (canOpen) row.ariaExpanded = isOpen;
+    const shown = [make('span', 'twist', canOpen ? (isOpen ? '\u25be' : '\u25b8') : '')];
+    if (entry.name !== '') shown.push(make('span', 'key', `${entry.name}: `));
+    shown.push(make('span', entry.id === undefined ? 'field' : 'kind', entry.label));
+    if (entry.called) shown.push(make('span', 'called', ` ${entry.called}`));
+    if (entry.start !== undefined) shown.push(make('span', 'place', ` ${entry.start}\u2013${entry.end}`));
+    return shown;
+  }
 
-    move(index) {
-        this.cursor = Math.max(0, Math.min(index, this.entries.length - 1));
-        this.rows.reveal(this.cursor);
-        this.pane.setAttribute('aria-activedescendant', `node-${this.cursor}`);
-    }
+  /** Opens or closes an entry. */
+  toggle(index) {
+    const { entry } = this.listed[index];
+    if (entry.id === undefined || entry.label === '[]') return;
+    this.tells.toggle(entry.id, entry.entries === undefined);
+  }
 
-    light(index) {
-        this.lit = index;
-        this.rows.touch();
-    }
+  /** Goes to a row, and lights its text. */
+  choose(index) {
+    this.move(index);
+    const { entry, parent } = this.listed[this.cursor];
+    this.lit = this.cursor;
+    this.tells.light(entry.start === undefined ? this.nodeAbove(parent) : entry);
+    this.rows.touch();
+  }
 
-    // How many nodes there are of each kind.
-    counts() {
-        const counts = new Map();
-        const left = [this.root.node];
-        while (left.length) {
-            const node = left.pop();
-            counts.set(node.type, (counts.get(node.type) ?? 0) + 1);
-            for (const part of partsOf(node)) left.push(part.node);
-        }
-        return [...counts].sort(([a], [b]) => a < b ? -1 : 1);
-    }
+  /** The node that a value or a list belongs to. */
+  nodeAbove(row) {
+    while (row && row.entry.start === undefined) row = row.parent;
+    return row?.entry;
+  }
 
-    row(index) {
-        const { key, node, level } = this.entries[index];
-        const isLeaf = this.partsOf(node).length === 0;
-        const row = make('div', 'row');
-        row.id = `node-${index}`;
-        row.dataset.index = index;
-        row.style.paddingLeft = `${12 + 14 * Math.min(level - 1, 40)}px`;
-        row.setAttribute('role', 'treeitem');
-        row.setAttribute('aria-level', level);
-        row.setAttribute('aria-selected', index === this.cursor);
-        if (!isLeaf) row.setAttribute('aria-expanded', this.isOpen(node));
-        if (index === this.lit) row.classList.add('lit');
-        else if (index === this.cursor) row.classList.add('cursor');
-        if (level > 41) row.append(make('span', 'level', `${level} `));
-        row.append(make('span', 'twist', isLeaf ? '' : this.isOpen(node) ? '\u25be' : '\u25b8'));
-        if (key) row.append(make('span', 'key', `${key}: `));
-        row.append(make('span', 'kind', node.type));
-        for (const field of fieldsOf(node)) row.append(' ', make('span', 'field', field));
-        row.append(make('span', 'place', ` ${node.start}\u2013${node.end}`));
-        return row;
-    }
+  /** Shows more of a long list, before or behind what is shown. */
+  widen(index) {
+    const { parent } = this.listed[index];
+    this.tells.widen(parent.entry.id, this.listed[index - 1] === parent);
+  }
+
+  clicked(event) {
+    const row = event.target.closest('.row');
+    if (!row || event.button !== 0) return;
+    const index = Number(row.dataset.index);
+    const { entry } = this.listed[index];
+    if (isRest(entry)) return this.widen(index);
+    this.choose(index);
+    const isList = entry.id !== undefined && entry.start === undefined;
+    if (isList || event.target.closest('.twist') || event.detail === 2) this.toggle(index);
+  }
+
+  /** Goes into an entry, or opens it. */
+  right() {
+    const { entry } = this.listed[this.cursor];
+    if (entry.entries?.length > 0) this.choose(this.cursor + 1);
+    else this.toggle(this.cursor);
+  }
+
+  /** Closes an entry, or goes to what it stands in. */
+  left() {
+    const { entry, parent } = this.listed[this.cursor];
+    if (entry.entries) this.toggle(this.cursor);
+    else if (parent) this.choose(this.listed.indexOf(parent));
+  }
+
+  enter() {
+    const { entry, parent } = this.listed[this.cursor];
+    if (isRest(entry)) this.widen(this.cursor);
+    else this.tells.select(entry.start === undefined ? this.nodeAbove(parent) : entry);
+  }
+
+  key(event) {
+    if (event.ctrlKey || event.metaKey || event.altKey || this.listed.length === 0) return;
+    const page = Math.max(1, Math.floor(this.pane.clientHeight / ROW) - 1);
+    const keys = {
+      ArrowUp: () => this.choose(this.cursor - 1),
+      ArrowDown: () => this.choose(this.cursor + 1),
+      PageUp: () => this.choose(this.cursor - page),
+      PageDown: () => this.choose(this.cursor + page),
+      Home: () => this.choose(0),
+      End: () => this.choose(this.listed.length - 1),
+      ArrowRight: () => this.right(),
+      ArrowLeft: () => this.left(),
+      ' ': () => this.toggle(this.cursor),
+      Enter: () => this.enter(),
+      c: () => this.tells.copy(this.listed[this.cursor]),
+      '/': () => this.tells.search(),
+    };
+    if (!Object.hasOwn(keys, event.key)) return;
+    event.preventDefault();
+    keys[event.key]();
+  }
 }
 "#;
