@@ -222,13 +222,13 @@ fn a_page(rt: HostRuntime) -> Result<(), Fail> {
     let rows = [
         (
             "'</script>\u{2028}'",
-            "<script type=\"application/json\" id=\"name\">\"-\"</script>\n<script type=\"application/json\" id=\"source\">\"'\\u003c/script>\u{2028}'\"</script>\n<script type=\"application/json\" id=\"faults\"></script>\n<script>\n'use strict';\n",
-            "</script>\n<script type=\"application/json\" id=\"tree\">{\"type\":\"Program\",\"start\":0,\"end\":12,\"body\":[{\"type\":\"ExpressionStatement\",\"start\":0,\"end\":12,\"expression\":{\"type\":\"Literal\",\"start\":0,\"end\":12,\"value\":\"\\u003c/script>\u{2028}\",\"raw\":\"'\\u003c/script>\u{2028}'\"},\"directive\":\"\\u003c/script>\u{2028}\"}],\"sourceType\":\"script\"}</script>\n<script>\nreadTree();\n</script>\n</body>\n</html>\n||0",
+            "<script type=\"application/json\" id=\"name\">\"-\"</script>\n<script type=\"application/json\" id=\"source\">\"'\\u003c/script>\u{2028}'\"</script>\n<script type=\"application/json\" id=\"faults\"></script>\n<script type=\"text/plain\" id=\"worker\">\n'use strict';\n",
+            "</script>\n<script type=\"application/json\" id=\"tree\">{\"type\":\"Program\",\"start\":0,\"end\":12,\"body\":[{\"type\":\"ExpressionStatement\",\"start\":0,\"end\":12,\"expression\":{\"type\":\"Literal\",\"start\":0,\"end\":12,\"value\":\"\\u003c/script>\u{2028}\",\"raw\":\"'\\u003c/script>\u{2028}'\"},\"directive\":\"\\u003c/script>\u{2028}\"}],\"sourceType\":\"script\"}</script>\n<script>\ntreeRead();\n</script>\n</body>\n</html>\n||0",
         ),
         (
             "a '<",
             "<script type=\"application/json\" id=\"source\">\"a '\\u003c\"</script>\n<script type=\"application/json\" id=\"faults\">{\"file\":\"-\",\"severity\":\"fault\",\"kind\":\"UnterminatedStrLit\",",
-            "</script>\n<script type=\"application/json\" id=\"tree\">null</script>\n<script>\nreadTree();\n</script>\n</body>\n</html>\n||2",
+            "</script>\n<script type=\"application/json\" id=\"tree\">null</script>\n<script>\ntreeRead();\n</script>\n</body>\n</html>\n||2",
         ),
     ];
     for (text, data, end) in rows {
