@@ -1,0 +1,3 @@
+pub mod After
+pub mod Declared
+pub mod Holders
