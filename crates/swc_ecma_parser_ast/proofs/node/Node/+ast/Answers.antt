@@ -64,6 +64,20 @@ discard_args-requires t c κs =
     let i = within_expr c.in-Expr.expr.ptr c.in-Expr.expr.alloc (e.Call c.in-Call.call) in
     (((omega (arith, h, i, c.loop-expr.invariant, c.decreases), tt), tt), search rules)
 
+pub into_tag-requires : goal.into_tag-requires
+into_tag-requires t c κs =
+    let at = expr_at c.in-Expr.expr.ptr c.in-Expr.expr.alloc in
+    let h = taken at _ _ _ _ c.in-Expr.is c.self.view_is (sym c.in-TaggedTpl.is ∙ c.into_inner.ensures) in
+    let i = within_expr c.in-Expr.expr.ptr c.in-Expr.expr.alloc (e.TaggedTpl c.in-TaggedTpl.tagged) in
+    (((omega (arith, h, i, c.loop-expr.invariant, c.decreases), tt), tt), search rules)
+
+pub into_chain_rest-requires : goal.into_chain_rest-requires
+into_chain_rest-requires t c κs =
+    let at = expr_at c.in-Expr.expr.ptr c.in-Expr.expr.alloc in
+    let h = taken at _ _ _ _ c.in-Expr.is c.self.view_is (sym c.in-OptChain.is ∙ c.into_inner.ensures) in
+    let i = within_expr c.in-Expr.expr.ptr c.in-Expr.expr.alloc (e.OptChain c.in-OptChain.link) in
+    (((omega (arith, h, i, c.loop-expr.invariant, c.decreases), tt), tt), search rules)
+
 pub discard-requires : goal.discard-requires
 discard-requires t c κs =
     let at = expr_at c.in-Expr.expr.ptr c.in-Expr.expr.alloc in

@@ -1,0 +1,7 @@
+use Rattle.std.proofs.Common.{ap, ◌∙◌}
+use Rattle.swc_ecma_parser_nesting.specs.Stacked.{below_top}
+use Rattle.swc_ecma_parser_nesting.proofs.Stacks.{below-stacked}
+use Rattle.swc_ecma_parser_nesting.proofs.stack.Stack.pop.Goals as goal
+
+pub returns-clause-rest : goal.returns-clause-rest
+returns-clause-rest c = below-stacked c.self.inside.places c.self.inside.count ∙ ap below_top c.self.view_is
