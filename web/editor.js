@@ -8,7 +8,7 @@ const EVEN = /^[ -~]*$/;
 class Editor extends TextView {
   constructor(area, layer, gutter) {
     super(area, layer);
-    Object.assign(this, { area, layer, gutter, isDue: false, hasSeparators: false });
+    Object.assign(this, { area, layer, gutter, hasSeparators: false, touch: withNextFrame(() => this.paint()) });
     area.addEventListener('scroll', () => this.paint());
     new ResizeObserver(() => this.paint()).observe(area);
   }
@@ -33,16 +33,6 @@ class Editor extends TextView {
   lineOf(row) {
     if (!this.hasSeparators) return row + 1;
     return row + 1 + (this.source.slice(0, this.starts[row]).match(/[\u2028\u2029]/g)?.length ?? 0);
-  }
-
-  /** Paints once, however much changes before the next frame. */
-  touch() {
-    if (this.isDue) return;
-    this.isDue = true;
-    requestAnimationFrame(() => {
-      this.isDue = false;
-      this.paint();
-    });
   }
 
   paint() {

@@ -11,9 +11,22 @@ function make(tag, name, text) {
   return made;
 }
 
+/** What acts with the next frame, once, however often it is called before. */
+function withNextFrame(act) {
+  let isDue = false;
+  return () => {
+    if (isDue) return;
+    isDue = true;
+    requestAnimationFrame(() => {
+      isDue = false;
+      act();
+    });
+  };
+}
+
 class Rows {
   constructor(pane, draw) {
-    Object.assign(this, { pane, draw, count: 0, isDue: false });
+    Object.assign(this, { pane, draw, count: 0, touch: withNextFrame(() => this.paint()) });
     this.space = pane.appendChild(make('div', 'space'));
     this.shown = this.space.appendChild(make('div', 'shown'));
     pane.addEventListener('scroll', () => this.paint());
@@ -42,16 +55,6 @@ class Rows {
     for (let index = first; index < last; index++) drawn.push(this.draw(index));
     this.shown.replaceChildren(...drawn);
     this.shown.style.transform = `translateY(${scrolled - (top - first * ROW)}px)`;
-  }
-
-  /** Paints once, however much changes before the next frame. */
-  touch() {
-    if (this.isDue) return;
-    this.isDue = true;
-    requestAnimationFrame(() => {
-      this.isDue = false;
-      this.paint();
-    });
   }
 
   /** Scrolls to a row that is out of sight. */

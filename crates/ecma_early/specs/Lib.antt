@@ -1,1 +1,2 @@
 pub mod Early
+pub mod Sentences

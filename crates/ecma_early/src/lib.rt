@@ -9,4 +9,4 @@ mod sentences;
 
 pub use ecma_events::{EarlyError, EarlyErrorKind};
 pub use entry::{early, early_module, early_script};
-pub use sentences::{note, sentence};
+pub use sentences::{name, note, sentence};

@@ -1,9 +1,43 @@
 //! What is wrong, in a sentence for each kind of early error, and where ECMA-262 (edition 2025) says so.
 
+ghost use Rattle.std.specs.Prelude.{◌≡◌};
+ghost use Rattle.ecma_early.specs.Sentences.{name_of, note_of, sentence_of};
+
 use ecma_events::EarlyErrorKind;
 
+/// The name of a kind, as the code spells it.
+pub fn name(kind: EarlyErrorKind) -> &'static str
+    ensures { result.now ≡ name_of kind }
+{
+    match kind {
+        EarlyErrorKind::DeclaredTwice => "DeclaredTwice",
+        EarlyErrorKind::EqualParameters => "EqualParameters",
+        EarlyErrorKind::LetDeclared => "LetDeclared",
+        EarlyErrorKind::MissingInitializer => "MissingInitializer",
+        EarlyErrorKind::BoundInStrict => "BoundInStrict",
+        EarlyErrorKind::AssignedInStrict => "AssignedInStrict",
+        EarlyErrorKind::ReservedInStrict => "ReservedInStrict",
+        EarlyErrorKind::NameDeleted => "NameDeleted",
+        EarlyErrorKind::PrivateDeleted => "PrivateDeleted",
+        EarlyErrorKind::WithInStrict => "WithInStrict",
+        EarlyErrorKind::MisplacedSuperCall => "MisplacedSuperCall",
+        EarlyErrorKind::MisplacedSuper => "MisplacedSuper",
+        EarlyErrorKind::ArgumentsInField => "ArgumentsInField",
+        EarlyErrorKind::MisplacedAwait => "MisplacedAwait",
+        EarlyErrorKind::MisplacedYield => "MisplacedYield",
+        EarlyErrorKind::StaticPrototype => "StaticPrototype",
+        EarlyErrorKind::SecondProto => "SecondProto",
+        EarlyErrorKind::PrivateTwice => "PrivateTwice",
+        EarlyErrorKind::PrivateUndeclared => "PrivateUndeclared",
+        EarlyErrorKind::ExportedTwice => "ExportedTwice",
+        EarlyErrorKind::ExportUndeclared => "ExportUndeclared",
+    }
+}
+
 /// What is wrong, what would be right, and where the standard says so.
-pub fn sentence(kind: EarlyErrorKind) -> &'static str {
+pub fn sentence(kind: EarlyErrorKind) -> &'static str
+    ensures { result.now ≡ sentence_of kind }
+{
     match kind {
         EarlyErrorKind::DeclaredTwice => {
             "this name is declared already; rename one of the two, or assign to it (ECMA-262, 14.2.1)"
@@ -72,7 +106,9 @@ pub fn sentence(kind: EarlyErrorKind) -> &'static str {
 }
 
 /// What stands at the earlier place of an error that has one.
-pub fn note(kind: EarlyErrorKind) -> &'static str {
+pub fn note(kind: EarlyErrorKind) -> &'static str
+    ensures { result.now ≡ note_of kind }
+{
     match kind {
         EarlyErrorKind::ExportedTwice => "it is exported here first",
         EarlyErrorKind::EqualParameters => "the other parameter",

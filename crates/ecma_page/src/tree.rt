@@ -12,8 +12,9 @@ const isRest = ({ name }) => name === '..';
 class TreeView {
   /** `tells` has what becomes of a choice: `light`, `select`, `toggle`, `widen`, `copy`, `search`. */
   constructor(pane, tells) {
-    Object.assign(this, { pane, tells, listed: [], cursor: 0, lit: -1, root: null, isDue: false });
+    Object.assign(this, { pane, tells, listed: [], cursor: 0, lit: -1, root: null });
     this.rows = new Rows(pane, index => this.row(index));
+    this.resizeWithNextFrame = withNextFrame(() => this.rows.resize(this.listed.length));
     // A row that is painted anew between press and release gets no click.
     pane.addEventListener('mousedown', event => this.clicked(event));
     pane.addEventListener('keydown', event => this.key(event));
@@ -22,12 +23,7 @@ class TreeView {
   /** Shows the tree of a new text, or why there is none, with the next frame: to ask how high the pane is has the browser lay out all. */
   renew(root, why) {
     this.take(root, why);
-    if (this.isDue) return;
-    this.isDue = true;
-    requestAnimationFrame(() => {
-      this.isDue = false;
-      this.rows.resize(this.listed.length);
-    });
+    this.resizeWithNextFrame();
   }
 
   /** Shows a tree at once. */
