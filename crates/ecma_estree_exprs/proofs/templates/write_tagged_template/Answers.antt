@@ -1,0 +1,20 @@
+-- What each step has written or has laid upon the stack, one behind another.
+use Rattle.std.proofs.Common.{append_assoc, ◌∙◌}
+use Rattle.ecma_estree_exprs.proofs.Steps.{where_ok}
+use Rattle.ecma_estree_exprs.proofs.templates.write_tagged_template.Goals as goal
+
+pub returns : goal.returns
+returns c =
+    where_ok c.push-4.result c.push-4.ensures (λ h.
+    let e1 = c.in_ok-open.ensures in
+    let e2 = c.in_ok-key.ensures in
+    let e3 = c.in_ok-push.ensures in
+    let e4 = c.in_ok-push-2.ensures in
+    let e5 = c.in_ok-push-3.ensures in
+    let s2 = e2.0 ∙ e1.0 in
+    let s3 = e3.0 ∙ s2 in
+    let s4 = e4.0 ∙ s3 in
+    let s5 = e5.0 ∙ s4 in (
+      h.0 ∙ s5,
+      simp (h.1 ∙ e5.1 ∙ e4.1 ∙ e3.1, e2.1, e1.1, (simp s5 at h.2), e5.2, (simp (s3, c.deref.ensures) at e4.2), e3.2, e2.2 ∙ e1.2, append_assoc),
+    ))
