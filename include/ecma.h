@@ -11,27 +11,21 @@
 #include <stddef.h>
 #include <stdint.h>
 
-/* The version of what this header declares. Each struct begins with `struct_size`, how many bytes it has; a later version may give it more. */
-#define ECMA_VERSION 2
-
 #ifdef __cplusplus
 extern "C" {
 #endif
 
-/* The version that the library was made with: it is to be ECMA_VERSION. Ask for it before any other call where the library is loaded. */
-uint32_t ecma_version(void);
-
 /* How a call ends. From 0 on the answer is written; below 0 nothing is. */
 enum {
-    ECMA_CLEAN = 0,           /* a tree, no fault and no early error */
-    ECMA_FAULTY = 1,          /* a tree, and faults or early errors beside it */
+    ECMA_CLEAN = 0,           /* a tree and no fault */
+    ECMA_FAULTY = 1,          /* a tree, and faults beside it */
     ECMA_REFUSED = 2,         /* no tree */
     ECMA_TOO_DEEP = 3,        /* no tree, since the text nests deeper than the limit */
     ECMA_TOO_SHORT = -1,      /* the room is too short; `needed` says how much it takes */
     ECMA_OUT_OF_MEMORY = -2,  /* memory ran out */
     ECMA_NOT_UTF8 = -3,       /* the text is not UTF-8 */
     ECMA_TOO_LONG = -4,       /* the text has more than 2^32 - 1 bytes */
-    ECMA_UNKNOWN_OPTION = -5  /* a goal or a flag is none of those below, or the size of the options is another */
+    ECMA_UNKNOWN_OPTION = -5  /* a goal or a flag is none of those below */
 };
 
 /* What a text is read as: a goal symbol of ECMA-262, section 5.1.4; a module where one of the statements makes it one, and else a script
@@ -57,22 +51,16 @@ enum {
     ECMA_TOKENS = 0x800     /* `tokens` of the whole */
 };
 
-/* What is not looked for. */
-enum {
-    ECMA_NO_EARLY_ERRORS = 0x1000 /* early errors that are found in the finished tree: docs/EARLY.md */
-};
-
 /* What is asked for. */
 typedef struct EcmaOptions {
-    uint64_t struct_size; /* sizeof(EcmaOptions) */
     uint32_t goal;  /* ECMA_SCRIPT, ECMA_MODULE, ECMA_PROGRAM or ECMA_AUTO */
     uint32_t limit; /* how many levels deep the text may nest; more than 1,000 count as 1,000 */
     uint32_t flags; /* the sum of those that are wanted */
-    uint32_t max_faults; /* how many faults and early errors are told at most, and 0 for all; why there is no tree is told in any case */
+    uint32_t max_faults; /* how many recorded faults are told at most, and 0 for all; why there is no tree is told in any case */
 } EcmaOptions;
 
 /* The tree and the faults of a text as one object of JSON, `{"tree":..,"faults":[..]}`: the tree as ESTree, or null; the faults in the form
- * of `ecma-check --format json`, with an empty `file`. Where there are more faults and early errors than are asked for, a field `more` says how many more.
+ * of `ecma-check --format json`, with an empty `file`. Where more faults were recorded than are asked for, a field `more` says how many more.
  * `needed` becomes how many bytes that has, also where `room` is less. */
 int32_t ecma_parse(const uint8_t *text, size_t length, const EcmaOptions *options, uint8_t *out, size_t room, size_t *needed);
 
@@ -87,39 +75,25 @@ typedef struct EcmaPoint {
     uint64_t column; /* from 1, in code units of UTF-16 */
 } EcmaPoint;
 
-/* How much a fault weighs. */
-enum {
-    ECMA_FAULT = 0,  /* it was recorded, and the parser went on */
-    ECMA_ERROR = 1,  /* an early error of the tree */
-    ECMA_REFUSAL = 2 /* it is why there is no tree, and comes last */
-};
-
-/* A fault or an early error. Its words are offsets into what the call writes to `words`. */
+/* A fault. Its words are offsets into what the call writes to `words`. */
 typedef struct EcmaFault {
-    uint64_t struct_size; /* sizeof(EcmaFault) */
-    uint64_t severity;
     EcmaPoint start;
     EcmaPoint end;
     uint64_t kind_at; /* the name of its kind */
     uint64_t kind_length;
     uint64_t message_at; /* a sentence: what is wrong and what would be right */
     uint64_t message_length;
-    EcmaPoint previous_start; /* another place that it speaks of, as an earlier declaration; zeros, where there is none */
-    EcmaPoint previous_end;
-    uint64_t note_at; /* the words for that place */
-    uint64_t note_length;
+    uint64_t is_refusal; /* 1 for why there is no tree, which comes last; else 0 */
 } EcmaFault;
 
-/* How many faults and early errors are told, how many bytes their words have, and how many more there are. */
+/* How many faults are told, how many bytes their words have, and how many more faults were recorded. */
 typedef struct EcmaNeeded {
-    size_t struct_size; /* sizeof(EcmaNeeded) */
     size_t faults;
     size_t words;
     size_t more;
 } EcmaNeeded;
 
-/* The faults of a text one by one: those that were recorded, the early errors of its tree, as many as are asked for, and why there is no tree.
- * Early errors stand in the order of their places. `needed` becomes how much room they take, also where there is less. */
+/* The faults of a text one by one: those that were recorded, as many as are asked for, and why there is no tree. `needed` becomes how much room they take, also where there is less. */
 int32_t ecma_parse_faults(const uint8_t *text, size_t length, const EcmaOptions *options, EcmaFault *faults, size_t fault_room,
                           uint8_t *words, size_t word_room, EcmaNeeded *needed);
 

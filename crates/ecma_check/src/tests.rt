@@ -457,74 +457,6 @@ fn goals_and_limits(rt: HostRuntime) -> Result<(), Fail> {
 }
 
 #[test]
-fn early_errors_stand_behind_faults(rt: HostRuntime) -> Result<(), Fail> {
-    let found = printed(&rt, plain(&["--script"], b"let a;\nlet a;\nbreak"))?;
-    assert_eq!(rt;
-        found.as_str(),
-        "-:3:1: fault: `break` stands outside of loops and of `switch`; move it into one, or name a label around it (ECMA-262, 14.9.1)\nbreak\n^^^^^\n-:2:5: error: this name is declared already; rename one of the two, or assign to it (ECMA-262, 14.2.1)\nlet a;\n    ^\n-:1:5: note: it is declared here\nlet a;\n    ^\nfiles: 1, faults: 2, refused: 0, unread: 0\n||1"
-    );
-    let found = printed(&rt, plain(&["--script", "--format", "json"], b"let a, a"))?;
-    assert_eq!(rt;
-        found.as_str(),
-        "{\"file\":\"-\",\"severity\":\"error\",\"kind\":\"DeclaredTwice\",\"message\":\"this name is declared already; rename one of the two, or assign to it (ECMA-262, 14.2.1)\",\"byteStart\":7,\"byteEnd\":8,\"start\":7,\"end\":8,\"line\":1,\"column\":8,\"endLine\":1,\"endColumn\":9,\"note\":{\"message\":\"it is declared here\",\"byteStart\":4,\"byteEnd\":5,\"start\":4,\"end\":5,\"line\":1,\"column\":5,\"endLine\":1,\"endColumn\":6}}\n||1"
-    );
-    Ok(())
-}
-
-#[test]
-fn which_early_errors_are_told(rt: HostRuntime) -> Result<(), Fail> {
-    let rows = [
-        (
-            ["--script", "--no-early", "--max-faults=9"],
-            "let a, a",
-            "",
-            "faults: 0",
-            "||0",
-        ),
-        (
-            ["--module", "--format=json", "--max-faults=9"],
-            "a.#b; export { c };",
-            "Undeclared",
-            "",
-            "||1",
-        ),
-        (
-            ["--module", "--format=json", "--max-faults=9"],
-            "let b c; a.#b; export { c };",
-            "TS1005",
-            "",
-            "||1",
-        ),
-        (
-            ["--script", "--format=json", "--max-faults=1"],
-            "break; let a, a",
-            "TS1105",
-            "\"count\":1",
-            "||1",
-        ),
-        (
-            ["--script", "--format=json", "--max-faults=1"],
-            "let a, a, a",
-            "DeclaredTwice",
-            "\"count\":1",
-            "||1",
-        ),
-    ];
-    for (words, text, first, second, end) in rows {
-        let found = printed(&rt, plain(&words, text.as_bytes()))?;
-        let found = found.as_str();
-        assert!(rt;
-            found.contains(first) && found.contains(second) && found.ends_with(end),
-            "{found:?}"
-        );
-    }
-    let words = ["--module", "--format=json"];
-    let found = printed(&rt, plain(&words, b"let b c; a.#b; export { c };"))?;
-    assert!(rt; !found.as_str().contains("Undeclared"));
-    Ok(())
-}
-
-#[test]
 fn scripts_and_modules(rt: HostRuntime) -> Result<(), Fail> {
     let rows = [
         ("a", "script", "||0"),
@@ -643,6 +575,6 @@ fn words_that_are_no_command(rt: HostRuntime) -> Result<(), Fail> {
     let found = printed(&rt, plain(&["--help"], b""))?;
     assert!(rt; found.as_str().contains("--enable <FLAG,..>") && found.as_str().ends_with("||0"));
     let found = printed(&rt, plain(&["--version"], b""))?;
-    assert_eq!(rt; found.as_str(), "ecma-check 0.3.0\n||0");
+    assert_eq!(rt; found.as_str(), "ecma-check 0.1.0\n||0");
     Ok(())
 }
