@@ -48,6 +48,10 @@ export interface Options {
   onToken?: Piece[] | ((token: Piece) => void) | null;
   allowHashBang?: boolean;
   allowReturnOutsideFunction?: boolean;
+  /** Leaves out early errors of `super` outside of methods. */
+  allowSuperOutsideMethod?: boolean | null;
+  /** `false` leaves out early errors of private names that no class around declares. */
+  checkPrivateFields?: boolean | null;
 }
 
 /** A line from 1 and a column from 0, in code units of UTF-16. */
