@@ -132,6 +132,22 @@ pub(crate) struct Telling<'a> {
     pub(crate) early: &'a [EarlyError],
 }
 
+/// Writes the faults that were recorded, early errors, and why there is no tree.
+fn push_listed(out: &mut Vec<u8>, source: &Source<'_>, told: Telling<'_>) -> Result<(), AllocError>
+    requires { length source.now.text < 2 ^ 32 }
+    ensures { OnOk result
+        (out.new.items
+        ≡ out.old.items
+        ++ (recorded_text source.now told.entry.faults.now
+        ++ (early_text source.now told.entry.faults.now told.entry.early.now
+        ++ refusal_text source.now told.entry.tree.now told.entry.faults.now
+        told.entry.early.now))) }
+{
+    push_recorded(out, source, told.faults)?;
+    push_early(out, source, told.faults, told.early)?;
+    push_refusal(out, source, told.tree, told.faults, told.early)
+}
+
 /// Writes what is told of a text with faults, between brackets.
 #[tactic(auto, unfolding(crate::specs::Listed::told_text))]
 fn push_told(
@@ -148,9 +164,7 @@ fn push_told(
 {
     let source = Source::new(alloc, text)?;
     out.extend_from_slice(b"[")?;
-    push_recorded(out, &source, told.faults)?;
-    push_early(out, &source, told.faults, told.early)?;
-    push_refusal(out, &source, told.tree, told.faults, told.early)?;
+    push_listed(out, &source, told)?;
     out.extend_from_slice(b"]")
 }
 
