@@ -74,22 +74,28 @@ static void rooms(void)
     check(tree("a", &SCRIPT, whole) == ECMA_CLEAN && needed == whole && out[whole - 1] == '}' && out[whole] == '!', "just enough room");
 }
 
+/* What is told of a text: at most so many faults, and so many bytes of words. */
+static int32_t told(const char *text, const EcmaOptions *options, EcmaFault *list, size_t count, uint8_t *words, size_t room, EcmaNeeded *both)
+{
+    return ecma_parse_faults((const uint8_t *)text, strlen(text), options, list, count, words, room, both);
+}
+
 static void faults(void)
 {
     EcmaFault list[2];
     EcmaNeeded both;
     uint8_t words[256];
     const char *text = "break; \xc3\xa9 b";
-    int32_t status = ecma_parse_faults((const uint8_t *)text, strlen(text), &SCRIPT, list, 2, words, sizeof words, &both);
+    int32_t status = told(text, &SCRIPT, list, 2, words, sizeof words, &both);
     check(status == ECMA_REFUSED && both.faults == 2, "two faults");
     check(list[0].severity == ECMA_FAULT && list[1].severity == ECMA_REFUSAL, "why there is no tree comes last");
     check(list[0].start.byte == 0 && list[0].end.byte == 6, "the place of the first");
     check(list[1].start.byte == 10 && list[1].start.unit == 9 && list[1].start.line == 1 && list[1].start.column == 10, "the place of the second");
     check(list[0].kind_length == 6 && !memcmp(words + list[0].kind_at, "TS1105", 6), "the kind of the first");
     check(list[1].message_at + list[1].message_length == both.words, "the words end with the last sentence");
-    status = ecma_parse_faults((const uint8_t *)text, strlen(text), &SCRIPT, list, 1, words, sizeof words, &both);
+    status = told(text, &SCRIPT, list, 1, words, sizeof words, &both);
     check(status == ECMA_TOO_SHORT && both.faults == 2, "room for one fault");
-    status = ecma_parse_faults((const uint8_t *)text, strlen(text), &SCRIPT, list, 2, words, both.words - 1, &both);
+    status = told(text, &SCRIPT, list, 2, words, both.words - 1, &both);
     check(status == ECMA_TOO_SHORT, "a byte of words too few");
 }
 
@@ -100,7 +106,7 @@ static void early(void)
     EcmaNeeded room;
     uint8_t words[256];
     const char *text = "let a; let a";
-    int32_t status = ecma_parse_faults((const uint8_t *)text, strlen(text), &SCRIPT, list, 1, words, sizeof words, &room);
+    int32_t status = told(text, &SCRIPT, list, 1, words, sizeof words, &room);
     check(status == ECMA_FAULTY && room.faults == 1 && room.struct_size == sizeof room, "one early error");
     check(list[0].severity == ECMA_ERROR && list[0].struct_size == sizeof list[0], "it is an error");
     check(list[0].start.byte == 11 && list[0].previous_start.byte == 4 && list[0].previous_end.byte == 5, "both places");
@@ -115,10 +121,10 @@ static void most(void)
     EcmaNeeded room;
     uint8_t words[1024];
     const char *text = "break; break; break; a b";
-    int32_t status = ecma_parse_faults((const uint8_t *)text, strlen(text), &one, list, 4, words, sizeof words, &room);
+    int32_t status = told(text, &one, list, 4, words, sizeof words, &room);
     check(status == ECMA_REFUSED && room.faults == 2 && room.more == 2, "one fault of three");
     check(list[0].severity == ECMA_FAULT && list[0].start.byte == 0 && list[1].severity == ECMA_REFUSAL, "the first and the last");
-    status = ecma_parse_faults((const uint8_t *)text, strlen(text), &SCRIPT, list, 4, words, sizeof words, &room);
+    status = told(text, &SCRIPT, list, 4, words, sizeof words, &room);
     check(status == ECMA_REFUSED && room.faults == 4 && room.more == 0, "all faults");
     status = ecma_parse((const uint8_t *)text, strlen(text), &one, out, ROOM, &needed);
     check(status == ECMA_REFUSED && needed > 11 && !memcmp(out + needed - 11, "],\"more\":2}", 11), "how many more");

@@ -18,7 +18,25 @@ use Rattle.ecma_answers.specs.Spelled.{Decides, Spells, view_tree}
 abbrev pub is_of_undeclared : EarlyErrorKind → Bool
 is_of_undeclared kind.PrivateUndeclared = true
 is_of_undeclared kind.ExportUndeclared = true
-is_of_undeclared _ = false
+is_of_undeclared kind.DeclaredTwice = false
+is_of_undeclared kind.EqualParameters = false
+is_of_undeclared kind.LetDeclared = false
+is_of_undeclared kind.MissingInitializer = false
+is_of_undeclared kind.BoundInStrict = false
+is_of_undeclared kind.AssignedInStrict = false
+is_of_undeclared kind.ReservedInStrict = false
+is_of_undeclared kind.NameDeleted = false
+is_of_undeclared kind.PrivateDeleted = false
+is_of_undeclared kind.WithInStrict = false
+is_of_undeclared kind.MisplacedSuperCall = false
+is_of_undeclared kind.MisplacedSuper = false
+is_of_undeclared kind.ArgumentsInField = false
+is_of_undeclared kind.MisplacedAwait = false
+is_of_undeclared kind.MisplacedYield = false
+is_of_undeclared kind.StaticPrototype = false
+is_of_undeclared kind.SecondProto = false
+is_of_undeclared kind.PrivateTwice = false
+is_of_undeclared kind.ExportedTwice = false
 
 -- those that are told: where a part of the text stands in no tree, it may declare a name
 abbrev pub kept : (is_part_dropped : Bool) → List EarlyError → List EarlyError

@@ -66,7 +66,25 @@ fn is_of_undeclared(kind: EarlyErrorKind) -> bool
 {
     match kind {
         EarlyErrorKind::PrivateUndeclared | EarlyErrorKind::ExportUndeclared => true,
-        _ => false,
+        EarlyErrorKind::DeclaredTwice
+        | EarlyErrorKind::EqualParameters
+        | EarlyErrorKind::LetDeclared
+        | EarlyErrorKind::MissingInitializer
+        | EarlyErrorKind::BoundInStrict
+        | EarlyErrorKind::AssignedInStrict
+        | EarlyErrorKind::ReservedInStrict
+        | EarlyErrorKind::NameDeleted
+        | EarlyErrorKind::PrivateDeleted
+        | EarlyErrorKind::WithInStrict
+        | EarlyErrorKind::MisplacedSuperCall
+        | EarlyErrorKind::MisplacedSuper
+        | EarlyErrorKind::ArgumentsInField
+        | EarlyErrorKind::MisplacedAwait
+        | EarlyErrorKind::MisplacedYield
+        | EarlyErrorKind::StaticPrototype
+        | EarlyErrorKind::SecondProto
+        | EarlyErrorKind::PrivateTwice
+        | EarlyErrorKind::ExportedTwice => false,
     }
 }
 
