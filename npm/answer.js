@@ -132,10 +132,20 @@ function each(root, visit) {
   }
 }
 
-/** Gives big integers their values, which JSON has no form for. */
+/** A regular expression, or `null` where this engine has none for it. */
+function expressionOf({ pattern, flags }) {
+  try {
+    return new RegExp(pattern, flags);
+  } catch {
+    return null;
+  }
+}
+
+/** Gives big integers and regular expressions their values, which JSON has no form for. */
 function restore(tree) {
   each(tree, node => {
     if (node.bigint !== undefined) node.value = BigInt(node.bigint);
+    else if (node.type === 'Literal' && node.regex) node.value = expressionOf(node.regex);
   });
 }
 
@@ -152,7 +162,7 @@ function resultOf(status, json) {
   const { tree, faults: told, more } = JSON.parse(json);
   const faults = told.map(faultOf);
   if (tree === null) throw errorOf(faults.pop(), faults);
-  if (json.includes('"bigint":"')) restore(tree);
+  if (json.includes('"bigint":"') || json.includes('"regex":{')) restore(tree);
   return more ? { tree, faults, more } : { tree, faults };
 }
 

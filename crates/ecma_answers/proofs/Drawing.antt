@@ -1,6 +1,6 @@
 -- The tokens and comments of a text, drawn one by one.
 use Rattle.std.proofs.Common.{◌≡◌, ◌∙◌, ℕ, ◌<◌, Bool, true, false, cond, not, List, [], ◌∷◌, ◌++◌, Option, None, Some, Result, Ok, Err, ap, append-nil, append_assoc, arith, length, refl, subst, sym, true≢false}
-use Rattle.std.specs.Prelude.{IfOk}
+use Rattle.std.specs.Prelude.{IfNone, IfOk}
 use Rattle.std.specs.Str.{chars}
 use Rattle.swc_ecma_parser_common.specs.declared.span.BytePos.{BytePos}
 use Rattle.swc_ecma_parser_common.specs.declared.comment.Comment.{Comment}
@@ -45,24 +45,26 @@ pub drawn_all : (whole done old new : List TokenAndSpan) (found : Option TokenAn
 drawn_all whole done old new None e none n = sym (append-nil done) ∙ (ap (λ r. done ++ r) (sym none.0) ∙ sym e)
 drawn_all whole done old new (Some t) e d n = absurd (n t refl)
 
--- those that were got are the first of all, wanted or not
-commented : (wanted : Bool) (all got left : List Comment) → cond wanted all [] ≡ got ++ left → (behind : List Comment) × (all ≡ got ++ behind)
-commented true all got left e = (left, e)
-commented false all [] left e = (all, refl)
-commented false all (x ∷ got) left e = absurd (cc e)
+pub ended_none : {X : Type 0} {P : Type 0} (found : Option X) → IfNone found P → ((x : X) → found ≡ Some x → ⊥) → P
+ended_none None h n = h
+ended_none (Some x) h n = absurd (n x refl)
 
--- the comments of a lexer that was read on from the start of a text
-pub comments_drawn : (wanted : Bool) (start : BytePos) (given text : List ℕ) (a b : CommentList) (p q : Place) (got : List Comment)
-    → start ≡ record { 0 = 0 } → given ≡ text → collected a p ≡ cond wanted (lexer.comments start.0 0 (chars given)) []
-    → IsReadOn a p b q → got ≡ b.comments.items → b.is_lossy ≡ false → AreComments text got
-comments_drawn wanted start given text a b p q got e f new read same lossy =
-    let whole = new ∙ (ap (λ (s : BytePos). cond wanted (lexer.comments s.0 0 (chars given)) []) e
-    ∙ ap (λ (t : List ℕ). cond wanted (lexer.comments 0 0 (chars t)) []) f) in
-    let left = cond b.is_wanted (comments_at q) [] in
-    commented wanted (lexer.comments 0 0 (chars text)) got left (sym whole ∙ (read.comments lossy ∙ ap (λ r. r ++ left) (sym same)))
+none_left : (wanted : Bool) (left : List Comment) → left ≡ [] → cond wanted left [] ≡ []
+none_left true left e = e
+none_left false left e = refl
+
+-- the comments of a lexer that was read on from the start of a text to its end
+pub comments_drawn : (o : Options) (start : BytePos) (given text : List ℕ) (a b : CommentList) (p q : Place) (got : List Comment)
+    → start ≡ record { 0 = 0 } → given ≡ text → collected a p ≡ cond o.comments (lexer.comments start.0 0 (chars given)) []
+    → IsReadOn a p b q → got ≡ b.comments.items → b.is_lossy ≡ false → comments_at q ≡ [] → AreComments o text got
+comments_drawn o start given text a b p q got e f new read same lossy ended =
+    let whole = new ∙ (ap (λ (s : BytePos). cond o.comments (lexer.comments s.0 0 (chars given)) []) e
+    ∙ ap (λ (t : List ℕ). cond o.comments (lexer.comments 0 0 (chars t)) []) f) in
+    let none = ap (λ r. b.comments.items ++ r) (none_left b.is_wanted (comments_at q) ended) ∙ append-nil b.comments.items in
+    same ∙ sym none ∙ sym (read.comments lossy) ∙ whole
 
 pub fields_drawn : {X E : Type 0} (items : X → List ℕ) (r : Result X E) (o : Options) (text : List ℕ) (p : Placed) (comments : List Comment)
-    → (tokens : List TokenAndSpan) → p ≡ placed o text → tokens ≡ tokens_of o text → AreComments text comments
+    → (tokens : List TokenAndSpan) → p ≡ placed o text → tokens ≡ tokens_of o text → AreComments o text comments
     → IfOk r (λ x. items x ≡ fields o p comments tokens) → IfOk r (λ x. AreFields o text (items x))
 fields_drawn items (Ok x) o text p comments tokens e f are h =
     (comments, are, h ∙ (ap (λ (q : Placed). fields o q comments tokens) e ∙ ap (λ (ts : List TokenAndSpan). fields o (placed o text) comments ts) f))
@@ -73,7 +75,11 @@ neither false false x y e f = refl
 neither true b x y e f = absurd (true≢false (sym e))
 neither false true x y e f = absurd (true≢false (sym f))
 
+none_asked : (wanted : Bool) (all : List Comment) → not wanted ≡ true → [] ≡ cond wanted all []
+none_asked false all e = refl
+none_asked true all e = absurd (true≢false (sym e))
+
 -- neither comments nor tokens are asked for
 pub fields_none : (o : Options) (text : List ℕ) → not o.comments ≡ true → not o.tokens ≡ true → (out : List ℕ) → out ≡ [] → AreFields o text out
 fields_none o text e f out h =
-    ([], (lexer.comments 0 0 (chars text), refl), h ∙ sym (neither o.comments o.tokens _ _ e f))
+    ([], none_asked o.comments (lexer.comments 0 0 (chars text)) e, h ∙ sym (neither o.comments o.tokens _ _ e f))

@@ -21,9 +21,9 @@ placed o text = record { text = text; has_locations = o.extras.locations; has_ra
 abbrev pub tokens_of : Options → List ℕ → List TokenAndSpan
 tokens_of o text = (spelled.source_of o.syntax text).left
 
--- Comments of a text from its first one on: none is made up, left out in between or twice. That the text has no more is not said here.
-abbrev pub AreComments : List ℕ → List Comment → Type 0
-AreComments text comments = (behind : List Comment) × (lexer.comments 0 0 (chars text) ≡ comments ++ behind)
+-- the comments of a text, all of them, where they are asked for
+abbrev pub AreComments : Options → List ℕ → List Comment → Type 0
+AreComments o text comments = comments ≡ cond o.comments (lexer.comments 0 0 (chars text)) []
 
 -- the fields of comments and of tokens, where they are asked for
 abbrev pub fields : Options → Placed → List Comment → List TokenAndSpan → List ℕ
@@ -31,7 +31,7 @@ fields o p comments tokens = cond o.comments (comments_field p comments) [] ++ c
 
 -- those fields of a text
 abbrev pub AreFields : Options → List ℕ → List ℕ → Type 0
-AreFields o text out = (comments : List Comment) × AreComments text comments × (out ≡ fields o (placed o text) comments (tokens_of o text))
+AreFields o text out = (comments : List Comment) × AreComments o text comments × (out ≡ fields o (placed o text) comments (tokens_of o text))
 
 -- a tree of a text as ESTree
 abbrev pub IsEstree : Options → List ℕ → Tree → List ℕ → Type 0

@@ -1,7 +1,7 @@
 //! A tree as ESTree.
 
-ghost use Rattle.std.specs.Prelude.{◌<◌, ◌^◌, ◌≡◌, false, IfOk, OnOk, length};
-ghost use Rattle.swc_ecma_parser_lexer.specs.Collected.{IsReadOn};
+ghost use Rattle.std.specs.Prelude.{◌<◌, ◌^◌, ◌≡◌, [], false, IfOk, OnOk, length};
+ghost use Rattle.swc_ecma_parser_lexer.specs.Collected.{IsReadOn, comments_at};
 ghost use Rattle.swc_ecma_parser_lexer.specs.Tokens.{tokens_at};
 ghost use Rattle.ecma_answers.specs.Spelled.{view_tree};
 ghost use Rattle.ecma_answers.specs.Written.{AreFields, IsEstree, fields, placed};
@@ -22,6 +22,7 @@ fn tokens_of(alloc: Global, lexer: &mut Lexer<'_>) -> Result<Vec<TokenAndSpan>, 
     ensures tokens { IfOk result (λ tokens. tokens.items ≡ tokens_at lexer.old.place) }
     ensures comments { OnOk result
         (IsReadOn lexer.old.comments lexer.old.place lexer.new.comments lexer.new.place) }
+    ensures ended { OnOk result (comments_at lexer.new.place ≡ []) }
 {
     let mut tokens = Vec::new(alloc);
     while let Some(token) = lexer.next() {

@@ -5,3 +5,4 @@ pub mod Collections
 pub mod Candidates
 pub mod Blanks
 pub mod Quoted
+pub mod Memory

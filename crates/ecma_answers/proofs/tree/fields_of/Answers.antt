@@ -18,6 +18,6 @@ returns c =
     let given = input.ensures.src ∙ c.text-text.ensures in
     let source = lexer.ensures.source ∙ begins o.syntax input.result.start input.result.src.now text input.ensures.start given in
     let tokens = c.as_slice-2.ensures.value ∙ (c.in_ok-tokens.ensures.tokens ∙ ap (λ (s : TokenSource). s.left) source) in
-    let comments = comments_drawn o.comments input.result.start input.result.src.now text lexer.result.comments _ lexer.result.place _ c.as_slice.result.now
-    input.ensures.start given lexer.ensures.comments c.in_ok-tokens.ensures.comments (c.as_slice.ensures.value ∙ c.in_ok-comments.ensures.comments) c.in_ok-comments.ensures.lossy in
+    let comments = comments_drawn o input.result.start input.result.src.now text lexer.result.comments _ lexer.result.place _ c.as_slice.result.now
+    input.ensures.start given lexer.ensures.comments c.in_ok-tokens.ensures.comments (c.as_slice.ensures.value ∙ c.in_ok-comments.ensures.comments) c.in_ok-comments.ensures.lossy c.in_ok-tokens.ensures.ended in
     fields_drawn (λ x. x.items) c.written_fields.result o text c.args.places.now c.as_slice.result.now c.as_slice-2.result.now c.requires.places tokens comments c.written_fields.ensures

@@ -1,4 +1,5 @@
--- Functions and classes that are expressions.
+-- Functions and classes that are expressions, literals, links of optional chains.
+use Rattle.ecma_event_exprs.proofs.Declared.{literal_on_ok}
 use Rattle.ecma_event_exprs.proofs.Holders.{class_expr, fn_expr}
 use Rattle.swc_ecma_parser_ast.specs.Parts.{view_option}
 use Rattle.swc_ecma_parser_ast.specs.View.{view_class, view_function, view_ident}
@@ -8,6 +9,12 @@ pub returns-in-Fn : goal.returns-in-Fn
 returns-in-Fn c =
     let x = c.in-Fn.x in
     rw (c.in-Fn.is) (fn_expr c.function_expr.result _ c.args.walk.now c.args.role x.span (view_option view_ident x.ident) (view_function x.function.value) c.function_expr.ensures)
+
+pub returns-in-Lit : goal.returns-in-Lit
+returns-in-Lit c = rw (c.in-Lit.is) (literal_on_ok c.literal.result c.args.role c.in-Lit.x c.args.walk.now _ c.literal.ensures)
+
+pub returns-in-OptChain : goal.returns-in-OptChain
+returns-in-OptChain c = rw (c.in-OptChain.is, ← c.deref.ensures) c.link.ensures
 
 pub returns-in-Class : goal.returns-in-Class
 returns-in-Class c =

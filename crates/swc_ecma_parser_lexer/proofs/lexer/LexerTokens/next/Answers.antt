@@ -44,7 +44,7 @@ returns-clause-drawn c =
     let past = behind-past self.place.start place piece c.find-found.ensures.start c.find-found.ensures.fits found in
     record {
       draws = drawn (tokens_at self.place) place (behind self.place.start place piece) piece c.token_or_fault-token.result c.span_of-span.result
-          c.find-found.ensures.tokens found past c.span_of-span.ensures c.token_or_fault-token.ensures;
+          c.find-found.ensures.tokens found past c.span_of-span.ensures c.token_or_fault-token.ensures.token;
       rest = refl;
     }
 
@@ -56,3 +56,24 @@ returns-clause-comments c =
     let found = rw c.in-Some.is at c.find-found.ensures.piece in
     let past = behind-past self.place.start place piece c.find-found.ensures.start c.find-found.ensures.fits found in
     reads-token _ _ _ place (behind self.place.start place piece) piece c.find-found.ensures.comments found past
+
+pub returns-clause-read : goal.returns-clause-read
+returns-clause-read c =
+    let self = c.args.self.now in
+    let place = c.find-found.result.place in
+    let piece = c.in-Some.piece in
+    let found = rw c.in-Some.is at c.find-found.ensures.piece in
+    record {
+      place = place;
+      piece = piece;
+      start = c.find-found.ensures.start;
+      alike = c.find-found.ensures.alike;
+      between = c.find-found.ensures.behind;
+      fits = c.find-found.ensures.fits;
+      stands = found;
+      past = behind-past self.place.start place piece c.find-found.ensures.start c.find-found.ensures.fits found;
+      span = c.span_of-span.ensures;
+      had_line_break = refl;
+      same = c.token_or_fault-token.ensures.token;
+      lost = c.token_or_fault-token.ensures.lost;
+    }

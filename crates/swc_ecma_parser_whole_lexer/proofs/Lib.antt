@@ -1,0 +1,13 @@
+pub mod Turns
+pub mod Suffixes
+pub mod Lists
+pub mod Anew
+pub mod Marks
+pub mod Lost
+pub mod Readings
+pub mod Source
+pub mod Shallow
+pub mod Formed
+pub mod Turned
+pub mod Octals
+pub mod Replaced
