@@ -1,5 +1,4 @@
 -- How literals are written: numbers and escapes in old forms, and the flags of a regular expression.
-use Rattle.std.specs.List.{list_any}
 use Rattle.std.specs.Prelude.{ℕ, Bool, true, false, not, ◌&&◌, ◌||◌, ◌==◌, nat_lt, List, [], ◌∷◌}
 
 -- a decimal digit
@@ -32,9 +31,13 @@ is_flag b = b == 100 || (b == 103 || (b == 105 || (b == 109 || (b == 115 || (b =
 abbrev pub excludes : ℕ → ℕ → Bool
 excludes a b = a == b || ((a == 117 && b == 118) || (a == 118 && b == 117))
 
+abbrev pub excludes_any : ℕ → List ℕ → Bool
+excludes_any a [] = false
+excludes_any a (b ∷ bs) = excludes a b || excludes_any a bs
+
 -- a flag that may stand beside those behind it
 unfoldable pub may_precede : ℕ → List ℕ → Bool
-may_precede b bs = is_flag b && not (list_any (excludes b) bs)
+may_precede b bs = is_flag b && not (excludes_any b bs)
 
 -- whether each is a flag that may stand beside the others (13.2.7.2)
 abbrev pub are_flags : List ℕ → Bool

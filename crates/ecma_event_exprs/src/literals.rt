@@ -6,7 +6,7 @@ ghost use Rattle.ecma_event_exprs.specs.Literals as text;
 ghost use Rattle.swc_ecma_parser_ast.specs.View.{view_lit};
 
 use crate::walk::Walk;
-use ecma_events::Event;
+use ecma_events::{EarlyErrorKind, Event};
 use std::alloc::AllocError;
 use swc_ecma_parser_ast::{Lit, Number, Regex, Str};
 
@@ -79,12 +79,26 @@ fn excludes(one: u8, other: u8) -> bool
     one == other || one == b'u' && other == b'v' || one == b'v' && other == b'u'
 }
 
+/// Whether a flag does not stand beside one of others.
+fn excludes_any(flag: u8, others: &[u8]) -> bool
+    ensures { result ≡ text.excludes_any flag others.now }
+{
+    let mut rest = others;
+    while let [other, more @ ..] = rest {
+        if excludes(flag, *other) {
+            return true;
+        }
+        rest = more;
+    }
+    false
+}
+
 /// Whether it is a flag that may stand beside those behind it.
 #[tactic(auto, unfolding(crate::specs::Literals::may_precede))]
 fn may_precede(flag: u8, rest: &[u8]) -> bool
     ensures { result ≡ text.may_precede flag rest.now }
 {
-    is_flag(flag) && !rest.iter().any(|other| excludes(flag, *other))
+    is_flag(flag) && !excludes_any(flag, rest)
 }
 
 /// Whether each is a flag that may stand beside the others.
@@ -128,7 +142,7 @@ fn regex<'a>(walk: &mut Walk<'a>, x: &'a Regex) -> Result<(), AllocError>
     if are_flags(x.flags.as_str().as_bytes()) {
         return Ok(());
     }
-    walk.event(Event::WrongFlags(x.span))
+    walk.event(Event::Wrong(EarlyErrorKind::WrongFlags, x.span))
 }
 
 /// A literal.
