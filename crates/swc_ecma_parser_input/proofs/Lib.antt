@@ -1,3 +1,4 @@
 pub mod Bumped
 mod Opened
 pub mod Ordered
+pub mod Rings

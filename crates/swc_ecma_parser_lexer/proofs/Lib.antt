@@ -6,3 +6,4 @@ pub mod Candidates
 pub mod Blanks
 pub mod Quoted
 pub mod Memory
+pub mod Spelled

@@ -112,6 +112,13 @@ has_text _ = false
 abbrev pub IsLost : Token → Token → Type 0
 IsLost wanted t = is_out_of_memory t ≡ true → has_text wanted ≡ true
 
+-- the token that a piece spells at a place, unless there was no memory for it
+pub record IsSpelled (place : Place) (piece : Piece) (t : TokenAndSpan) : Type 0 where
+  pub span : t.span ≡ span_at (place.start.0 + place.at) (length piece.text.now)
+  pub had_line_break : t.had_line_break ≡ place.had_line_break
+  pub same : IsTokenOrFault (token_of piece.state piece.text.now t.span) t.token
+  pub lost : IsLost (token_of piece.state piece.text.now t.span) t.token
+
 -- a token that was read from a place on, and the place behind it
 pub record IsReadAt (p : Place) (t : TokenAndSpan) (q : Place) : Type 0 where
   -- where it stands

@@ -1,4 +1,4 @@
-ghost use Rattle.std.specs.Prelude.{◌≡◌, ◌+◌, ◌<◌, [], ◌++◌, if◌then◌else◌, length, true, false, IfOk, IfErr, IfNone, OnOk, MatchOption, MatchResult};
+ghost use Rattle.std.specs.Prelude.{◌≡◌, ◌+◌, ◌<◌, [], ◌++◌, if◌then◌else◌, length, true, false, Some, IfOk, IfErr, IfNone, OnOk, MatchOption, MatchResult};
 ghost use Rattle.std.specs.Str.{chars};
 ghost use Rattle.swc_ecma_parser_error.specs.Kind.{IsOutOfMemory};
 ghost use Rattle.swc_ecma_parser_input.specs.TokenSource as source;
@@ -8,11 +8,12 @@ ghost use Rattle.swc_ecma_parser_lexer.specs.Tokens.{Fits};
 
 use crate::comment::CommentList;
 use crate::input::StringInput;
-use crate::place::{Place, find, past, span_of, token_or_fault};
+use crate::place::{Place, find, is_skipped, past, past_blanks, spelled};
 use std::alloc::Global;
 use swc_ecma_parser_common::{BytePos, Comment, Span};
 use swc_ecma_parser_error::{Error, PResult, SyntaxError};
 use swc_ecma_parser_input::{CommentSource, Context, FaultLists, Syntax, Tokens};
+use swc_ecma_parser_scan::{Piece, plain_mark, plain_name};
 use swc_ecma_parser_token::TokenAndSpan;
 
 /// A lexer: what it has still to read of its text, and what a source of tokens keeps.
@@ -135,6 +136,56 @@ impl<'a> Lexer<'a> {
     }
 }
 
+impl<'a> Lexer<'a> {
+    ghost use Rattle.swc_ecma_parser_lexer.specs.Blanks.{IsBehindBlanks};
+    ghost use Rattle.swc_ecma_parser_lexer.specs.Collected.{IsReadOn, comments_at};
+    ghost use Rattle.swc_ecma_parser_lexer.specs.Tokens.{AreAlike, IsReadAt, IsToken};
+
+    /// Takes the token that a piece behind blanks spells.
+    #[inline(always)]
+    fn take_token(&mut self, place: Place<'a>, piece: Piece<'a>) -> TokenAndSpan
+        requires blanks { IsBehindBlanks self.old.place place }
+        requires token { IsToken place piece }
+        ensures drawn { source.Draws
+            (source_of self.old.place self.old.context self.old.syntax self.old.faults)
+            (Some result)
+            (source_of self.new.place self.new.context self.new.syntax self.new.faults) }
+        ensures comments { IsReadOn self.old.comments self.old.place self.new.comments
+            self.new.place }
+        ensures read { IsReadAt self.old.place result self.new.place }
+        ensures start { self.new.place.start ≡ self.old.place.start }
+    {
+        let token = spelled(self.alloc, place, piece);
+        self.place = past(place, piece);
+        token
+    }
+
+    /// The next token, whatever stands before it.
+    #[inline(never)]
+    fn next_of_any(&mut self) -> Option<TokenAndSpan>
+        ensures drawn { source.Draws
+            (source_of self.old.place self.old.context self.old.syntax self.old.faults) result
+            (source_of self.new.place self.new.context self.new.syntax self.new.faults) }
+        ensures comments { IsReadOn self.old.comments self.old.place self.new.comments
+            self.new.place }
+        ensures ended { IfNone result (comments_at self.new.place ≡ []) }
+        ensures read { MatchOption result (AreAlike self.old.place self.new.place)
+            (λ t. IsReadAt self.old.place t self.new.place) }
+        ensures start { self.new.place.start ≡ self.old.place.start }
+    {
+        let found = find(self.place, &mut self.comments);
+        let Some(piece) = found.piece else {
+            self.place.at = found.place.at;
+            self.place.had_line_break = found.place.had_line_break;
+            self.place.rest = found.place.rest;
+            return None;
+        };
+        let token = spelled(self.alloc, found.place, piece);
+        self.place = past(found.place, piece);
+        Some(token)
+    }
+}
+
 impl<'a> Tokens for Lexer<'a> {
     ghost use Rattle.swc_ecma_parser_lexer.specs.Ordered.{ordered};
     ghost use Rattle.swc_ecma_parser_lexer.specs.Collected.{IsReadOn, comments_at};
@@ -156,23 +207,18 @@ impl<'a> Tokens for Lexer<'a> {
             (λ t. IsReadAt self.old.place t self.new.place) }
         ensures start { self.new.place.start ≡ self.old.place.start }
     {
-        let found = find(self.place, &mut self.comments);
-        let Some(piece) = found.piece else {
-            self.place.at = found.place.at;
-            self.place.had_line_break = found.place.had_line_break;
-            self.place.rest = found.place.rest;
-            return None;
-        };
-        let span = span_of(found.place, piece);
-        let token = token_or_fault(self.alloc, piece.state, piece.text, span);
-        self.place.at = found.place.at + piece.text.len() as u32;
-        self.place.had_line_break = false;
-        self.place.rest = piece.rest;
-        Some(TokenAndSpan {
-            token,
-            had_line_break: found.place.had_line_break,
-            span,
-        })
+        let place = past_blanks(self.place);
+        if let Some(name) = plain_name(place.rest) {
+            if !is_skipped(name.state) {
+                return Some(self.take_token(place, name));
+            }
+        }
+        if let Some(mark) = plain_mark(place.rest) {
+            if !is_skipped(mark.state) {
+                return Some(self.take_token(place, mark));
+            }
+        }
+        self.next_of_any()
     }
 
     fn set_ctx(&mut self, context: Context)

@@ -37,7 +37,7 @@ pub struct Found<'a> {
 
 /// White space, a line terminator or a comment.
 #[tactic(auto, unfolding(crate::specs::Tokens::is_skipped))]
-fn is_skipped(state: State) -> bool
+pub fn is_skipped(state: State) -> bool
     ensures { result ≡ read.is_skipped state }
 {
     match state {
@@ -91,7 +91,7 @@ pub fn past<'a>(place: Place<'a>, piece: Piece<'a>) -> Place<'a>
 }
 
 /// The place behind the spaces and line breaks that are ASCII.
-fn past_blanks(first: Place<'_>) -> Place<'_>
+pub fn past_blanks(first: Place<'_>) -> Place<'_>
     requires { read.Fits first }
     ensures { blank.IsBehindBlanks first.entry result }
 {
@@ -129,6 +129,22 @@ pub fn find<'a>(first: Place<'a>, comments: &mut CommentList) -> Found<'a>
         place = past_blanks(past(place, piece));
     }
     Found { place, piece: None }
+}
+
+/// The token that a piece spells at a place, or an error token where there is no memory for its text.
+#[inline(always)]
+pub fn spelled(alloc: Global, place: Place, piece: Piece) -> TokenAndSpan
+    requires fits { read.Fits place }
+    requires piece { IsFirstPiece (place.at == 0) place.rest.now piece }
+    ensures { read.IsSpelled place.entry piece.entry result }
+{
+    let span = span_of(place, piece);
+    let token = token_or_fault(alloc, piece.state, piece.text, span);
+    TokenAndSpan {
+        token,
+        had_line_break: place.had_line_break,
+        span,
+    }
 }
 
 /// The token that a piece spells, or an error token where there is no memory for its text.
