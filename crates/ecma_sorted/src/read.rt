@@ -3,6 +3,8 @@
 ghost use Rattle.std.specs.Prelude.{◌≡◌, true, refl, map};
 ghost use Rattle.ecma_sorted.specs.Parts.{view_part};
 ghost use Rattle.swc_ecma_parser_grammar.specs.language.Items.{top_item};
+ghost use Rattle.swc_ecma_parser_output_readers.specs.Languages.{DecidesEach, statement_language};
+ghost use Rattle.swc_ecma_parser_output_readers.specs.StatementLaws.{AnyCode};
 ghost use Rattle.swc_ecma_parser_reader.specs.Reader as rules;
 ghost use Rattle.swc_ecma_parser_reader.specs.State.{GivesAs};
 ghost use Rattle.swc_ecma_parser_state.specs.Contents.{seen};
@@ -27,9 +29,21 @@ const TOP_ITEM: Position = Position {
 
 /// An import or export is refused, as in a script.
 impl<O: Origin, I: Tokens> StmtLikeParser<Ast, Part> for Call<O, I> {
+    ghost use Rattle.swc_ecma_parser_output_readers.specs.Languages.{statement_language};
+    ghost use Rattle.swc_ecma_parser_output_readers.specs.StatementLaws.{AnyCode, any_strict, stmt_is_exact, stmt_leaves};
     ghost use Rattle.swc_ecma_parser_reader.proofs.Loops.{whole_shorter};
 
+    ghost language = { statement_language };
+
+    ghost in_code = { AnyCode };
+
     ghost item = { rules.whole_stmt };
+
+    ghost is_exact = { stmt_is_exact };
+
+    ghost leaves = { stmt_leaves };
+
+    ghost in_strict = { any_strict };
 
     ghost is_stmt = { λ n at s h. refl };
 
@@ -52,9 +66,11 @@ fn parts_from<O: Origin, I: Tokens>(
     limit: usize,
 ) -> (State<I>, PResult<Vec<Part>>)
     requires { O.start ≡ state }
-    ensures { GivesAs (λ found. map view_part found.items)
+    ensures gives { GivesAs (λ found. map view_part found.items)
         (rules.items (rules.whole_stmt limit top_item) rules.at_end true (begun (seen state)))
         result.1 (seen result.0) }
+    ensures decides { DecidesEach AnyCode statement_language (λ found. map view_part found.items) limit top_item
+        rules.at_end true (begun (seen state)) result.1 (seen result.0) }
 {
     let mut call = state.begin::<O>();
     let maker: MakerOf<Ast> = Maker::new(alloc);
@@ -70,15 +86,18 @@ fn parts_from<O: Origin, I: Tokens>(
     (call.end(), read)
 }
 
-/// The parts up to the end of the tokens, the first of which can be directives; they may nest so many levels deep.
+/// The parts up to the end of the tokens, the first of which can be directives; they may nest so many levels deep. With nothing
+/// recorded they are answered exactly where the tokens spell them as statements.
 pub fn parts<I: Tokens>(
     alloc: Global,
     state: State<I>,
     limit: usize,
 ) -> (State<I>, PResult<Vec<Part>>)
-    ensures { GivesAs (λ found. map view_part found.items)
+    ensures gives { GivesAs (λ found. map view_part found.items)
         (rules.items (rules.whole_stmt limit top_item) rules.at_end true (begun (seen state)))
         result.1 (seen result.0) }
+    ensures decides { DecidesEach AnyCode statement_language (λ found. map view_part found.items) limit top_item
+        rules.at_end true (begun (seen state)) result.1 (seen result.0) }
 {
     parts_from::<Brand, I>(alloc, state, limit)
 }

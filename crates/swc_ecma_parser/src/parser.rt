@@ -40,6 +40,7 @@ use swc_ecma_parser_entries::entry::{item, module, program, script, statement};
 use swc_ecma_parser_error::{Error, PResult};
 use swc_ecma_parser_grammar::Position;
 use swc_ecma_parser_input::{CommentSource, Tokens};
+use swc_ecma_parser_output_readers::ByType;
 use swc_ecma_parser_state::State;
 
 /// How many levels deep a tree may nest where no limit is handed in.
@@ -197,7 +198,7 @@ impl<I: Tokens> Parser<I> {
         let alloc = self.alloc;
         let limit = self.limit as usize;
         let state = self.state.take().unwrap();
-        let (state, read) = script::<I, Ast>(alloc, state, limit);
+        let (state, read) = script::<I, ByType, Ast>(alloc, state, limit);
         self.state = Some(state);
         read
     }
@@ -288,7 +289,7 @@ impl<I: Tokens> Parser<I> {
         let alloc = self.alloc;
         let limit = self.limit as usize;
         let state = self.state.take().unwrap();
-        let (state, read) = module::<I, Ast>(alloc, state, limit);
+        let (state, read) = module::<I, ByType, Ast>(alloc, state, limit);
         self.state = Some(state);
         read
     }
@@ -383,7 +384,7 @@ impl<I: Tokens> Parser<I> {
         let alloc = self.alloc;
         let limit = self.limit as usize;
         let state = self.state.take().unwrap();
-        let (state, read) = program::<I, Ast>(alloc, state, limit);
+        let (state, read) = program::<I, ByType, Ast>(alloc, state, limit);
         self.state = Some(state);
         read
     }
@@ -480,7 +481,7 @@ impl<I: Tokens> Parser<I> {
         let alloc = self.alloc;
         let limit = self.limit as usize;
         let state = self.state.take().unwrap();
-        let (state, read) = item::<I, Ast>(alloc, state, limit);
+        let (state, read) = item::<I, ByType, Ast>(alloc, state, limit);
         self.state = Some(state);
         read
     }
@@ -576,7 +577,7 @@ impl<I: Tokens> Parser<I> {
             include_decl: false,
             top_level,
         };
-        let (state, read) = statement::<I, Ast>(alloc, state, limit, at);
+        let (state, read) = statement::<I, ByType, Ast>(alloc, state, limit, at);
         self.state = Some(state);
         read
     }
@@ -671,7 +672,7 @@ impl<I: Tokens> Parser<I> {
             include_decl: true,
             top_level,
         };
-        let (state, read) = statement::<I, Ast>(alloc, state, limit, at);
+        let (state, read) = statement::<I, ByType, Ast>(alloc, state, limit, at);
         self.state = Some(state);
         read
     }

@@ -12,6 +12,7 @@ ghost use Rattle.swc_ecma_parser_reader.specs.State.{GivesAs};
 
 use crate::decorated::{begins_decorators, no_leading};
 use crate::items::{TOP_ITEM, at_end, begins_import, item_behind, items, items_behind};
+use crate::own::ReadsItems;
 use swc_ecma_parser_bodies::body::direct;
 use swc_ecma_parser_cursor::Cursor;
 use swc_ecma_parser_error::PResult;
@@ -188,7 +189,7 @@ fn first_behind<P: Cursor, T: BuildsStatements + BuildsExport + BuildsVarDecl>(
 
 /// The items of a program from its first import or export on, with the decorators before that.
 #[tactic(auto, unfolding(swc_ecma_parser_module_reader::specs::Programs::behind_front))]
-fn behind_front<P: Cursor, T: BuildsStatements + BuildsExport + BuildsVarDecl>(
+fn behind_front<K: ReadsItems<T>, P: Cursor, T: BuildsStatements + BuildsExport + BuildsVarDecl>(
     t: &MakerOf<T>,
     p: &mut P,
     limit: usize,
@@ -200,18 +201,18 @@ fn behind_front<P: Cursor, T: BuildsStatements + BuildsExport + BuildsVarDecl>(
     ensures outright { (P.seen p.old).at.left ≡ [] → list.found.items ≡ [] → IsOk result }
 {
     if list.found.is_empty() {
-        return items::<P, T>(t, p, limit);
+        return items::<K, P, T>(t, p, limit);
     }
     let first = first_behind::<P, T>(t, p, limit, list)?;
     let directives = T::is_string_item(&first);
     let mut found = Vec::new(t.alloc);
     pushed(p, &mut found, first)?;
-    items_behind::<P, T>(t, p, limit, found, directives)
+    items_behind::<K, P, T>(t, p, limit, found, directives)
 }
 
 /// The items of a program that turned out to be a module: its statements before its first import or export, and what stands from
 /// there on, in module code.
-pub fn items_from<P: Cursor, T: BuildsStatements + BuildsExport + BuildsVarDecl>(
+pub fn items_from<K: ReadsItems<T>, P: Cursor, T: BuildsStatements + BuildsExport + BuildsVarDecl>(
     t: &MakerOf<T>,
     p: &mut P,
     limit: usize,
@@ -223,7 +224,7 @@ pub fn items_from<P: Cursor, T: BuildsStatements + BuildsExport + BuildsVarDecl>
     ensures outright { (P.seen p.old).at.left ≡ [] → front.before.items ≡ []
         → front.list.found.items ≡ [] → IsOk result }
 {
-    let behind = behind_front::<P, T>(t, p, limit, front.list)?;
+    let behind = behind_front::<K, P, T>(t, p, limit, front.list)?;
     let before = as_items::<P, T>(t, p, front.before)?;
     joined::<P, T>(p, before, behind)
 }
