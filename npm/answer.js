@@ -14,6 +14,7 @@ const FLAGS = {
 };
 
 const EXTRAS = { locations: 0x100, ranges: 0x200, comments: 0x400, tokens: 0x800 };
+const NO_EARLY_ERRORS = 0x1000;
 
 /** What fits the stack of an engine: scripts/nests.js measures it. */
 const DEFAULT_LIMIT = 300;
@@ -38,6 +39,7 @@ const ACORN = {
   onComment: value => isSink(value),
   onToken: value => isSink(value),
   throwFaults: value => isFlag(value),
+  earlyErrors: value => isFlag(value),
   allowHashBang: value => isFlag(value),
   allowReturnOutsideFunction: value => isFlag(value),
   allowReserved: value => !value,
@@ -79,6 +81,7 @@ function bitsOf(flags, rest) {
   if (rest.allowReturnOutsideFunction) bits |= FLAGS.allowReturnOutsideFunction;
   if (rest.onComment) bits |= EXTRAS.comments;
   if (rest.onToken) bits |= EXTRAS.tokens;
+  if (rest.earlyErrors === false) bits |= NO_EARLY_ERRORS;
   return bits;
 }
 
@@ -105,9 +108,9 @@ function guessOf(length, bits) {
 const place = (line, column) => ({ line, column: column - 1 });
 
 function faultOf(told) {
-  const { kind, message, start, end, byteStart, byteEnd, line, column, endLine, endColumn, note } = told;
+  const { severity, kind, message, start, end, byteStart, byteEnd, line, column, endLine, endColumn, note } = told;
   const words = kind === 'TooDeep' ? 'this nests deeper than the `limit`, which is at most 1000 levels' : message;
-  const fault = { kind, message: words, start, end, byteStart, byteEnd, loc: { start: place(line, column), end: place(endLine, endColumn) } };
+  const fault = { ...(severity && { severity }), kind, message: words, start, end, byteStart, byteEnd, loc: { start: place(line, column), end: place(endLine, endColumn) } };
   if (note) fault.note = faultOf(note);
   return fault;
 }
@@ -153,8 +156,15 @@ function resultOf(status, json) {
   return more ? { tree, faults, more } : { tree, faults };
 }
 
+/** The kinds that acorn's options leave out. */
+function leftOut({ allowSuperOutsideMethod, checkPrivateFields }) {
+  return [...(allowSuperOutsideMethod ? ['MisplacedSuper', 'MisplacedSuperCall'] : []), ...(checkPrivateFields === false ? ['PrivateUndeclared'] : [])];
+}
+
 /** What acorn's options ask for besides, done on the finished tree. */
 function finished(result, options = {}) {
+  const kinds = leftOut(options);
+  if (kinds.length > 0) result.faults = result.faults.filter(it => !kinds.includes(it.kind));
   const { tree, faults } = result;
   const { sourceFile, directSourceFile, onComment, onToken, throwFaults } = options;
   if (throwFaults && faults.length > 0) throw errorOf(faults[0], faults);

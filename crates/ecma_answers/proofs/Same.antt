@@ -2,19 +2,25 @@
 use Rattle.std.proofs.Common.{◌≡◌, ◌∙◌, ℕ, Bool, true, false, List, [], ◌∷◌, if◌then◌else◌, Result, Ok, Err, ap, refl, subst, sym}
 use Rattle.swc_ecma_parser_error.specs.declared.error.Error.{Error}
 use Rattle.swc_ecma_parser_error.specs.Kind.{Fault, Kind, fault_of, faults_of, kind_of}
+use Rattle.swc_ecma_parser_grammar.specs.Walk.{drops}
 use Rattle.swc_ecma_parser_grammar.specs.language.Programs as programs
 use Rattle.swc_ecma_parser_grammar.specs.language.Programs.{Entry}
 use Rattle.swc_ecma_parser_input.specs.TokenSource.{TokenSource}
+use Rattle.swc_ecma_parser_model.specs.Tree as model
 use Rattle.swc_ecma_parser_state.specs.Opened.{opened}
 use Rattle.swc_ecma_parser.specs.Headline.{IsNew}
 use Rattle.swc_ecma_parser.specs.Same as parser
 use Rattle.swc_ecma_parser.proofs.Same.{same_reading}
+use Rattle.ecma_events.specs.declared.early_error.EarlyError.{EarlyError}
+use Rattle.ecma_early.specs.Early.{early_of}
+use Rattle.ecma_answers.specs.declared.findings.Findings.{Findings}
 use Rattle.ecma_answers.specs.declared.options.Goal.{Goal}
 use Rattle.ecma_answers.specs.declared.options.Goal.TheVariants as goal
 use Rattle.ecma_answers.specs.declared.options.Options.{Options}
-use Rattle.ecma_answers.specs.declared.parsing.Outcome.TheVariants as outcome
+use Rattle.ecma_answers.specs.declared.outcome.Outcome.TheVariants as outcome
 use Rattle.ecma_answers.specs.declared.parsing.Reading.{Reading}
 use Rattle.ecma_answers.specs.declared.parsing.Tree.{Tree}
+use Rattle.ecma_answers.specs.Found.{Finds, early_in, kept}
 use Rattle.ecma_answers.specs.Outcomes.{is_too_deep, outcome_of}
 use Rattle.ecma_answers.specs.Chosen.{Told, is_clean, prefers_module, told_by, told_of}
 use Rattle.ecma_answers.specs.Same.{AreSame, IsSettled, IsSettledIn}
@@ -64,23 +70,40 @@ same_in goal.Program o text r q settled d e = absurd settled
 pub one_reading : (o : Options) (text : List ℕ) (r q : Reading) → IsSettled o → Decides o text r → Decides o text q → AreSame r q
 one_reading o text r q settled d e = same_in o.goal o text r q settled d.reading e.reading
 
--- beside a tree: faults are there or not
-beside : (x y : Tree) (es fs : List Error) → faults_of es ≡ faults_of fs → outcome_of (Ok x) es ≡ outcome_of (Ok y) fs
-beside x y [] [] h = refl
-beside x y [] (f ∷ fs) h = cc
-beside x y (e ∷ es) [] h = cc
-beside x y (e ∷ es) (f ∷ fs) h = refl
+-- where the same is read, the same early errors are found
+same_early : (o : Options) (x y : Result Tree Error) (es fs : List Error) → parser.IsSame view_tree x (faults_of es) y (faults_of fs) → early_in o x es ≡ early_in o y fs
+same_early o (Ok x) (Ok y) es fs h =
+    ap (λ (t : model.Tree). if o.early then kept (drops (faults_of es)) (early_of t) else []) h.0
+    ∙ ap (λ (gs : List Fault). if o.early then kept (drops gs) (early_of (view_tree y)) else []) h.1
+same_early o (Err e) (Err f) es fs h = refl
+same_early o (Ok x) (Err f) es fs h = absurd h
+same_early o (Err e) (Ok y) es fs h = absurd h
+
+pub one_finding : (o : Options) (text : List ℕ) (f g : Findings) → IsSettled o → Finds o text f → Finds o text g → f.early.items ≡ g.early.items
+one_finding o text f g settled d e =
+    d.early ∙ same_early o f.reading.tree g.reading.tree f.reading.faults.items g.reading.faults.items (one_reading o text f.reading g.reading settled d.decides e.decides)
+    ∙ sym e.early
+
+-- beside a tree: something is told or not
+beside : (x y : Tree) (es fs : List Error) (ks : List EarlyError) → faults_of es ≡ faults_of fs → outcome_of (Ok x) es ks ≡ outcome_of (Ok y) fs ks
+beside x y [] [] [] h = refl
+beside x y [] [] (k ∷ ks) h = refl
+beside x y [] (f ∷ fs) ks h = cc
+beside x y (e ∷ es) [] ks h = cc
+beside x y (e ∷ es) (f ∷ fs) ks h = refl
 
 -- a refusal comes out by its kind
 refusing : (e f : Error) → fault_of e ≡ fault_of f → kind_of e.kind ≡ kind_of f.kind
 refusing e f h = ap (λ (it : Fault). it.kind) h
 
-same_outcome : (x y : Result Tree Error) (es fs : List Error) → parser.IsSame view_tree x (faults_of es) y (faults_of fs) → outcome_of x es ≡ outcome_of y fs
-same_outcome (Ok x) (Ok y) es fs h = beside x y es fs h.1
-same_outcome (Err e) (Err f) es fs h = ap (λ (k : Kind). if is_too_deep k then outcome.TooDeep else outcome.Refused) (refusing e f h)
-same_outcome (Ok x) (Err f) es fs h = absurd h
-same_outcome (Err e) (Ok y) es fs h = absurd h
+same_outcome : (x y : Result Tree Error) (es fs : List Error) (ks : List EarlyError) → parser.IsSame view_tree x (faults_of es) y (faults_of fs) → outcome_of x es ks ≡ outcome_of y fs ks
+same_outcome (Ok x) (Ok y) es fs ks h = beside x y es fs ks h.1
+same_outcome (Err e) (Err f) es fs ks h = ap (λ (k : Kind). if is_too_deep k then outcome.TooDeep else outcome.Refused) (refusing e f h)
+same_outcome (Ok x) (Err f) es fs ks h = absurd h
+same_outcome (Err e) (Ok y) es fs ks h = absurd h
 
-pub one_outcome : (o : Options) (text : List ℕ) (r q : Reading) → IsSettled o → Decides o text r → Decides o text q
-    → outcome_of r.tree r.faults.items ≡ outcome_of q.tree q.faults.items
-one_outcome o text r q settled d e = same_outcome r.tree q.tree r.faults.items q.faults.items (one_reading o text r q settled d e)
+pub one_outcome : (o : Options) (text : List ℕ) (f g : Findings) → IsSettled o → Finds o text f → Finds o text g
+    → outcome_of f.reading.tree f.reading.faults.items f.early.items ≡ outcome_of g.reading.tree g.reading.faults.items g.early.items
+one_outcome o text f g settled d e =
+    same_outcome f.reading.tree g.reading.tree f.reading.faults.items g.reading.faults.items f.early.items (one_reading o text f.reading g.reading settled d.decides e.decides)
+    ∙ ap (outcome_of g.reading.tree g.reading.faults.items) (one_finding o text f g settled d e)

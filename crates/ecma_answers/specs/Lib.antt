@@ -1,5 +1,6 @@
 pub mod Chosen
 pub mod Spelled
+pub mod Found
 pub mod Outcomes
 pub mod Written
 pub mod Capped

@@ -31,6 +31,8 @@ pub struct Options {
     pub comments: bool,
     /// Whether a tree has its tokens.
     pub tokens: bool,
-    /// How many recorded faults are told at most; all of them, where it is 0. Why there is no tree is told in any case.
+    /// Whether early errors are looked for in a tree, beside those that the parser records.
+    pub early: bool,
+    /// How many faults and early errors are told at most; all of them, where it is 0. Why there is no tree is told in any case.
     pub max_faults: u32,
 }

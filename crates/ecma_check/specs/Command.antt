@@ -26,6 +26,10 @@ IsUnset f name = one_text f name ≡ Some (codes "false")
 abbrev pub IsFlag : Found → (name : List ℕ) → Bool → Type 0
 IsFlag f name b = (IsSet f name → b ≡ true) × (IsUnset f name → b ≡ false)
 
+-- what a word turns off
+abbrev pub IsNoFlag : Found → (name : List ℕ) → Bool → Type 0
+IsNoFlag f name b = (IsSet f name → b ≡ false) × (IsUnset f name → b ≡ true)
+
 -- the format of a name; text, where there is none
 abbrev pub format_named : Option (List ℕ) → Format
 format_named None = format.Text
@@ -110,6 +114,7 @@ pub record AreOptions (f : Found) (o : Options) : Type 0 where
   pub ranges : IsFlag f (codes "ranges") o.extras.ranges
   pub comments : IsFlag f (codes "comments") o.comments
   pub tokens : IsFlag f (codes "tokens") o.tokens
+  pub early : IsNoFlag f (codes "no-early") o.early
   pub max_faults : IsMost f o.max_faults
 
 -- the files that words name; standard input, where they name none

@@ -14,7 +14,7 @@ use std::alloc::{AllocError, Global};
 use swc_ecma_parser::input::{EsSyntax, Syntax};
 
 /// The version of the program, that of the package in npm/.
-const VERSION: &str = "0.1.0";
+const VERSION: &str = "0.3.0";
 
 /// What is printed.
 #[derive(Clone, Copy, Debug, PartialEq, Eq)]
@@ -60,7 +60,16 @@ fn max_faults<'a>(alloc: Global) -> Arg<'a> {
         .long("max-faults")
         .value_name("N")
         .value_parser(clap::value_parser!(u32))
-        .help("how many faults are told of a file, 1000 by default; 0 for all")
+        .help("how many faults and early errors are told of a file, 1000 by default; 0 for all")
+}
+
+/// Whether early errors are left out.
+fn no_early<'a>(alloc: Global) -> Arg<'a> {
+    flag(
+        alloc,
+        "no-early",
+        "tells what the parser records alone, and looks for no further early errors in a tree",
+    )
 }
 
 /// What is read besides ECMA-262.
@@ -127,6 +136,7 @@ fn command<'a>(alloc: Global) -> Result<Command<'a>, AllocError> {
     let command = command
         .arg(limit(alloc))?
         .arg(max_faults(alloc))?
+        .arg(no_early(alloc))?
         .arg(enable(alloc))?
         .arg(format_word(alloc))?;
     with_extras(alloc, command)?.arg(files(alloc))
@@ -334,6 +344,7 @@ fn options_of(matches: &ArgMatches<'_>, syntax: Syntax) -> Options
         },
         comments: matches.get_flag("comments"),
         tokens: matches.get_flag("tokens"),
+        early: !matches.get_flag("no-early"),
         max_faults: max_faults_of(matches),
     }
 }

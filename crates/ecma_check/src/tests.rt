@@ -124,11 +124,11 @@ fn faults_as_text(rt: HostRuntime) -> Result<(), Fail> {
         ("a", "files: 1, faults: 0, refused: 0, unread: 0\n||0"),
         (
             "\tbreak;",
-            "-:1:2: fault: `break` stands outside of loops and of `switch`; move it into one, or name a label around it (ECMA-262, 14.9.1)\n\tbreak;\n\t^^^^^^\nfiles: 1, faults: 1, refused: 0, unread: 0\n||1",
+            "-:1:2: fault: `break` outside of a loop or `switch`; move it into one, or name a label around it (ECMA-262, 14.9.1)\n\tbreak;\n\t^^^^^^\nfiles: 1, faults: 1, refused: 0, unread: 0\n||1",
         ),
         (
             "a\r\n'\u{1d4b3}\u{4e00}'; throw\n;/*\u{7}*/",
-            "-:3:1: refused: the line ends behind `throw`; write what is thrown on the same line (ECMA-262, 14.14)\n;/*\u{fffd}*/\n^\nfiles: 1, faults: 0, refused: 1, unread: 0\n||2",
+            "-:3:1: refused: the line ends after `throw`; write what is thrown on the same line (ECMA-262, 14.14)\n;/*\u{fffd}*/\n^\nfiles: 1, faults: 0, refused: 1, unread: 0\n||2",
         ),
     ];
     for (text, wanted) in rows {
@@ -143,7 +143,7 @@ fn an_earlier_place(rt: HostRuntime) -> Result<(), Fail> {
     let found = printed(&rt, plain(&[], b"\ta b"))?;
     assert_eq!(rt;
         found.as_str(),
-        "-:1:4: refused: expected an operator, `;` or a line break behind `a`, found `b`\n\ta b\n\t  ^\n-:1:2: note: the expression stands here\n\ta b\n\t^\nfiles: 1, faults: 0, refused: 1, unread: 0\n||2"
+        "-:1:4: refused: expected an operator, `;` or a line break after `a`, found `b`\n\ta b\n\t  ^\n-:1:2: note: the expression is here\n\ta b\n\t^\nfiles: 1, faults: 0, refused: 1, unread: 0\n||2"
     );
     Ok(())
 }
@@ -156,7 +156,7 @@ fn faults_as_json(rt: HostRuntime) -> Result<(), Fail> {
     )?;
     assert_eq!(rt;
         found.as_str(),
-        "{\"file\":\"-\",\"severity\":\"fault\",\"kind\":\"ReturnNotAllowed\",\"message\":\"`return` stands outside of functions; move it into the body of one (ECMA-262, 14.10)\",\"byteStart\":8,\"byteEnd\":14,\"start\":6,\"end\":12,\"line\":1,\"column\":7,\"endLine\":1,\"endColumn\":13}\n||1"
+        "{\"file\":\"-\",\"severity\":\"fault\",\"kind\":\"ReturnNotAllowed\",\"message\":\"`return` outside of a function; move it into the body of one (ECMA-262, 14.10)\",\"byteStart\":8,\"byteEnd\":14,\"start\":6,\"end\":12,\"line\":1,\"column\":7,\"endLine\":1,\"endColumn\":13}\n||1"
     );
     Ok(())
 }
@@ -247,7 +247,7 @@ fn faults_beside_a_tree(rt: HostRuntime) -> Result<(), Fail> {
     let tree =
         "{\"type\":\"Program\",\"start\":0,\"end\":5,\"body\":[{\"type\":\"BreakStatement\",\"start\":0,\"end\":5,\"label\":null}],\"sourceType\":\"script\"}\n";
     let told =
-        "-:1:1: fault: `break` stands outside of loops and of `switch`; move it into one, or name a label around it (ECMA-262, 14.9.1)\nbreak\n^^^^^\n";
+        "-:1:1: fault: `break` outside of a loop or `switch`; move it into one, or name a label around it (ECMA-262, 14.9.1)\nbreak\n^^^^^\n";
     let words = ["--format", "estree"];
     let found = printed(&rt, plain(&words, b"break"))?;
     let wanted = format!(in rt.alloc(); "{tree}|{told}|1")?;
@@ -264,7 +264,7 @@ fn faults_beside_a_tree(rt: HostRuntime) -> Result<(), Fail> {
     let found = printed(&rt, plain(&words, b"throw\na"))?;
     assert_eq!(rt;
         found.as_str(),
-        "|-:2:1: refused: the line ends behind `throw`; write what is thrown on the same line (ECMA-262, 14.14)\na\n^\n|2"
+        "|-:2:1: refused: the line ends after `throw`; write what is thrown on the same line (ECMA-262, 14.14)\na\n^\n|2"
     );
     Ok(())
 }
@@ -361,19 +361,19 @@ fn a_line_that_is_cut(rt: HostRuntime) -> Result<(), Fail> {
     let rows = [
         (
             "                                                            break;                                                            ",
-            "-:1:61: fault: `break` stands outside of loops and of `switch`; move it into one, or name a label around it (ECMA-262, 14.9.1)\n...                                      break;                              ...\n                                         ^^^^^^\nfiles: 1, faults: 1, refused: 0, unread: 0\n||1",
+            "-:1:61: fault: `break` outside of a loop or `switch`; move it into one, or name a label around it (ECMA-262, 14.9.1)\n...                                      break;                              ...\n                                         ^^^^^^\nfiles: 1, faults: 1, refused: 0, unread: 0\n||1",
         ),
         (
             "'\u{4e00}\u{4e00}\u{4e00}\u{4e00}\u{4e00}\u{4e00}\u{4e00}\u{4e00}\u{4e00}\u{4e00}\u{4e00}\u{4e00}\u{4e00}\u{4e00}\u{4e00}\u{4e00}\u{4e00}\u{4e00}\u{4e00}\u{4e00}\u{4e00}\u{4e00}\u{4e00}\u{4e00}\u{4e00}\u{4e00}\u{4e00}\u{4e00}\u{4e00}\u{4e00}\u{4e00}\u{4e00}\u{4e00}\u{4e00}\u{4e00}\u{4e00}\u{4e00}\u{4e00}\u{4e00}';break;'\u{4e00}\u{4e00}\u{4e00}\u{4e00}\u{4e00}\u{4e00}\u{4e00}\u{4e00}\u{4e00}\u{4e00}\u{4e00}\u{4e00}\u{4e00}\u{4e00}\u{4e00}\u{4e00}\u{4e00}\u{4e00}\u{4e00}\u{4e00}\u{4e00}\u{4e00}\u{4e00}\u{4e00}\u{4e00}\u{4e00}\u{4e00}\u{4e00}\u{4e00}\u{4e00}\u{4e00}\u{4e00}\u{4e00}\u{4e00}\u{4e00}\u{4e00}\u{4e00}\u{4e00}\u{4e00}\u{4e00}'",
-            "-:1:43: fault: `break` stands outside of loops and of `switch`; move it into one, or name a label around it (ECMA-262, 14.9.1)\n...\u{4e00}\u{4e00}\u{4e00}\u{4e00}\u{4e00}\u{4e00}\u{4e00}\u{4e00}\u{4e00}\u{4e00}\u{4e00}\u{4e00}\u{4e00}\u{4e00}\u{4e00}\u{4e00}\u{4e00}\u{4e00}';break;'\u{4e00}\u{4e00}\u{4e00}\u{4e00}\u{4e00}\u{4e00}\u{4e00}\u{4e00}\u{4e00}\u{4e00}\u{4e00}\u{4e00}\u{4e00}\u{4e00}...\n                                         ^^^^^^\nfiles: 1, faults: 1, refused: 0, unread: 0\n||1",
+            "-:1:43: fault: `break` outside of a loop or `switch`; move it into one, or name a label around it (ECMA-262, 14.9.1)\n...\u{4e00}\u{4e00}\u{4e00}\u{4e00}\u{4e00}\u{4e00}\u{4e00}\u{4e00}\u{4e00}\u{4e00}\u{4e00}\u{4e00}\u{4e00}\u{4e00}\u{4e00}\u{4e00}\u{4e00}\u{4e00}';break;'\u{4e00}\u{4e00}\u{4e00}\u{4e00}\u{4e00}\u{4e00}\u{4e00}\u{4e00}\u{4e00}\u{4e00}\u{4e00}\u{4e00}\u{4e00}\u{4e00}...\n                                         ^^^^^^\nfiles: 1, faults: 1, refused: 0, unread: 0\n||1",
         ),
         (
             "a\u{2028}break;",
-            "-:2:1: fault: `break` stands outside of loops and of `switch`; move it into one, or name a label around it (ECMA-262, 14.9.1)\nbreak;\n^^^^^^\nfiles: 1, faults: 1, refused: 0, unread: 0\n||1",
+            "-:2:1: fault: `break` outside of a loop or `switch`; move it into one, or name a label around it (ECMA-262, 14.9.1)\nbreak;\n^^^^^^\nfiles: 1, faults: 1, refused: 0, unread: 0\n||1",
         ),
         (
             "'\u{4e00}'; break;",
-            "-:1:6: fault: `break` stands outside of loops and of `switch`; move it into one, or name a label around it (ECMA-262, 14.9.1)\n'\u{4e00}'; break;\n      ^^^^^^\nfiles: 1, faults: 1, refused: 0, unread: 0\n||1",
+            "-:1:6: fault: `break` outside of a loop or `switch`; move it into one, or name a label around it (ECMA-262, 14.9.1)\n'\u{4e00}'; break;\n      ^^^^^^\nfiles: 1, faults: 1, refused: 0, unread: 0\n||1",
         ),
     ];
     for (text, wanted) in rows {
@@ -388,7 +388,7 @@ fn the_other_files_go_on(rt: HostRuntime) -> Result<(), Fail> {
     let found = printed(&rt, plain(&["nosuch", "-", "/", "-"], b"break"))?;
     assert_eq!(rt;
         found.as_str(),
-        "-:1:1: fault: `break` stands outside of loops and of `switch`; move it into one, or name a label around it (ECMA-262, 14.9.1)\nbreak\n^^^^^\nfiles: 4, faults: 1, refused: 0, unread: 2\n|nosuch: there is no such file\n/: it is a directory\n|3"
+        "-:1:1: fault: `break` outside of a loop or `switch`; move it into one, or name a label around it (ECMA-262, 14.9.1)\nbreak\n^^^^^\nfiles: 4, faults: 1, refused: 0, unread: 2\n|nosuch: there is no such file\n/: it is a directory\n|3"
     );
     Ok(())
 }
@@ -457,6 +457,74 @@ fn goals_and_limits(rt: HostRuntime) -> Result<(), Fail> {
 }
 
 #[test]
+fn early_errors_stand_behind_faults(rt: HostRuntime) -> Result<(), Fail> {
+    let found = printed(&rt, plain(&["--script"], b"let a;\nlet a;\nbreak"))?;
+    assert_eq!(rt;
+        found.as_str(),
+        "-:3:1: fault: `break` outside of a loop or `switch`; move it into one, or name a label around it (ECMA-262, 14.9.1)\nbreak\n^^^^^\n-:2:5: error: this name is already declared; rename one of the two, or assign to it (ECMA-262, 14.2.1)\nlet a;\n    ^\n-:1:5: note: declared here\nlet a;\n    ^\nfiles: 1, faults: 2, refused: 0, unread: 0\n||1"
+    );
+    let found = printed(&rt, plain(&["--script", "--format", "json"], b"let a, a"))?;
+    assert_eq!(rt;
+        found.as_str(),
+        "{\"file\":\"-\",\"severity\":\"error\",\"kind\":\"DeclaredTwice\",\"message\":\"this name is already declared; rename one of the two, or assign to it (ECMA-262, 14.2.1)\",\"byteStart\":7,\"byteEnd\":8,\"start\":7,\"end\":8,\"line\":1,\"column\":8,\"endLine\":1,\"endColumn\":9,\"note\":{\"message\":\"declared here\",\"byteStart\":4,\"byteEnd\":5,\"start\":4,\"end\":5,\"line\":1,\"column\":5,\"endLine\":1,\"endColumn\":6}}\n||1"
+    );
+    Ok(())
+}
+
+#[test]
+fn which_early_errors_are_told(rt: HostRuntime) -> Result<(), Fail> {
+    let rows = [
+        (
+            ["--script", "--no-early", "--max-faults=9"],
+            "let a, a",
+            "",
+            "faults: 0",
+            "||0",
+        ),
+        (
+            ["--module", "--format=json", "--max-faults=9"],
+            "a.#b; export { c };",
+            "Undeclared",
+            "",
+            "||1",
+        ),
+        (
+            ["--module", "--format=json", "--max-faults=9"],
+            "let b c; a.#b; export { c };",
+            "TS1005",
+            "",
+            "||1",
+        ),
+        (
+            ["--script", "--format=json", "--max-faults=1"],
+            "break; let a, a",
+            "TS1105",
+            "\"count\":1",
+            "||1",
+        ),
+        (
+            ["--script", "--format=json", "--max-faults=1"],
+            "let a, a, a",
+            "DeclaredTwice",
+            "\"count\":1",
+            "||1",
+        ),
+    ];
+    for (words, text, first, second, end) in rows {
+        let found = printed(&rt, plain(&words, text.as_bytes()))?;
+        let found = found.as_str();
+        assert!(rt;
+            found.contains(first) && found.contains(second) && found.ends_with(end),
+            "{found:?}"
+        );
+    }
+    let words = ["--module", "--format=json"];
+    let found = printed(&rt, plain(&words, b"let b c; a.#b; export { c };"))?;
+    assert!(rt; !found.as_str().contains("Undeclared"));
+    Ok(())
+}
+
+#[test]
 fn scripts_and_modules(rt: HostRuntime) -> Result<(), Fail> {
     let rows = [
         ("a", "script", "||0"),
@@ -518,7 +586,7 @@ fn what_is_wrong_in_a_condition(rt: HostRuntime) -> Result<(), Fail> {
     let found = printed(&rt, plain(&["--script"], b"if ()"))?;
     assert_eq!(rt;
         found.as_str(),
-        "-:1:5: refused: expected an expression behind `(`, found `)`\nif ()\n    ^\n-:1:1: note: it stands in the condition of this `if`\nif ()\n^^\nfiles: 1, faults: 0, refused: 1, unread: 0\n||2"
+        "-:1:5: refused: expected an expression after `(`, found `)`\nif ()\n    ^\n-:1:1: note: in the condition of this `if`\nif ()\n^^\nfiles: 1, faults: 0, refused: 1, unread: 0\n||2"
     );
     let found = printed(&rt, plain(&["--script", "--format", "json"], b"{a"))?;
     assert_eq!(rt;
@@ -575,6 +643,6 @@ fn words_that_are_no_command(rt: HostRuntime) -> Result<(), Fail> {
     let found = printed(&rt, plain(&["--help"], b""))?;
     assert!(rt; found.as_str().contains("--enable <FLAG,..>") && found.as_str().ends_with("||0"));
     let found = printed(&rt, plain(&["--version"], b""))?;
-    assert_eq!(rt; found.as_str(), "ecma-check 0.1.0\n||0");
+    assert_eq!(rt; found.as_str(), "ecma-check 0.3.0\n||0");
     Ok(())
 }

@@ -4,9 +4,10 @@ use Rattle.swc_ecma_parser_error.specs.declared.error.Error.{Error}
 use Rattle.swc_ecma_parser_error.specs.Kind.{Fault, faults_of}
 use Rattle.swc_ecma_parser.specs.Same as parser
 use Rattle.ecma_answers.specs.declared.options.Options.{Options}
-use Rattle.ecma_answers.specs.declared.parsing.Outcome.{Outcome}
+use Rattle.ecma_answers.specs.declared.outcome.Outcome.{Outcome}
 use Rattle.ecma_answers.specs.declared.parsing.Tree.{Tree}
-use Rattle.ecma_answers.specs.Spelled.{Decides, view_tree}
+use Rattle.ecma_answers.specs.Found.{Finds}
+use Rattle.ecma_answers.specs.Spelled.{view_tree}
 use Rattle.ecma_answers.proofs.Same.{one_outcome, one_reading}
 use Rattle.ecma_answers.proofs.Written.{one_estree}
 use Rattle.ecma_link.specs.declared.bytes.Wanted.{Wanted}
@@ -33,7 +34,7 @@ one_status w v given text a b out other settled h k =
     let q = k.1.2.0 in
     let d2 = k.1.2.1 in
     let f2 = k.1.2.2 in
-    f ∙ one_outcome o text r q (settled o e) d (subst (λ (z : Options). Decides z text q) (same_options given o p e e2) d2) ∙ sym f2
+    f ∙ one_outcome o text r q (settled o e) d (subst (λ (z : Options). Finds z text q) (same_options given o p e e2) d2) ∙ sym f2
 
 same_tree : (o : Options) (text : List ℕ) → o.comments ≡ false → (x y : Result Tree Error) (fs gs : List Fault) → parser.IsSame view_tree x fs y gs
     → (out other : List ℕ) → IsTreeAlone o text x out → IsTreeAlone o text y other → out ≡ other
@@ -56,6 +57,6 @@ one_tree given text a b out other settled plain h k =
     let d2 = k.1.2.1 in
     let written2 = k.1.2.3 in
     let same = same_options given o p e e2 in
-    let second = subst (λ (z : Options). Decides z text q) same d2 in
+    let second = subst (λ (z : Options). Finds z text q) same d2 in
     let shown = subst (λ (z : Options). IsWritten wanted.Tree z text q other) same written2 in
-    same_tree o text (plain o e) r.tree q.tree (faults_of r.faults.items) (faults_of q.faults.items) (one_reading o text r q (settled o e) d second) out other written shown
+    same_tree o text (plain o e) r.reading.tree q.reading.tree (faults_of r.reading.faults.items) (faults_of q.reading.faults.items) (one_reading o text r.reading q.reading (settled o e) d.decides second.decides) out other written shown

@@ -1,5 +1,5 @@
 -- What is asked for by numbers.
-use Rattle.std.specs.Prelude.{ℕ, Bool, not, ◌==◌, bit_and, if◌then◌else◌, min, Option, Some, None}
+use Rattle.std.specs.Prelude.{ℕ, Bool, not, ◌||◌, ◌==◌, bit_and, if◌then◌else◌, min, Option, Some, None}
 use Rattle.swc_ecma_parser_input.specs.declared.syntax.Syntax.{Syntax}
 use Rattle.swc_ecma_parser_input.specs.declared.syntax.Syntax.TheVariants as syntax
 use Rattle.ecma_answers.specs.declared.options.Goal.{Goal}
@@ -33,7 +33,7 @@ syntax_of flags = syntax.Es (record {
 
 -- bits that mean nothing
 abbrev pub unknown : ℕ
-unknown = 4294963328
+unknown = 4294959232
 
 -- at most 1,000 levels
 abbrev pub limit_of : ℕ → ℕ
@@ -47,6 +47,7 @@ options_of o g = record {
   extras = record { locations = has o.flags 256; ranges = has o.flags 512 };
   comments = has o.flags 1024;
   tokens = has o.flags 2048;
+  early = not (has o.flags 4096);
   max_faults = o.max_faults;
 }
 
@@ -54,6 +55,10 @@ abbrev pub with_goal : EcmaOptions → Option Goal → Option Options
 with_goal o (Some g) = Some (options_of o g)
 with_goal o None = None
 
+-- whether the caller has these options in mind: as many bytes
+abbrev pub is_known_size : ℕ → Bool
+is_known_size n = n == 24
+
 -- what is asked for, if all of it is known
 abbrev pub asked : EcmaOptions → Option Options
-asked o = if has o.flags unknown then None else with_goal o (goal_of o.goal)
+asked o = if not (is_known_size o.struct_size) || has o.flags unknown then None else with_goal o (goal_of o.goal)

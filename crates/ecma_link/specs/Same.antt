@@ -1,7 +1,7 @@
 -- Two calls for one text with one setting.
 use Rattle.std.specs.Prelude.{◌≡◌, ℕ, false, List, Some}
 use Rattle.ecma_answers.specs.declared.options.Options.{Options}
-use Rattle.ecma_answers.specs.declared.parsing.Outcome.{Outcome}
+use Rattle.ecma_answers.specs.declared.outcome.Outcome.{Outcome}
 use Rattle.ecma_answers.specs.Same as answers
 use Rattle.ecma_link.specs.declared.bytes.Wanted.{Wanted}
 use Rattle.ecma_link.specs.declared.bytes.Wanted.TheVariants as wanted
