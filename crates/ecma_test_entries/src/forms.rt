@@ -47,11 +47,7 @@ fn read(alloc: Global, texts: &[&str], limit: u32) -> Result<String, Fail> {
 }
 
 /// Asserts what each list of tokens comes to.
-fn expect_all(
-    rt: &impl Abort,
-    alloc: Global,
-    rows: &[(&[&str], &str)],
-) -> Result<(), Fail> {
+fn expect_all(rt: &impl Abort, alloc: Global, rows: &[(&[&str], &str)]) -> Result<(), Fail> {
     for (texts, wanted) in rows {
         assert_eq!(rt; read(alloc, *texts, 100)?.as_str(), *wanted);
     }
