@@ -33,7 +33,7 @@ abbrev mutual
   tree_size (tree.call s callee args) = 1 + tree_size callee + tree_size args
   tree_size (tree.new s callee args) = 1 + tree_size callee + tree_size args
   tree_size (tree.tpl s exprs quasis) = 1 + tree_size exprs + tree_size quasis
-  tree_size (tree.tagged_tpl s tag tpl) = 1 + tree_size tag + tree_size tpl
+  tree_size (tree.tagged_tpl s tag template) = 1 + tree_size tag + tree_size template
   tree_size (tree.opt_chain s optional base) = 1 + tree_size base
   tree_size (tree.arrow s params body is_async) = 1 + tree_size params + tree_size body
   tree_size (tree.yield s arg delegate) = 1 + tree_size arg
