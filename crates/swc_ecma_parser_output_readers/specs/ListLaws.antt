@@ -21,7 +21,7 @@ use Rattle.swc_ecma_parser_reader.proofs.Loops.{items_stop, items_err, items_mor
 use Rattle.swc_ecma_parser_reader.proofs.expressions.Covers.{same_answer}
 use Rattle.swc_ecma_parser_exactness.specs.Supports.{Ordered}
 use Rattle.swc_ecma_parser_exactness.proofs.Decides.{none_behind, no_faults}
-use Rattle.swc_ecma_parser_output_readers.specs.Languages.{Language, IsRead, IsExact, IsLeft, Leaves, EachSpells, IsAnswerOf, DecidesOf, DecidesOne, DecidesEach}
+use Rattle.swc_ecma_parser_output_readers.specs.Languages.{Language, IsRead, IsExact, IsLeft, Leaves, EachSpells, DecidesOf, DecidesOne, DecidesEach}
 
 -- ---- tokens in order
 

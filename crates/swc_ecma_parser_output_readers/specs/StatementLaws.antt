@@ -21,7 +21,7 @@ use Rattle.swc_ecma_parser_reader.proofs.SoundScripts.{whole_is_sound}
 use Rattle.swc_ecma_parser_exactness.proofs.Completed.{never}
 use Rattle.swc_ecma_parser_exactness.proofs.Decides.{none_behind, no_faults}
 use Rattle.swc_ecma_parser_exactness.proofs.Entries.{read_entry}
-use Rattle.swc_ecma_parser_output_readers.specs.Languages.{statement_language, IsRead, IsExact, IsLeft, Leaves, DecidesOne}
+use Rattle.swc_ecma_parser_output_readers.specs.Languages.{statement_language, IsRead, IsExact, Leaves, DecidesOne}
 use Rattle.swc_ecma_parser_output_readers.specs.ListLaws.{decides_one}
 
 -- as any code
