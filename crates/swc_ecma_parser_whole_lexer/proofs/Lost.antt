@@ -96,7 +96,7 @@ unfolding anew lost_anew kind_of lost_name pass is_word is_plain_word is_operand
 lost-shebang g n b cs left text line = record { read = refl; nest = refl }
 
 pub lost-as : (g : Goal) (n : Nest) (b : Bool) (cs left : List ℕ) (s : State) (text : List ℕ) (span : Span) → has_text (token_of s text span) ≡ true → IsLostAs g n b cs left text s (token_of s text span)
-unfolding token_of number_token string_token
+unfolding token_of number_token string_token has_text
 lost-as g n b cs left state.Name text span e =
     subst (λ w. IsLostAs g n b cs left text state.Name (token.Word w)) (sym (name-of-word text e)) (lost-name g n b cs left text)
 lost-as g n b cs left (state.Number num) text span e =

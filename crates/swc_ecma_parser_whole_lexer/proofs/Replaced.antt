@@ -12,7 +12,7 @@ use Rattle.swc_ecma_parser_nesting.specs.declared.nest.Nest.{Nest}
 use Rattle.swc_ecma_parser_nesting.specs.Nesting.{pass}
 use Rattle.swc_ecma_parser_whole_lexer.specs.declared.form.Form.{Form}
 use Rattle.swc_ecma_parser_whole_lexer.specs.Forms.{kind_anew, token_anew}
-use Rattle.swc_ecma_parser_whole_lexer.specs.Whole.{nest_behind, nest_settled, settled, token_at, IsSettled}
+use Rattle.swc_ecma_parser_whole_lexer.specs.Whole.{name_of, nest_behind, nest_settled, settled, token_at, IsSettled}
 use Rattle.swc_ecma_parser_whole_lexer.proofs.Lost.{IsKindOf, kind-of-anew}
 use Rattle.swc_ecma_parser_whole_lexer.proofs.Readings.{settled-at}
 
@@ -35,7 +35,7 @@ pub opens-as : (n : Nest) (low : ℕ) (b : Bool) (f : Form) (u : List ℕ) (plai
 opens-as n low b f u plain tok e =
     let k = kind-of-anew f u (span_at low (length u)) tok e in
     ap (λ (x : TokenAndSpan). nest_behind n x.token) (some-at low b f u plain tok e)
-    ∙ ap (λ kind. pass n kind _) k.kind ∙ ap (pass n (kind_anew f)) k.says
+    ∙ ap (λ kind. pass n kind (name_of tok)) k.kind ∙ ap (pass n (kind_anew f)) k.says
 
 -- Each outcome, told by what the calls ensure.
 
