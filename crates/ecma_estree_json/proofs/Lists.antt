@@ -41,10 +41,10 @@ behind_value p a b more =
 abbrev entry_text : Placed → (kind value : List ℕ) → (a b : ℕ) → (more : List ℕ) → List ℕ
 entry_text p kind value a b more = codes "{\"type\":\"" ++ (kind ++ 34 ∷ (codes ",\"value\":" ++ (wrapped value ++ behind_value p a b more)))
 
-entry_spells : (p : Placed) (kind value : List ℕ) (a b : ℕ) {more : List ℕ} {rest : Option Fields} → length p.text < 2 ^ 63 → all_simple kind ≡ true
+entry_spells : (p : Placed) (kind value : List ℕ) (a b : ℕ) (more : List ℕ) {rest : Option Fields} → length p.text < 2 ^ 63 → all_simple kind ≡ true
     → Leaves (more ++ codes "}") rest [] → Spells (entry_text p kind value a b more) (entry p kind value a b rest)
 unfolding entry
-entry_spells p kind value a b h k l =
+entry_spells p kind value a b more h k l =
     whole (object_starts (type_leaves kind k (field_leaves (codes "value") refl (text_spells value) (place_leaves p a b h l))))
 
 regex_layout : (exp flags : List ℕ) → (codes ",\"regex\":{\"flags\":" ++ (quoted flags ++ (codes ",\"pattern\":" ++ (quoted exp ++ codes "}")))) ++ codes "}"
@@ -72,7 +72,7 @@ kind_simple kind.Line = refl
 kind_simple kind.Block = refl
 
 comment_spells : (p : Placed) (c : Comment) → length p.text < 2 ^ 63 → Spells (comment_text p c) (comment p c)
-comment_spells p c h = spells_at (comment_layout p c) (entry_spells p (kind_word c.kind) c.text c.span.lo.0 c.span.hi.0 h (kind_simple c.kind) end_leaves)
+comment_spells p c h = spells_at (comment_layout p c) (entry_spells p (kind_word c.kind) c.text c.span.lo.0 c.span.hi.0 [] h (kind_simple c.kind) end_leaves)
 
 keyword_simple : (k : Keyword) → all_simple (keyword_type k) ≡ true
 unfolding keyword_type
@@ -104,10 +104,10 @@ type_simple _ = refl
 token_spells : (p : Placed) (hash : Option Span) (t : TokenAndSpan) → length p.text < 2 ^ 63 → Spells (token_text p hash t) (token p hash t)
 token_spells p None t h =
     spells_at (written_layout p (token_type t.token) (value_text p.text t.token t.span) t.span.lo.0 t.span.hi.0 (regex_field t.token))
-    (entry_spells p (token_type t.token) (value_text p.text t.token t.span) t.span.lo.0 t.span.hi.0 h (type_simple t.token) (regex_leaves t.token))
+    (entry_spells p (token_type t.token) (value_text p.text t.token t.span) t.span.lo.0 t.span.hi.0 (regex_field t.token) h (type_simple t.token) (regex_leaves t.token))
 token_spells p (Some mark) t h =
     spells_at (written_layout p (codes "PrivateIdentifier") (value_text p.text t.token t.span) mark.lo.0 t.span.hi.0 [])
-    (entry_spells p (codes "PrivateIdentifier") (value_text p.text t.token t.span) mark.lo.0 t.span.hi.0 h refl end_leaves)
+    (entry_spells p (codes "PrivateIdentifier") (value_text p.text t.token t.span) mark.lo.0 t.span.hi.0 [] h refl end_leaves)
 
 -- ---- all of them
 
