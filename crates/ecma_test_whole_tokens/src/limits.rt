@@ -1,12 +1,31 @@
 //! How much may be open.
 
+use crate::written::{let_go, lexer};
 use std::alloc::{AllocError, Global};
-use swc_ecma_parser_common::BytePos;
 use swc_ecma_parser_error::SyntaxError;
-use swc_ecma_parser_input::{Syntax, Tokens};
-use swc_ecma_parser_lexer::StringInput;
+use swc_ecma_parser_input::Tokens;
 use swc_ecma_parser_token::Token;
 use swc_ecma_parser_whole_lexer::{Goal, WholeLexer};
+
+fn is_too_deep(token: &Token) -> bool {
+    if let Token::Error(error) = token {
+        return matches!(error.kind, SyntaxError::TooDeep);
+    }
+    false
+}
+
+/// The number of tokens before the one that is refused, of so many.
+fn read_before(lexer: &mut WholeLexer, count: usize) -> Option<usize> {
+    for read in 0..count {
+        let token = lexer.next()?;
+        let is_refused = is_too_deep(&token.token);
+        let_go(token);
+        if is_refused {
+            return Some(read);
+        }
+    }
+    None
+}
 
 /// So many brackets, and the number of those behind which one is refused.
 fn first_refused(alloc: Global, count: usize) -> Result<Option<usize>, AllocError> {
@@ -14,18 +33,10 @@ fn first_refused(alloc: Global, count: usize) -> Result<Option<usize>, AllocErro
     for _ in 0..count {
         text.push('(')?;
     }
-    let input = StringInput::new(text.as_str(), BytePos(0), BytePos(text.len() as u32));
-    let mut lexer = WholeLexer::new(alloc, Syntax::default(), input, false, Goal::Script);
-    let mut read = 0;
-    while let Some(token) = lexer.next() {
-        if let Token::Error(error) = &token.token {
-            if matches!(error.kind, SyntaxError::TooDeep) {
-                return Ok(Some(read));
-            }
-        }
-        read += 1;
-    }
-    Ok(None)
+    let mut lexer = lexer(alloc, Goal::Script, text.as_str(), false);
+    let read = read_before(&mut lexer, count);
+    let_go(lexer);
+    Ok(read)
 }
 
 #[test]

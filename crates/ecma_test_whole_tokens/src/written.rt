@@ -8,7 +8,21 @@ use swc_ecma_parser_lexer::StringInput;
 use swc_ecma_parser_token::{Token, TokenAndSpan, Word};
 use swc_ecma_parser_whole_lexer::{Goal, WholeLexer};
 
+/// The greatest length in bytes of a text that the tests read. It has no more tokens.
+pub const LONGEST: usize = 10_000;
+
+/// Drops it. What drops a token is proved to do so on each way out, so tokens are let go of here.
+pub fn let_go<T: Drop>(_: T) {}
+
+/// A lexer at the start of a text; of an empty one where the text is too long.
+pub fn lexer(alloc: Global, goal: Goal, text: &str, comments: bool) -> WholeLexer<'_> {
+    let text = if text.len() > LONGEST { "" } else { text };
+    let input = StringInput::new(text, BytePos(0), BytePos(text.len() as u32));
+    WholeLexer::new(alloc, Syntax::default(), input, comments, goal)
+}
+
 /// What is written of a token.
+#[derive(Clone, Copy)]
 pub enum Shown {
     /// Its kind and its span.
     Kinds,
@@ -78,20 +92,21 @@ fn write_text(out: &mut String, token: &Token) -> Result<(), AllocError> {
     }
 }
 
-fn write_tokens(
-    out: &mut String,
-    alloc: Global,
-    goal: Goal,
-    shown: Shown,
-    text: &str,
-) -> Result<(), AllocError> {
-    let input = StringInput::new(text, BytePos(0), BytePos(text.len() as u32));
-    let mut lexer = WholeLexer::new(alloc, Syntax::default(), input, false, goal);
-    while let Some(token) = lexer.next() {
-        match shown {
-            Shown::Kinds => write_kind(out, &token)?,
-            Shown::Texts => write_text(out, &token.token)?,
-        }
+fn write_token(out: &mut String, shown: Shown, token: &TokenAndSpan) -> Result<(), AllocError> {
+    match shown {
+        Shown::Kinds => write_kind(out, token),
+        Shown::Texts => write_text(out, &token.token),
+    }
+}
+
+fn write_tokens(out: &mut String, lexer: &mut WholeLexer, shown: Shown) -> Result<(), AllocError> {
+    for _ in 0..LONGEST {
+        let Some(token) = lexer.next() else {
+            break;
+        };
+        let written = write_token(out, shown, &token);
+        let_go(token);
+        written?;
     }
     Ok(())
 }
@@ -99,7 +114,9 @@ fn write_tokens(
 /// Ends the test where other tokens than these are read.
 pub fn reads<R: Abort>(rt: &R, alloc: Global, goal: Goal, shown: Shown, text: &str, wanted: &str) {
     let mut out = String::new(alloc);
-    let written = write_tokens(&mut out, alloc, goal, shown, text);
+    let mut lexer = lexer(alloc, goal, text, false);
+    let written = write_tokens(&mut out, &mut lexer, shown);
+    let_go(lexer);
     assert!(rt; written.is_ok());
     assert_eq!(rt; out.as_str(), wanted);
 }

@@ -1,6 +1,4 @@
 use Rattle.std.proofs.Common.{List, ℕ, ◌≡◌, ◌-◌, ap, arith, sym, ◌∙◌, take}
-use Rattle.std.specs.Str.{encode_utf8_all}
-use Rattle.std.proofs.lemmas.Str.{encodes-chars}
 use Rattle.swc_ecma_parser_token.specs.declared.token.Token.TheVariants as token
 use Rattle.swc_ecma_parser_whole_lexer.specs.Forms.{behind_first}
 use Rattle.swc_ecma_parser_whole_lexer.proofs.Formed.{behind-bytes}

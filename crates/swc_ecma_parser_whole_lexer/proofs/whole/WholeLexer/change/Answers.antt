@@ -1,7 +1,5 @@
-use Rattle.std.proofs.Common.{◌≡◌, ◌||◌, not, length, arith, ap, refl, sym, ◌∙◌, subst}
-use Rattle.std.specs.Str.{chars}
+use Rattle.std.proofs.Common.{◌||◌, not, length, arith, ap, refl, sym, ◌∙◌, subst}
 use Rattle.swc_ecma_parser_lexer.specs.declared.lexer.Lexer.{Lexer}
-use Rattle.swc_ecma_parser_lexer.specs.declared.place.Place.{Place}
 use Rattle.swc_ecma_parser_whole_lexer.specs.Whole.{IsMoved}
 use Rattle.swc_ecma_parser_whole_lexer.proofs.Changed.{anew-before, before-shorter, changed, commented, part-long}
 use Rattle.swc_ecma_parser_whole_lexer.proofs.CommentSteps.{changed-comments, comment-comments}

@@ -1,11 +1,10 @@
-use Rattle.std.proofs.Common.{◌≡◌, ℕ, arith, ap, refl, sym, ◌∙◌, subst, nat_eq}
-use Rattle.std.specs.Str.{chars}
+use Rattle.std.proofs.Common.{arith, ap, sym, ◌∙◌, subst, nat_eq}
 use Rattle.swc_ecma_parser_common.specs.declared.span.BytePos.{BytePos}
 use Rattle.swc_ecma_parser_token.specs.declared.kind.TokenKind.{TokenKind}
 use Rattle.swc_ecma_parser_lexer.specs.declared.lexer.Lexer.{Lexer}
 use Rattle.swc_ecma_parser_nesting.specs.Nesting.{pass}
 use Rattle.swc_ecma_parser_whole_lexer.specs.Whole.{kind_of, nest_settled, IsMoved}
-use Rattle.swc_ecma_parser_whole_lexer.proofs.Changed.{before-shorter, lost-before, lost-changed, lost-kept, lost-marks, lost-nothing, part-long, same-piece}
+use Rattle.swc_ecma_parser_whole_lexer.proofs.Changed.{before-shorter, lost-before, lost-changed, lost-kept, lost-marks, part-long, same-piece}
 use Rattle.swc_ecma_parser_whole_lexer.proofs.CommentSteps.{lost-changed-comments, lost-kept-comments}
 use Rattle.swc_ecma_parser_whole_lexer.proofs.Turned.{found-long, found-low}
 use Rattle.swc_ecma_parser_whole_lexer.proofs.whole.WholeLexer.change_lost.Goals as goal

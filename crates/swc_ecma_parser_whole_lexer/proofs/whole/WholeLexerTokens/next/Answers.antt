@@ -1,4 +1,4 @@
-use Rattle.std.proofs.Common.{◌≡◌, ◌+◌, ◌-◌, ◌≤◌, arith, ap, drop, length, length-append, refl, sym, ◌∙◌, subst}
+use Rattle.std.proofs.Common.{◌+◌, ◌-◌, ◌≤◌, arith, ap, drop, length, refl, sym, ◌∙◌, subst}
 use Rattle.std.specs.Str.{chars, IsCharBoundary}
 use Rattle.swc_ecma_parser_lexer.specs.declared.lexer.Lexer.{Lexer}
 use Rattle.swc_ecma_parser_lexer.specs.declared.place.Place.{Place}
@@ -27,9 +27,11 @@ change-requires c =
     let t = c.in_ok-found.found in
     let q = c.next.new.self.place in
     let r = c.in_ok-found.ensures.read in
-    found-at self.lexer.place t q _ _ r
-    (c.text_from-text.ensures ∙ ap (λ (x : Place). drop (t.span.lo.0 - x.start.0 - x.at) x.rest.now) c.place-before.ensures.place ∙ text-at self.lexer.place t q r _ refl)
-    (ap (λ (x : Place). x.rest.now) c.place-rest.ensures.place)
+    record {
+      found = found-at self.lexer.place t q _ _ r
+          (c.text_from-text.ensures ∙ ap (λ (x : Place). drop (t.span.lo.0 - x.start.0 - x.at) x.rest.now) c.place-before.ensures.place ∙ text-at self.lexer.place t q r _ refl)
+          (ap (λ (x : Place). x.rest.now) c.place.ensures.place);
+    }
 
 pub returns-in_err-found-clause-drawn : goal.returns-in_err-found-clause-drawn
 returns-in_err-found-clause-drawn c =
@@ -46,7 +48,7 @@ returns-then-not-may_change-clause-drawn c =
     let old = self.lexer in
     let new = c.next.new.self in
     let after = c.settle.new.self in
-    let same = ap (λ (x : Place). may_change self.nest t.token (chars x.rest.now)) (sym c.place-rest.ensures.place) ∙ sym c.may_change.ensures ∙ c.if-not-may_change.true in
+    let same = ap (λ (x : Place). may_change self.nest t.token (chars x.rest.now)) (sym c.place.ensures.place) ∙ sym c.may_change.ensures ∙ c.if-not-may_change.true in
     stayed self.goal after.goal self.nest after.nest self.has_begun after.has_begun _ old.place new.place after.lexer.place old.context new.context after.lexer.context old.syntax new.syntax after.lexer.syntax old.faults new.faults after.lexer.faults t c.settle.new.found
     c.loop-found.invariant.source c.in_ok-found.ensures.drawn c.in_ok-found.ensures.read same c.settle.ensures.found c.settle.ensures.nest c.settle.ensures.goal c.settle.ensures.begun
     (ap (λ (x : Lexer). x.place) c.settle.ensures.lexer) (ap (λ (x : Lexer). x.context) c.settle.ensures.lexer) (ap (λ (x : Lexer). x.syntax) c.settle.ensures.lexer) (ap (λ (x : Lexer). x.faults) c.settle.ensures.lexer)
@@ -121,7 +123,7 @@ returns-then-not-may_change-clause-comments c =
     let new = c.next.new.self in
     let after = c.settle.new.self in
     let r = c.in_ok-found.ensures.read in
-    let same = ap (λ (x : Place). may_change self.nest t.token (chars x.rest.now)) (sym c.place-rest.ensures.place) ∙ sym c.may_change.ensures ∙ c.if-not-may_change.true in
+    let same = ap (λ (x : Place). may_change self.nest t.token (chars x.rest.now)) (sym c.place.ensures.place) ∙ sym c.may_change.ensures ∙ c.if-not-may_change.true in
     comment-step self.goal self.nest self.has_begun first.lexer.comments old.comments new.comments after.lexer.comments _ _ old.place t new.place r.place.rest.now r refl
     c.loop-found.invariant.comments c.next.ensures.comments
     (stayed-comments self.goal after.goal self.nest after.nest self.has_begun after.has_begun r.place.rest.now new.place.rest.now t new.place after.lexer.place
