@@ -8,8 +8,8 @@ use swc_ecma_parser_input::{CommentSource, Syntax, Tokens};
 use swc_ecma_parser_lexer::StringInput;
 use swc_ecma_parser_whole_lexer::{Goal, WholeLexer};
 
-fn made<A>(result: PResult<A>) -> Result<A, AllocError> {
-    match result {
+fn made<A>(outcome: PResult<A>) -> Result<A, AllocError> {
+    match outcome {
         Ok(a) => Ok(a),
         Err(_) => Err(AllocError),
     }

@@ -9,6 +9,7 @@ use swc_ecma_parser_token::{Token, TokenAndSpan, Word};
 use swc_ecma_parser_whole_lexer::{Goal, WholeLexer};
 
 /// What is written of a token.
+#[derive(Clone, Copy)]
 pub enum Shown {
     /// Its kind and its span.
     Kinds,

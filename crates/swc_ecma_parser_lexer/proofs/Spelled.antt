@@ -1,5 +1,5 @@
 -- A token that a piece spells at a place, read from another place on.
-use Rattle.std.proofs.Common.{◌≡◌, ◌+◌, Some, length, ap, sym, ◌∙◌}
+use Rattle.std.proofs.Common.{◌≡◌, ◌+◌, Some, ap, ◌∙◌}
 use Rattle.swc_ecma_parser_common.specs.declared.span.BytePos.{BytePos}
 use Rattle.swc_ecma_parser_common.specs.declared.span.Span.{Span}
 use Rattle.swc_ecma_parser_token.specs.declared.token.Token.{Token}
@@ -7,11 +7,11 @@ use Rattle.swc_ecma_parser_token.specs.declared.token.TokenAndSpan.{TokenAndSpan
 use Rattle.swc_ecma_parser_input.specs.declared.context.Context.{Context}
 use Rattle.swc_ecma_parser_input.specs.declared.syntax.Syntax.{Syntax}
 use Rattle.swc_ecma_parser_input.specs.Faults.{Faults}
-use Rattle.swc_ecma_parser_input.specs.TokenSource.{Draws, IsDrawn, TokenSource}
+use Rattle.swc_ecma_parser_input.specs.TokenSource.{Draws, IsDrawn}
 use Rattle.swc_ecma_parser_scan.specs.declared.piece.Piece.{Piece}
 use Rattle.swc_ecma_parser_lexer.specs.declared.place.Place.{Place}
 use Rattle.swc_ecma_parser_lexer.specs.Source.{source_of}
-use Rattle.swc_ecma_parser_lexer.specs.Tokens.{token_of, token_at, tokens_at, span_at, AreAlike, Fits, IsBehind, IsPast, IsReadAt, IsSpelled, IsToken}
+use Rattle.swc_ecma_parser_lexer.specs.Tokens.{token_of, token_at, tokens_at, AreAlike, Fits, IsBehind, IsPast, IsReadAt, IsSpelled, IsToken}
 use Rattle.swc_ecma_parser_lexer.proofs.Texts.{alike-tokens, past-token}
 
 drawn : (place q : Place) (piece : Piece) (t : TokenAndSpan) → IsToken place piece → IsSpelled place piece t → IsPast place piece q → IsDrawn (tokens_at place) t (tokens_at q)

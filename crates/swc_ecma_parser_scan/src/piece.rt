@@ -268,7 +268,8 @@ fn whole(is_first: bool, c: char, behind: &str) -> Munched<'_>
 /// A name of ASCII at the start of a text, where nothing stands behind it, or ASCII.
 #[inline(always)]
 pub fn plain_name(text: &str) -> Option<Piece<'_>>
-    ensures { IfSome result (λ piece. read.IsPlainPiece text.now piece) }
+    ensures plain { IfSome result (λ piece. read.IsPlainPiece text.now piece) }
+    ensures name { IfSome result (λ piece. piece.state ≡ state.Name) }
 {
     let (byte, behind) = first_ascii(text)?;
     if !is_name_start(byte as char) {

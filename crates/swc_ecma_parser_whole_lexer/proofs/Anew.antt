@@ -1,10 +1,8 @@
 -- What a token is read anew as: how far that reaches, and where it is the token itself.
-use Rattle.std.proofs.Common.{◌≡◌, ℕ, ◌+◌, ◌-◌, ◌≤◌, ◌<◌, Bool, true, false, not, ◌&&◌, ◌||◌, ◌==◌, cond, take, length, List, [], ◌∷◌, ◌++◌, Option, Some, None, refl, ap, sym, ◌∙◌, subst, append_assoc}
+use Rattle.std.proofs.Common.{◌≡◌, ℕ, Bool, true, false, not, ◌&&◌, ◌==◌, cond, List, [], ◌∷◌, Option, Some, None, refl, ap, sym, ◌∙◌, subst}
 use Rattle.std.proofs.lemmas.Bool.{eqb-true, true≢false}
-use Rattle.swc_ecma_parser_common.specs.declared.span.Span.{Span}
 use Rattle.swc_ecma_parser_error.specs.declared.kind.SyntaxError.{SyntaxError}
 use Rattle.swc_ecma_parser_error.specs.declared.kind.SyntaxError.TheVariants as kind
-use Rattle.swc_ecma_parser_token.specs.declared.kind.TokenKind.TheVariants as kinds
 use Rattle.swc_ecma_parser_token.specs.declared.operator.AssignOp.TheVariants as assign
 use Rattle.swc_ecma_parser_token.specs.declared.operator.BinOpToken.TheVariants as bin
 use Rattle.swc_ecma_parser_token.specs.declared.token.Token.{Token}
@@ -13,7 +11,7 @@ use Rattle.swc_ecma_parser_input.specs.TokenSource.{is_out_of_memory}
 use Rattle.swc_ecma_parser_scan.specs.Scan.{scan}
 use Rattle.swc_ecma_parser_lexer.specs.declared.escape.Escape.TheVariants as escape
 use Rattle.swc_ecma_parser_nesting.specs.declared.nest.Nest.{Nest}
-use Rattle.swc_ecma_parser_nesting.specs.Nesting.{begins_regex, ends_substitution, begins_private_operand, is_behind_new}
+use Rattle.swc_ecma_parser_nesting.specs.Nesting.{begins_regex, ends_substitution}
 use Rattle.swc_ecma_parser_whole_lexer.specs.declared.form.Form.{Form}
 use Rattle.swc_ecma_parser_whole_lexer.specs.declared.form.Form.TheVariants as form
 use Rattle.swc_ecma_parser_whole_lexer.specs.declared.form.Goal.{Goal}
@@ -21,12 +19,12 @@ use Rattle.swc_ecma_parser_whole_lexer.specs.declared.regex.Body.TheVariants as 
 use Rattle.swc_ecma_parser_whole_lexer.specs.declared.run.Class.TheVariants as class
 use Rattle.swc_ecma_parser_whole_lexer.specs.Forms.{Reading, anew, comment, ended_at, fault_anew, is_script, kept, name, old_number, old_string, only, opens_comment, part_to, question_dot, regex, regex_to, template}
 use Rattle.swc_ecma_parser_whole_lexer.specs.Names as names
-use Rattle.swc_ecma_parser_whole_lexer.specs.Old.{is_decimal, is_old, is_old_string, past_decimal, past_octals, past_old_number}
+use Rattle.swc_ecma_parser_whole_lexer.specs.Old.{is_decimal, is_old, past_decimal, past_octals, past_old_number}
 use Rattle.swc_ecma_parser_whole_lexer.specs.Regex.{past_body}
 use Rattle.swc_ecma_parser_whole_lexer.specs.Runs.{begins_with, behind, is_ahead, is_of, past}
 use Rattle.swc_ecma_parser_whole_lexer.specs.Templates.{End, past_part}
 use Rattle.swc_ecma_parser_whole_lexer.specs.Whole.{may_change}
-use Rattle.swc_ecma_parser_whole_lexer.proofs.Suffixes.{IsSuffix, suffix-all, suffix-more, suffix-on, past-suffix, behind-suffix, body-suffix, part-suffix, name-suffix-behind, scan-suffix}
+use Rattle.swc_ecma_parser_whole_lexer.proofs.Suffixes.{IsSuffix, suffix-more, suffix-on, past-suffix, behind-suffix, body-suffix, part-suffix, name-suffix-behind, scan-suffix}
 
 -- How far it reaches: what is left stands behind the first character.
 

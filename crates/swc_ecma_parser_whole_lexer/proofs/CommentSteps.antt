@@ -1,5 +1,5 @@
 -- The comments behind one turn of the source, from what its steps ensure.
-use Rattle.std.proofs.Common.{◌≡◌, ℕ, Bool, true, false, not, ◌||◌, length, List, [], ◌∷◌, ◌++◌, refl, ap, sym, ◌∙◌}
+use Rattle.std.proofs.Common.{◌≡◌, ℕ, Bool, true, false, not, ◌||◌, List, ◌++◌, refl, ap, sym, ◌∙◌}
 use Rattle.std.specs.Str.{chars, IsUtf8}
 use Rattle.swc_ecma_parser_common.specs.declared.comment.Comment.{Comment}
 use Rattle.swc_ecma_parser_token.specs.declared.token.Token.{Token}
@@ -8,7 +8,6 @@ use Rattle.swc_ecma_parser_input.specs.TokenSource.{is_out_of_memory}
 use Rattle.swc_ecma_parser_scan.specs.declared.piece.Piece.{Piece}
 use Rattle.swc_ecma_parser_scan.specs.declared.state.State.{State}
 use Rattle.swc_ecma_parser_lexer.specs.declared.comment.CommentList.{CommentList}
-use Rattle.swc_ecma_parser_lexer.specs.declared.lexer.Lexer.{Lexer}
 use Rattle.swc_ecma_parser_lexer.specs.declared.place.Place.{Place}
 use Rattle.swc_ecma_parser_lexer.specs.Collected as plain
 use Rattle.swc_ecma_parser_lexer.specs.Tokens.{IsReadAt}
@@ -18,7 +17,7 @@ use Rattle.swc_ecma_parser_whole_lexer.specs.declared.form.Form.{Form}
 use Rattle.swc_ecma_parser_whole_lexer.specs.declared.form.Goal.{Goal}
 use Rattle.swc_ecma_parser_whole_lexer.specs.Comments.{comments_at, comments_from, IsReadOn}
 use Rattle.swc_ecma_parser_whole_lexer.specs.Forms.{Reading, anew, is_comment, is_kept, kept}
-use Rattle.swc_ecma_parser_whole_lexer.specs.Whole.{kind_of, lost_name, may_change, nest_behind, nest_settled, token_at, IsFound, IsMoved, IsPlaceBehind}
+use Rattle.swc_ecma_parser_whole_lexer.specs.Whole.{kind_of, lost_name, may_change, nest_behind, nest_settled, token_at, IsFound, IsPlaceBehind}
 use Rattle.swc_ecma_parser_whole_lexer.proofs.Anew.{unchanged, unlost}
 use Rattle.swc_ecma_parser_whole_lexer.proofs.Changed.{anew-before, kept-comment, kept-form, lost-as-piece, lost-nest, lost-read, same-bytes, seen, seen-as}
 use Rattle.swc_ecma_parser_whole_lexer.proofs.Commented.{comment-comes, read-on, read-to, read-twice, token-comes}

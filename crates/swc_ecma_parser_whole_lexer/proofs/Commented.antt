@@ -9,7 +9,6 @@ use Rattle.swc_ecma_parser_token.specs.declared.token.Token.{Token}
 use Rattle.swc_ecma_parser_token.specs.declared.token.TokenAndSpan.{TokenAndSpan}
 use Rattle.swc_ecma_parser_scan.specs.declared.state.State.{State}
 use Rattle.swc_ecma_parser_scan.specs.Scan.{scan}
-use Rattle.swc_ecma_parser_scan.specs.Splits.{scan-splits}
 use Rattle.swc_ecma_parser_lexer.specs.declared.comment.CommentList.{CommentList}
 use Rattle.swc_ecma_parser_lexer.specs.declared.place.Place.{Place}
 use Rattle.swc_ecma_parser_lexer.specs.Collected as plain

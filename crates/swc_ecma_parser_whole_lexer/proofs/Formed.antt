@@ -1,5 +1,5 @@
 -- What a text reads as, from where its parts end.
-use Rattle.std.proofs.Common.{◌≡◌, ℕ, ◌-◌, ◌≤◌, ◌++◌, length-append, arith, take, Bool, true, false, cond, length, List, [], ◌∷◌, Option, Some, None, refl, ap, sym, ◌∙◌}
+use Rattle.std.proofs.Common.{◌≡◌, ℕ, ◌-◌, ◌≤◌, ◌++◌, length-append, arith, take, Bool, true, false, cond, length, List, Option, Some, None, ap, sym, ◌∙◌}
 use Rattle.std.proofs.lemmas.Str.{chars-append, encodes-append, encodes-chars}
 use Rattle.std.proofs.Math.Seq.{take-append_seam}
 use Rattle.std.specs.Str.{chars, encode_utf8_all, IsUtf8}
@@ -7,7 +7,7 @@ use Rattle.swc_ecma_parser_lexer.specs.declared.escape.Escape.TheVariants as esc
 use Rattle.swc_ecma_parser_whole_lexer.specs.declared.form.Form.TheVariants as form
 use Rattle.swc_ecma_parser_whole_lexer.specs.declared.regex.Body.TheVariants as body
 use Rattle.swc_ecma_parser_whole_lexer.specs.declared.run.Class.TheVariants as class
-use Rattle.swc_ecma_parser_whole_lexer.specs.Forms.{Reading, behind_first, ended_at, first_of, kept, name, old_number, old_string, part_to, regex, regex_to, template}
+use Rattle.swc_ecma_parser_whole_lexer.specs.Forms.{behind_first, ended_at, first_of, kept, name, old_number, old_string, part_to, regex, regex_to, template}
 use Rattle.swc_ecma_parser_whole_lexer.specs.Names as names
 use Rattle.swc_ecma_parser_whole_lexer.specs.Old.{is_old_string, past_old_number}
 use Rattle.swc_ecma_parser_whole_lexer.specs.declared.old.Old.TheVariants as old

@@ -1,13 +1,11 @@
 -- A token for which there was no memory: what it reads as, and what it opens.
-use Rattle.std.proofs.Common.{◌≡◌, ℕ, Bool, true, false, cond, List, [], ◌∷◌, Option, Some, None, refl, ap, sym, ◌∙◌, subst}
+use Rattle.std.proofs.Common.{◌≡◌, ℕ, Bool, true, false, cond, List, [], Option, Some, None, refl, ap, sym, ◌∙◌, subst}
 use Rattle.std.proofs.lemmas.Bool.{true≢false}
 use Rattle.std.specs.Prelude.{codes}
 use Rattle.std.specs.Str.{bytes_eq, chars}
 use Rattle.swc_ecma_parser_common.specs.declared.span.Span.{Span}
 use Rattle.swc_ecma_parser_error.specs.declared.kind.SyntaxError.{SyntaxError}
 use Rattle.swc_ecma_parser_token.specs.declared.keyword.Keyword.{Keyword}
-use Rattle.swc_ecma_parser_token.specs.declared.kind.TokenKind.{TokenKind}
-use Rattle.swc_ecma_parser_token.specs.declared.kind.TokenKind.TheVariants as kinds
 use Rattle.swc_ecma_parser_token.specs.declared.token.Token.{Token}
 use Rattle.swc_ecma_parser_token.specs.declared.token.Token.TheVariants as token
 use Rattle.swc_ecma_parser_token.specs.declared.token.Word.{Word}
@@ -96,7 +94,7 @@ unfolding anew lost_anew kind_of lost_name pass is_word is_plain_word is_operand
 lost-shebang g n b cs left text line = record { read = refl; nest = refl }
 
 pub lost-as : (g : Goal) (n : Nest) (b : Bool) (cs left : List ℕ) (s : State) (text : List ℕ) (span : Span) → has_text (token_of s text span) ≡ true → IsLostAs g n b cs left text s (token_of s text span)
-unfolding token_of number_token string_token
+unfolding token_of number_token string_token has_text
 lost-as g n b cs left state.Name text span e =
     subst (λ w. IsLostAs g n b cs left text state.Name (token.Word w)) (sym (name-of-word text e)) (lost-name g n b cs left text)
 lost-as g n b cs left (state.Number num) text span e =

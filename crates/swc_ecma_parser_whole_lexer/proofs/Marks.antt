@@ -1,6 +1,6 @@
 -- The marks of regular expressions and of parts of templates stand where they are cut.
-use Rattle.std.proofs.Common.{◌≡◌, ℕ, ◌+◌, ◌-◌, ◌≤◌, ◌<◌, Bool, true, false, not, ◌&&◌, ◌||◌, ◌==◌, cond, take, length, List, [], ◌∷◌, ◌++◌, Option, Some, None, refl, ap, sym, ◌∙◌, subst, append_assoc, arith, length-append, get_or}
-use Rattle.std.proofs.Math.Seq.{get_or-append_seam, take-append_seam}
+use Rattle.std.proofs.Common.{◌≡◌, ℕ, ◌+◌, ◌-◌, ◌<◌, Bool, true, false, not, ◌&&◌, ◌||◌, ◌==◌, cond, take, length, List, [], ◌∷◌, ◌++◌, Option, Some, None, refl, ap, sym, ◌∙◌, subst, append_assoc, arith, length-append, get_or}
+use Rattle.std.proofs.Math.Seq.{get_or-append_seam}
 use Rattle.std.proofs.lemmas.Bool.{true≢false, eqb-true}
 use Rattle.std.proofs.lemmas.Str.{IsCharBoundary-before_ascii, encode_ascii, encodes-append}
 use Rattle.std.specs.Str.{chars, encode_utf8_all, IsCharBoundary}
@@ -155,6 +155,9 @@ last-fits is_last u t k marks lt inner size =
       end = rw (place, inner) (ascii-boundary t k marks lt);
     }
 
+one-mark : length (encode_utf8_all (96 ∷ [])) ≡ 1
+one-mark = ap (λ xs. length (xs ++ [])) (encode_ascii 96 (omega arith))
+
 two-marks : length (encode_utf8_all (36 ∷ 123 ∷ [])) ≡ 2
 two-marks =
     ap (λ xs. length (xs ++ encode_utf8_all (123 ∷ []))) (encode_ascii 36 (omega arith))
@@ -169,7 +172,7 @@ part-fits is_first true u c cs e f h m g =
     let all : cs ≡ (h.taken ++ 96 ∷ []) ++ left = h.parts ∙ ap (λ xs. h.taken ++ xs) split ∙ sym (append_assoc h.taken (96 ∷ []) left) in
     let inner : behind_first u ≡ encode_utf8_all (h.taken ++ 96 ∷ []) =
     inner-bytes u c (take (size_of cs left) cs) g ∙ ap encode_utf8_all (suffix-taken left cs (record { taken = h.taken ++ 96 ∷ []; parts = all })) in
-    last-fits true u h.taken 96 [] (omega arith) inner (ap length (encode_ascii 96 (omega arith)))
+    last-fits true u h.taken 96 [] (omega arith) inner one-mark
 part-fits is_first false u c cs e f h m g =
     let mark = m.sign f in
     let brace = m.brace f in

@@ -1,5 +1,5 @@
 -- What is read at a token of `Lexer`: the tokens from there on, before and behind it.
-use Rattle.std.proofs.Common.{◌≡◌, ℕ, ◌+◌, ◌-◌, ◌≤◌, ◌<◌, Bool, true, false, not, nat_eq, ◌&&◌, ◌||◌, cond, length, take, List, [], ◌∷◌, ◌++◌, refl, ap, sym, ◌∙◌, subst, arith, length-append}
+use Rattle.std.proofs.Common.{◌≡◌, ℕ, ◌+◌, ◌-◌, Bool, true, false, not, nat_eq, ◌&&◌, ◌||◌, cond, length, take, List, ◌∷◌, ◌++◌, refl, ap, sym, ◌∙◌, subst, arith, length-append}
 use Rattle.std.proofs.lemmas.List.{append_cancel_right}
 use Rattle.std.proofs.lemmas.Str.{encodes-chars}
 use Rattle.std.specs.Char.{encode_utf8}
@@ -14,7 +14,6 @@ use Rattle.swc_ecma_parser_scan.specs.Scan.{scan}
 use Rattle.swc_ecma_parser_scan.proofs.Scans.{piece-splits}
 use Rattle.swc_ecma_parser_lexer.specs.declared.place.Place.{Place}
 use Rattle.swc_ecma_parser_lexer.specs.Make.{token_of}
-use Rattle.swc_ecma_parser_lexer.specs.Ordered.{length-encodes}
 use Rattle.swc_ecma_parser_lexer.specs.Tokens.{breaks, is_skipped, span_at, IsBlind}
 use Rattle.swc_ecma_parser_nesting.specs.declared.nest.Nest.{Nest}
 use Rattle.swc_ecma_parser_nesting.specs.Nesting.{is_too_deep}

@@ -1,19 +1,17 @@
 -- A token that a form has of its own, in the place of another.
-use Rattle.std.proofs.Common.{◌≡◌, ℕ, Bool, true, false, length, List, [], Option, Some, None, refl, ap, sym, ◌∙◌, subst}
+use Rattle.std.proofs.Common.{◌≡◌, ℕ, Bool, true, length, List, [], Option, Some, None, refl, ap, sym, ◌∙◌, subst}
 use Rattle.std.proofs.lemmas.Bool.{true≢false}
 use Rattle.std.specs.Option.{unwrap_or, IsSome}
 use Rattle.swc_ecma_parser_token.specs.declared.token.Token.{Token}
 use Rattle.swc_ecma_parser_token.specs.declared.token.TokenAndSpan.{TokenAndSpan}
-use Rattle.swc_ecma_parser_token.specs.Kind.{token_kind}
 use Rattle.swc_ecma_parser_input.specs.TokenSource.{is_out_of_memory}
-use Rattle.swc_ecma_parser_common.specs.declared.span.Span.{Span}
 use Rattle.swc_ecma_parser_lexer.specs.Tokens.{span_at}
 use Rattle.swc_ecma_parser_nesting.specs.declared.nest.Nest.{Nest}
 use Rattle.swc_ecma_parser_nesting.specs.Nesting.{pass}
 use Rattle.swc_ecma_parser_whole_lexer.specs.declared.form.Form.{Form}
 use Rattle.swc_ecma_parser_whole_lexer.specs.Forms.{kind_anew, token_anew}
-use Rattle.swc_ecma_parser_whole_lexer.specs.Whole.{nest_behind, nest_settled, settled, token_at, IsSettled}
-use Rattle.swc_ecma_parser_whole_lexer.proofs.Lost.{IsKindOf, kind-of-anew}
+use Rattle.swc_ecma_parser_whole_lexer.specs.Whole.{name_of, nest_behind, nest_settled, settled, token_at, IsSettled}
+use Rattle.swc_ecma_parser_whole_lexer.proofs.Lost.{kind-of-anew}
 use Rattle.swc_ecma_parser_whole_lexer.proofs.Readings.{settled-at}
 
 made-at : ℕ → Bool → List ℕ → Token → Option Token → TokenAndSpan
@@ -35,7 +33,7 @@ pub opens-as : (n : Nest) (low : ℕ) (b : Bool) (f : Form) (u : List ℕ) (plai
 opens-as n low b f u plain tok e =
     let k = kind-of-anew f u (span_at low (length u)) tok e in
     ap (λ (x : TokenAndSpan). nest_behind n x.token) (some-at low b f u plain tok e)
-    ∙ ap (λ kind. pass n kind _) k.kind ∙ ap (pass n (kind_anew f)) k.says
+    ∙ ap (λ kind. pass n kind (name_of tok)) k.kind ∙ ap (pass n (kind_anew f)) k.says
 
 -- Each outcome, told by what the calls ensure.
 

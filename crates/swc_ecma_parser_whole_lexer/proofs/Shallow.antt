@@ -1,5 +1,5 @@
 -- No more is open than may be.
-use Rattle.std.proofs.Common.{◌≡◌, ℕ, ◌-◌, ◌≤◌, Bool, true, false, cond, List, [], ◌∷◌, length, refl, arith, nat_lt}
+use Rattle.std.proofs.Common.{◌≡◌, ℕ, ◌≤◌, Bool, true, false, cond, List, [], ◌∷◌, length, refl, arith, nat_lt}
 use Rattle.std.proofs.lemmas.Bool.Decides.{nat_tests}
 use Rattle.swc_ecma_parser_nesting.specs.declared.nest.Nest.{Nest}
 use Rattle.swc_ecma_parser_nesting.specs.declared.stack.Open.{Open}

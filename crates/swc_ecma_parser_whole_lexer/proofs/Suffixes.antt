@@ -8,7 +8,6 @@ use Rattle.swc_ecma_parser_lexer.specs.declared.escape.Escape.TheVariants as esc
 use Rattle.swc_ecma_parser_whole_lexer.specs.declared.names.NameTurn.{NameTurn}
 use Rattle.swc_ecma_parser_whole_lexer.specs.declared.regex.Body.{Body}
 use Rattle.swc_ecma_parser_whole_lexer.specs.declared.run.Class.{Class}
-use Rattle.swc_ecma_parser_whole_lexer.specs.declared.run.Class.TheVariants as class
 use Rattle.swc_ecma_parser_whole_lexer.specs.Names as names
 use Rattle.swc_ecma_parser_whole_lexer.specs.Regex.{body_behind, is_end, past_body}
 use Rattle.swc_ecma_parser_whole_lexer.specs.Runs.{behind, is_of, past}

@@ -2,8 +2,7 @@
 use Rattle.std.specs.Prelude.{ℕ, ◌+◌, ◌-◌, ◌*◌, Bool, true, false, ◌==◌, ◌&&◌, ◌||◌, nat_le, nat_lt, if◌then◌else◌, List, [], ◌∷◌, ◌++◌, Option, Some, None}
 use Rattle.swc_ecma_parser_scan.specs.declared.state.State.{State}
 use Rattle.swc_ecma_parser_scan.specs.declared.state.State.TheVariants as state
-use Rattle.swc_ecma_parser_scan.specs.Scan.{Munched, scan}
-use Rattle.swc_ecma_parser_lexer.specs.declared.escape.Escape.{Escape}
+use Rattle.swc_ecma_parser_scan.specs.Scan.{scan}
 use Rattle.swc_ecma_parser_lexer.specs.declared.escape.Escape.TheVariants as escape
 use Rattle.swc_ecma_parser_lexer.specs.declared.escape.Turn.{Turn}
 use Rattle.swc_ecma_parser_lexer.specs.Make.{is_number}

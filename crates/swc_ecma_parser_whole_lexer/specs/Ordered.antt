@@ -12,7 +12,7 @@ use Rattle.swc_ecma_parser_lexer.specs.Tokens.{breaks, is_skipped, span_at}
 use Rattle.swc_ecma_parser_nesting.specs.declared.nest.Nest.{Nest}
 use Rattle.swc_ecma_parser_nesting.specs.Nesting.{is_too_deep}
 use Rattle.swc_ecma_parser_whole_lexer.specs.declared.form.Goal.{Goal}
-use Rattle.swc_ecma_parser_whole_lexer.specs.Forms.{Reading, anew, is_comment}
+use Rattle.swc_ecma_parser_whole_lexer.specs.Forms.{anew, is_comment}
 use Rattle.swc_ecma_parser_whole_lexer.specs.Whole.{nest_behind, nest_settled, settled, token_at, tokens, tokens_behind}
 
 le-true : (a b : ℕ) → a ≤ b → nat_le a b ≡ true

@@ -12,7 +12,6 @@ use Rattle.swc_ecma_parser_token.specs.declared.operator.BinOpToken.TheVariants 
 use Rattle.swc_ecma_parser_token.specs.declared.token.Token.{Token}
 use Rattle.swc_ecma_parser_token.specs.declared.token.Token.TheVariants as token
 use Rattle.swc_ecma_parser_token.specs.declared.token.TokenAndSpan.{TokenAndSpan}
-use Rattle.swc_ecma_parser_token.specs.declared.token.Word.{Word}
 use Rattle.swc_ecma_parser_token.specs.declared.token.Word.TheVariants as word
 use Rattle.swc_ecma_parser_token.specs.Kind.{token_kind}
 use Rattle.swc_ecma_parser_input.specs.TokenSource.{is_out_of_memory}

@@ -313,6 +313,7 @@ impl<'a> Tokens for WholeLexer<'a> {
             if !self.change(text, rest, &mut found) {
                 return Some(found);
             }
+            drop(found);
         }
     }
 

@@ -13,9 +13,9 @@ before-name-requires c =
     let whole = name-whole true byte cs run.result.now (sym c.is_name_start.ensures ∙ c.if-not-is_name_start.false) run.utf8 run.ensures.state run.ensures.left run.ensures.ends (c.is_ascii_ahead.ensures c.if-not-is_ascii_ahead.false) in
     first-splits c.args.text.now run.result.now byte cs c.utf8.text run.utf8 c.in_ok-byte.ensures.first.begins whole.1
 
-pub returns : goal.returns
+pub returns-clause-plain : goal.returns-clause-plain
 unfolding class_of
-returns c =
+returns-clause-plain c =
     let byte = c.in_ok-byte.byte in
     let cs = chars c.in_ok-byte.behind.now in
     let run = c.past_run-rest in

@@ -11,7 +11,7 @@ loop-c-preserved c = record {
   text = c.in-Some.ensures.utf8;
   same = c.loop-c.invariant.same
       ∙ name-more c.loop-c.is_start c.loop-c.state _ c.in-Some.c _ c.in-Some-step.turn c.in-Some.ensures.begins (sym c.in-Some-step.ensures)
-      ∙ ap (λ (v : Bool). past_name (c.loop-c.is_start && not v) c.in-Some-step.turn.state (chars c.in-Some.behind.now)) (sym c.is_none-is_start.ensures)
+      ∙ ap (λ (v : Bool). past_name (c.loop-c.is_start && not v) c.in-Some-step.turn.state (chars c.in-Some.behind.now)) c.is_none-is_start.ensures
       ∙ ap (λ (v : Bool). past_name (c.loop-c.is_start && v) c.in-Some-step.turn.state (chars c.in-Some.behind.now)) (twice c.is_none-is_start.result);
 }
 

@@ -1,4 +1,4 @@
-use Rattle.std.proofs.Common.{◌≡◌, ℕ, List, Option, None, Some, ap, sym, ◌∙◌, subst, rules}
+use Rattle.std.proofs.Common.{◌≡◌, ℕ, List, Option, None, ap, sym, ◌∙◌, subst, rules}
 use Rattle.std.specs.Prelude.{MatchOption}
 use Rattle.std.specs.Str.{chars}
 use Rattle.swc_ecma_parser_whole_lexer.specs.Old.{past_decimal}

@@ -1,4 +1,4 @@
-use Rattle.std.proofs.Common.{◌≡◌, ap, sym, ◌∙◌, rules}
+use Rattle.std.proofs.Common.{sym, ◌∙◌, rules}
 use Rattle.swc_ecma_parser_whole_lexer.proofs.Turns.{part-end, part-more, part-nothing}
 use Rattle.swc_ecma_parser_whole_lexer.proofs.template.past_part.Goals as goal
 

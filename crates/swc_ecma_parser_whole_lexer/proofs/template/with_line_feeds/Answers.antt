@@ -1,5 +1,4 @@
 use Rattle.std.proofs.Common.{ℕ, Option, ◌++◌, append-nil, ap, refl, sym, ◌∙◌, string_bytes}
-use Rattle.std.specs.Str.{chars}
 use Rattle.swc_ecma_parser_whole_lexer.specs.Runs.{bytes_of}
 use Rattle.swc_ecma_parser_whole_lexer.proofs.Turns.{appended, feeds-more, feeds-nothing}
 use Rattle.swc_ecma_parser_whole_lexer.proofs.template.with_line_feeds.Goals as goal

@@ -1,7 +1,5 @@
-use Rattle.std.proofs.Common.{◌≡◌, ◌||◌, not, arith, ap, refl, sym, ◌∙◌, subst}
-use Rattle.std.specs.Str.{chars}
+use Rattle.std.proofs.Common.{◌||◌, not, length, arith, ap, refl, sym, ◌∙◌, subst}
 use Rattle.swc_ecma_parser_lexer.specs.declared.lexer.Lexer.{Lexer}
-use Rattle.swc_ecma_parser_lexer.specs.declared.place.Place.{Place}
 use Rattle.swc_ecma_parser_whole_lexer.specs.Whole.{IsMoved}
 use Rattle.swc_ecma_parser_whole_lexer.proofs.Changed.{anew-before, before-shorter, changed, commented, part-long}
 use Rattle.swc_ecma_parser_whole_lexer.proofs.CommentSteps.{changed-comments, comment-comments}
@@ -15,8 +13,8 @@ change_lost-requires c = record {
   lost = sym c.is_out_of_memory.ensures ∙ c.if-is_out_of_memory.true;
 }
 
-pub read_anew-requires : goal.read_anew-requires
-read_anew-requires c =
+pub read_anew-read-requires : goal.read_anew-read-requires
+read_anew-read-requires c =
     (c.requires.found.piece.text.now, text-parts c.args.text.now c.args.rest.now c.args.found.now c.args.self.now.lexer.place c.requires.found)
 
 pub go_to-requires : goal.go_to-requires
@@ -68,10 +66,10 @@ replace-requires c =
     let self = c.args.self.now in
     let h = c.requires.found in
     let end = c.read_anew-read.result.rest.now in
-    let u = c.before.result.now in
+    let u = c.before-else-is_comment.result.now in
     record {
-      marks = found-marks self.goal self.nest (t.had_line_break || not self.has_begun) t.token text rest u end c.read_anew-read.result.form t self.lexer.place h c.before.utf8 c.before.ensures c.read_anew-read.ensures.left c.read_anew-read.ensures.form;
-      long = part-long text u end t.span.lo.0 4294967296 c.before.ensures (found-long text rest t self.lexer.place h);
+      marks = found-marks self.goal self.nest (t.had_line_break || not self.has_begun) t.token text rest u end c.read_anew-read.result.form t self.lexer.place h c.before-else-is_comment.utf8 c.before-else-is_comment.ensures c.read_anew-read.ensures.left c.read_anew-read.ensures.form;
+      long = part-long text u end t.span.lo.0 4294967296 c.before-else-is_comment.ensures (found-long text rest t self.lexer.place h);
     }
 
 pub returns-then-is_out_of_memory : goal.returns-then-is_out_of_memory
@@ -119,12 +117,12 @@ returns-else-is_comment c =
     let new = c.replace.new.self in
     record {
       comment = λ e. absurd (cc e);
-      token = λ e. changed self.goal new.goal self.nest moved.nest new.nest self.has_begun new.has_begun text rest c.before.result.now end t c.replace.new.found self.lexer.place moved.lexer.place new.lexer.place h c.read_anew-read.result.form
-          (sym c.is_out_of_memory.ensures ∙ c.if-is_out_of_memory.false) c.utf8.text c.read_anew-read.ensures.utf8 c.before.ensures c.read_anew-read.ensures.form c.read_anew-read.ensures.left (sym c.is_comment.ensures ∙ c.if-is_comment.false)
+      token = λ e. changed self.goal new.goal self.nest moved.nest new.nest self.has_begun new.has_begun text rest c.before-else-is_comment.result.now end t c.replace.new.found self.lexer.place moved.lexer.place new.lexer.place h c.read_anew-read.result.form
+          (sym c.is_out_of_memory.ensures ∙ c.if-is_out_of_memory.false) c.utf8.text c.read_anew-read.ensures.utf8 c.before-else-is_comment.ensures c.read_anew-read.ensures.form c.read_anew-read.ensures.left (sym c.is_comment.ensures ∙ c.if-is_comment.false)
           c.go_to-else-is_comment.ensures.place c.go_to-else-is_comment.ensures.nest c.replace.ensures.nest c.replace.ensures.found
           (c.replace.ensures.goal ∙ c.go_to-else-is_comment.ensures.goal) c.replace.ensures.begun (ap (λ (x : Lexer). x.place) c.replace.ensures.lexer);
-      comments = changed-comments self.goal new.goal self.nest moved.nest new.nest self.has_begun new.has_begun text rest c.before.result.now end t self.lexer.place moved.lexer.place new.lexer.place h c.read_anew-read.result.form
-          (sym c.is_out_of_memory.ensures ∙ c.if-is_out_of_memory.false) c.utf8.text c.read_anew-read.ensures.utf8 c.before.ensures c.read_anew-read.ensures.form c.read_anew-read.ensures.left (sym c.is_comment.ensures ∙ c.if-is_comment.false)
+      comments = changed-comments self.goal new.goal self.nest moved.nest new.nest self.has_begun new.has_begun text rest c.before-else-is_comment.result.now end t self.lexer.place moved.lexer.place new.lexer.place h c.read_anew-read.result.form
+          (sym c.is_out_of_memory.ensures ∙ c.if-is_out_of_memory.false) c.utf8.text c.read_anew-read.ensures.utf8 c.before-else-is_comment.ensures c.read_anew-read.ensures.form c.read_anew-read.ensures.left (sym c.is_comment.ensures ∙ c.if-is_comment.false)
           c.go_to-else-is_comment.ensures.place c.go_to-else-is_comment.ensures.nest c.replace.ensures.nest
           (c.replace.ensures.goal ∙ c.go_to-else-is_comment.ensures.goal) c.replace.ensures.begun (ap (λ (x : Lexer). x.place) c.replace.ensures.lexer);
       goal = c.replace.ensures.goal ∙ c.go_to-else-is_comment.ensures.goal;

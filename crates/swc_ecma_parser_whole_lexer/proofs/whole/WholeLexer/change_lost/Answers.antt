@@ -1,11 +1,10 @@
-use Rattle.std.proofs.Common.{◌≡◌, ℕ, arith, ap, refl, sym, ◌∙◌, subst, nat_eq}
-use Rattle.std.specs.Str.{chars}
+use Rattle.std.proofs.Common.{arith, ap, sym, ◌∙◌, subst, nat_eq}
 use Rattle.swc_ecma_parser_common.specs.declared.span.BytePos.{BytePos}
 use Rattle.swc_ecma_parser_token.specs.declared.kind.TokenKind.{TokenKind}
 use Rattle.swc_ecma_parser_lexer.specs.declared.lexer.Lexer.{Lexer}
 use Rattle.swc_ecma_parser_nesting.specs.Nesting.{pass}
 use Rattle.swc_ecma_parser_whole_lexer.specs.Whole.{kind_of, nest_settled, IsMoved}
-use Rattle.swc_ecma_parser_whole_lexer.proofs.Changed.{before-shorter, lost-before, lost-changed, lost-kept, lost-marks, lost-nothing, part-long, same-piece}
+use Rattle.swc_ecma_parser_whole_lexer.proofs.Changed.{before-shorter, lost-before, lost-changed, lost-kept, lost-marks, part-long, same-piece}
 use Rattle.swc_ecma_parser_whole_lexer.proofs.CommentSteps.{lost-changed-comments, lost-kept-comments}
 use Rattle.swc_ecma_parser_whole_lexer.proofs.Turned.{found-long, found-low}
 use Rattle.swc_ecma_parser_whole_lexer.proofs.whole.WholeLexer.change_lost.Goals as goal
@@ -47,10 +46,10 @@ replace-requires c =
     let h = c.requires.found in
     let same = same-piece text rest t self.lexer.place h _ c.in-Some.piece (ap (λ (b : BytePos). nat_eq t.span.lo.0 b.0) c.start_pos.ensures) c.in-Some.ensures in
     let end = c.lost_anew-read.result.rest.now in
-    let u = c.before.result.now in
+    let u = c.before-else-is_kept.result.now in
     record {
-      marks = lost-marks self.goal self.nest text rest u end c.lost_anew-read.result.form t self.lexer.place h c.in-Some.piece c.requires.lost same c.before.utf8 c.before.ensures c.lost_anew-read.ensures.left c.lost_anew-read.ensures.form;
-      long = part-long text u end t.span.lo.0 4294967296 c.before.ensures (found-long text rest t self.lexer.place h);
+      marks = lost-marks self.goal self.nest text rest u end c.lost_anew-read.result.form t self.lexer.place h c.in-Some.piece c.requires.lost same c.before-else-is_kept.utf8 c.before-else-is_kept.ensures c.lost_anew-read.ensures.left c.lost_anew-read.ensures.form;
+      long = part-long text u end t.span.lo.0 4294967296 c.before-else-is_kept.ensures (found-long text rest t self.lexer.place h);
     }
 
 pub returns-then-is_kept-clause-drawn : goal.returns-then-is_kept-clause-drawn
@@ -104,8 +103,8 @@ returns-else-is_kept-clause-drawn c =
     let end = c.lost_anew-read.result.rest.now in
     let moved = c.go_to.new.self in
     let new = c.replace.new.self in
-    lost-changed self.goal new.goal self.nest moved.nest new.nest self.has_begun new.has_begun text rest c.before.result.now end t c.replace.new.found self.lexer.place moved.lexer.place new.lexer.place h piece c.lost_anew-read.result.form
-    c.requires.lost same c.utf8.text c.lost_anew-read.ensures.utf8 c.before.ensures c.lost_anew-read.ensures.form c.lost_anew-read.ensures.left (sym c.is_kept.ensures ∙ c.if-is_kept.false)
+    lost-changed self.goal new.goal self.nest moved.nest new.nest self.has_begun new.has_begun text rest c.before-else-is_kept.result.now end t c.replace.new.found self.lexer.place moved.lexer.place new.lexer.place h piece c.lost_anew-read.result.form
+    c.requires.lost same c.utf8.text c.lost_anew-read.ensures.utf8 c.before-else-is_kept.ensures c.lost_anew-read.ensures.form c.lost_anew-read.ensures.left (sym c.is_kept.ensures ∙ c.if-is_kept.false)
     c.go_to.ensures.place c.go_to.ensures.nest c.replace.ensures.nest c.replace.ensures.found
     (c.replace.ensures.goal ∙ c.go_to.ensures.goal) c.replace.ensures.begun (ap (λ (x : Lexer). x.place) c.replace.ensures.lexer)
 
@@ -121,8 +120,8 @@ returns-else-is_kept-clause-comments c =
     let end = c.lost_anew-read.result.rest.now in
     let moved = c.go_to.new.self in
     let new = c.replace.new.self in
-    lost-changed-comments self.goal new.goal self.nest moved.nest new.nest self.has_begun new.has_begun text rest c.before.result.now end t self.lexer.place moved.lexer.place new.lexer.place h piece c.lost_anew-read.result.form
-    c.requires.lost same c.utf8.text c.lost_anew-read.ensures.utf8 c.before.ensures c.lost_anew-read.ensures.form c.lost_anew-read.ensures.left (sym c.is_kept.ensures ∙ c.if-is_kept.false)
+    lost-changed-comments self.goal new.goal self.nest moved.nest new.nest self.has_begun new.has_begun text rest c.before-else-is_kept.result.now end t self.lexer.place moved.lexer.place new.lexer.place h piece c.lost_anew-read.result.form
+    c.requires.lost same c.utf8.text c.lost_anew-read.ensures.utf8 c.before-else-is_kept.ensures c.lost_anew-read.ensures.form c.lost_anew-read.ensures.left (sym c.is_kept.ensures ∙ c.if-is_kept.false)
     c.go_to.ensures.place c.go_to.ensures.nest c.replace.ensures.nest
     (c.replace.ensures.goal ∙ c.go_to.ensures.goal) c.replace.ensures.begun (ap (λ (x : Lexer). x.place) c.replace.ensures.lexer)
 

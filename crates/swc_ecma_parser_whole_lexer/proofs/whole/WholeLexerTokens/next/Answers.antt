@@ -1,4 +1,4 @@
-use Rattle.std.proofs.Common.{◌≡◌, ◌+◌, ◌-◌, ◌≤◌, arith, ap, drop, length, length-append, refl, sym, ◌∙◌, subst}
+use Rattle.std.proofs.Common.{◌+◌, ◌-◌, ◌≤◌, arith, ap, drop, length, refl, sym, ◌∙◌, subst}
 use Rattle.std.specs.Str.{chars, IsCharBoundary}
 use Rattle.swc_ecma_parser_lexer.specs.declared.lexer.Lexer.{Lexer}
 use Rattle.swc_ecma_parser_lexer.specs.declared.place.Place.{Place}
@@ -13,8 +13,8 @@ use Rattle.swc_ecma_parser_whole_lexer.proofs.whole.WholeLexerTokens.next.Goals 
 pub text_from-text-requires : goal.text_from-text-requires
 text_from-text-requires c =
     let self = c.loop-found.self in
-    let t = c.in_ok-found.field-0 in
-    let q = c.next-found.new.self.place in
+    let t = c.in_ok-found.found in
+    let q = c.next.new.self.place in
     let e = sym c.place-before.ensures.place in
     record {
       low = subst (λ (x : Place). x.start.0 + x.at ≤ t.span.lo.0) e (low-at self.lexer.place t q c.in_ok-found.ensures.read);
@@ -24,29 +24,31 @@ text_from-text-requires c =
 pub change-requires : goal.change-requires
 change-requires c =
     let self = c.loop-found.self in
-    let t = c.in_ok-found.field-0 in
-    let q = c.next-found.new.self.place in
+    let t = c.in_ok-found.found in
+    let q = c.next.new.self.place in
     let r = c.in_ok-found.ensures.read in
-    found-at self.lexer.place t q _ _ r
-    (c.text_from-text.ensures ∙ ap (λ (x : Place). drop (t.span.lo.0 - x.start.0 - x.at) x.rest.now) c.place-before.ensures.place ∙ text-at self.lexer.place t q r _ refl)
-    (ap (λ (x : Place). x.rest.now) c.place-rest.ensures.place)
+    record {
+      found = found-at self.lexer.place t q _ _ r
+          (c.text_from-text.ensures ∙ ap (λ (x : Place). drop (t.span.lo.0 - x.start.0 - x.at) x.rest.now) c.place-before.ensures.place ∙ text-at self.lexer.place t q r _ refl)
+          (ap (λ (x : Place). x.rest.now) c.place.ensures.place);
+    }
 
 pub returns-in_err-found-clause-drawn : goal.returns-in_err-found-clause-drawn
 returns-in_err-found-clause-drawn c =
     let self = c.loop-found.self in
     let old = self.lexer in
-    let new = c.next-found.new.self in
+    let new = c.next.new.self in
     rw c.from_residual.ensures
     (ends self.goal self.nest self.has_begun _ old.place new.place old.context new.context old.syntax new.syntax old.faults new.faults c.loop-found.invariant.source c.in_err-found.ensures.drawn)
 
 pub returns-then-not-may_change-clause-drawn : goal.returns-then-not-may_change-clause-drawn
 returns-then-not-may_change-clause-drawn c =
     let self = c.loop-found.self in
-    let t = c.in_ok-found.field-0 in
+    let t = c.in_ok-found.found in
     let old = self.lexer in
-    let new = c.next-found.new.self in
+    let new = c.next.new.self in
     let after = c.settle.new.self in
-    let same = ap (λ (x : Place). may_change self.nest t.token (chars x.rest.now)) (sym c.place-rest.ensures.place) ∙ sym c.may_change.ensures ∙ c.if-not-may_change.true in
+    let same = ap (λ (x : Place). may_change self.nest t.token (chars x.rest.now)) (sym c.place.ensures.place) ∙ sym c.may_change.ensures ∙ c.if-not-may_change.true in
     stayed self.goal after.goal self.nest after.nest self.has_begun after.has_begun _ old.place new.place after.lexer.place old.context new.context after.lexer.context old.syntax new.syntax after.lexer.syntax old.faults new.faults after.lexer.faults t c.settle.new.found
     c.loop-found.invariant.source c.in_ok-found.ensures.drawn c.in_ok-found.ensures.read same c.settle.ensures.found c.settle.ensures.nest c.settle.ensures.goal c.settle.ensures.begun
     (ap (λ (x : Lexer). x.place) c.settle.ensures.lexer) (ap (λ (x : Lexer). x.context) c.settle.ensures.lexer) (ap (λ (x : Lexer). x.syntax) c.settle.ensures.lexer) (ap (λ (x : Lexer). x.faults) c.settle.ensures.lexer)
@@ -54,9 +56,9 @@ returns-then-not-may_change-clause-drawn c =
 pub returns-then-not-change-clause-drawn : goal.returns-then-not-change-clause-drawn
 returns-then-not-change-clause-drawn c =
     let self = c.loop-found.self in
-    let t = c.in_ok-found.field-0 in
+    let t = c.in_ok-found.found in
     let old = self.lexer in
-    let new = c.next-found.new.self in
+    let new = c.next.new.self in
     let after = c.change.new.self in
     let r = c.in_ok-found.ensures.read in
     let text = c.text_from-text.ensures ∙ ap (λ (x : Place). drop (t.span.lo.0 - x.start.0 - x.at) x.rest.now) c.place-before.ensures.place ∙ text-at old.place t new.place r _ refl in
@@ -67,9 +69,9 @@ pub loop-found-preserved : goal.loop-found-preserved
 loop-found-preserved c =
     let self = c.loop-found.self in
     let first = c.args.self.now in
-    let t = c.in_ok-found.field-0 in
+    let t = c.in_ok-found.found in
     let old = self.lexer in
-    let new = c.next-found.new.self in
+    let new = c.next.new.self in
     let after = c.change.new.self in
     let r = c.in_ok-found.ensures.read in
     let text = c.text_from-text.ensures ∙ ap (λ (x : Place). drop (t.span.lo.0 - x.start.0 - x.at) x.rest.now) c.place-before.ensures.place ∙ text-at old.place t new.place r _ refl in
@@ -77,14 +79,14 @@ loop-found-preserved c =
       source = passed self.goal after.goal self.nest after.nest self.has_begun after.has_begun _ old.place old.context old.syntax old.faults new after.lexer t _
           c.loop-found.invariant.source c.in_ok-found.ensures.drawn r text (c.change.ensures.comment c.if-not-change.false) c.change.ensures.lexer;
       comments = comment-step self.goal self.nest self.has_begun first.lexer.comments old.comments new.comments after.lexer.comments _ _ old.place t new.place _ r text
-          c.loop-found.invariant.comments c.next-found.ensures.comments c.change.ensures.comments c.change.ensures.lexer.comments;
+          c.loop-found.invariant.comments c.next.ensures.comments c.change.ensures.comments c.change.ensures.lexer.comments;
     }
 
 pub loop-found-smaller : goal.loop-found-smaller
 loop-found-smaller c =
     let self = c.loop-found.self in
-    let t = c.in_ok-found.field-0 in
-    let q = c.next-found.new.self.place in
+    let t = c.in_ok-found.found in
+    let q = c.next.new.self.place in
     let r = c.in_ok-found.ensures.read in
     let text = c.text_from-text.ensures ∙ ap (λ (x : Place). drop (t.span.lo.0 - x.start.0 - x.at) x.rest.now) c.place-before.ensures.place ∙ text-at self.lexer.place t q r _ refl in
     omega (arith, c.change.ensures.shorter c.if-not-change.false, ap length text, not-shorter self.lexer.place t q r)
@@ -101,29 +103,29 @@ pub returns-in_err-found-clause-comments : goal.returns-in_err-found-clause-comm
 returns-in_err-found-clause-comments c =
     let self = c.loop-found.self in
     let old = self.lexer in
-    let new = c.next-found.new.self in
+    let new = c.next.new.self in
     let drawn = c.in_err-found.ensures.drawn.draws in
     read-twice _ _ _ _ _ _ c.loop-found.invariant.comments
-    (read-to-end self.goal self.nest self.has_begun old.comments new.comments old.place new.place drawn.0 drawn.1 c.next-found.ensures.comments)
+    (read-to-end self.goal self.nest self.has_begun old.comments new.comments old.place new.place drawn.0 drawn.1 c.next.ensures.comments)
 
 pub returns-in_err-found-clause-ended : goal.returns-in_err-found-clause-ended
 returns-in_err-found-clause-ended c =
     let self = c.loop-found.self in
-    let new = c.next-found.new.self in
+    let new = c.next.new.self in
     rw c.from_residual.ensures (none-at-end self.goal self.nest self.has_begun new.place c.in_err-found.ensures.drawn.draws.1 c.in_err-found.ensures.ended)
 
 pub returns-then-not-may_change-clause-comments : goal.returns-then-not-may_change-clause-comments
 returns-then-not-may_change-clause-comments c =
     let self = c.loop-found.self in
     let first = c.args.self.now in
-    let t = c.in_ok-found.field-0 in
+    let t = c.in_ok-found.found in
     let old = self.lexer in
-    let new = c.next-found.new.self in
+    let new = c.next.new.self in
     let after = c.settle.new.self in
     let r = c.in_ok-found.ensures.read in
-    let same = ap (λ (x : Place). may_change self.nest t.token (chars x.rest.now)) (sym c.place-rest.ensures.place) ∙ sym c.may_change.ensures ∙ c.if-not-may_change.true in
+    let same = ap (λ (x : Place). may_change self.nest t.token (chars x.rest.now)) (sym c.place.ensures.place) ∙ sym c.may_change.ensures ∙ c.if-not-may_change.true in
     comment-step self.goal self.nest self.has_begun first.lexer.comments old.comments new.comments after.lexer.comments _ _ old.place t new.place r.place.rest.now r refl
-    c.loop-found.invariant.comments c.next-found.ensures.comments
+    c.loop-found.invariant.comments c.next.ensures.comments
     (stayed-comments self.goal after.goal self.nest after.nest self.has_begun after.has_begun r.place.rest.now new.place.rest.now t new.place after.lexer.place
     (found-at old.place t new.place r.place.rest.now new.place.rest.now r refl refl) (text-utf8 old.place t new.place r) (rest-utf8 old.place t new.place r) same
     c.settle.ensures.nest c.settle.ensures.goal c.settle.ensures.begun (ap (λ (x : Lexer). x.place) c.settle.ensures.lexer))
@@ -133,11 +135,11 @@ pub returns-then-not-change-clause-comments : goal.returns-then-not-change-claus
 returns-then-not-change-clause-comments c =
     let self = c.loop-found.self in
     let first = c.args.self.now in
-    let t = c.in_ok-found.field-0 in
+    let t = c.in_ok-found.found in
     let old = self.lexer in
-    let new = c.next-found.new.self in
+    let new = c.next.new.self in
     let after = c.change.new.self in
     let r = c.in_ok-found.ensures.read in
     let text = c.text_from-text.ensures ∙ ap (λ (x : Place). drop (t.span.lo.0 - x.start.0 - x.at) x.rest.now) c.place-before.ensures.place ∙ text-at old.place t new.place r _ refl in
     comment-step self.goal self.nest self.has_begun first.lexer.comments old.comments new.comments after.lexer.comments _ _ old.place t new.place _ r text
-    c.loop-found.invariant.comments c.next-found.ensures.comments c.change.ensures.comments c.change.ensures.lexer.comments
+    c.loop-found.invariant.comments c.next.ensures.comments c.change.ensures.comments c.change.ensures.lexer.comments
