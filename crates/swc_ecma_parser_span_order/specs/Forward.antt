@@ -58,7 +58,7 @@ abbrev mutual
   forward (tree.new s callee args) = is_forward s && (forward callee && forward args)
   -- templates: the expressions, and the texts around them; a tag stands before a `tpl`
   forward (tree.tpl s exprs quasis) = is_forward s && (forward exprs && forward quasis)
-  forward (tree.tagged_tpl s tag tpl) = is_forward s && (forward tag && forward tpl)
+  forward (tree.tagged_tpl s tag template) = is_forward s && (forward tag && forward template)
   forward (tree.quasi s tail cooked raw) = is_forward s
   -- a link of an optional chain, which is a `member` or a `call`
   forward (tree.opt_chain s optional base) = is_forward s && forward base
