@@ -26,7 +26,7 @@ pub returns-in-Update : goal.returns-in-Update
 returns-in-Update c = arm c.push-in-Update.result _ c.args.walk.now c.args.role (view_expr c.args.expr.now) _ (ap view_expr c.in-Update.is) c.push-in-Update.ensures
 
 pub returns-in-Bin : goal.returns-in-Bin
-returns-in-Bin c = arm c.two-in-Bin.result _ c.args.walk.now c.args.role (view_expr c.args.expr.now) _ (ap view_expr c.in-Bin.is) c.two-in-Bin.ensures
+returns-in-Bin c = arm c.two.result _ c.args.walk.now c.args.role (view_expr c.args.expr.now) _ (ap view_expr c.in-Bin.is) c.two.ensures
 
 pub returns-in-Assign : goal.returns-in-Assign
 returns-in-Assign c = arm c.assign.result _ c.args.walk.now c.args.role (view_expr c.args.expr.now) _ (ap view_expr c.in-Assign.is) c.assign.ensures

@@ -12,7 +12,7 @@ pub returns-in-Array : goal.returns-in-Array
 returns-in-Array c = arm c.array_pat.result _ c.args.walk.now c.args.role (view_pat c.args.x.now) _ (ap view_pat c.in-Array.is) c.array_pat.ensures
 
 pub returns-in-Rest : goal.returns-in-Rest
-returns-in-Rest c = arm c.push-in-Rest.result _ c.args.walk.now c.args.role (view_pat c.args.x.now) _ (ap view_pat c.in-Rest.is) c.push-in-Rest.ensures
+returns-in-Rest c = arm c.push.result _ c.args.walk.now c.args.role (view_pat c.args.x.now) _ (ap view_pat c.in-Rest.is) c.push.ensures
 
 pub returns-in-Object : goal.returns-in-Object
 returns-in-Object c = arm c.object_pat.result _ c.args.walk.now c.args.role (view_pat c.args.x.now) _ (ap view_pat c.in-Object.is) c.object_pat.ensures
