@@ -21,5 +21,5 @@ pub first_property : {X E P : Type 0} (view : P → Tree) (res : Result X E) (q 
     → OnOk res (q ≡ second_proto seen (view p) middle) → OnOk res (q ≡ property_events seen (trees (map view all)) rest)
 first_property view res q rest middle seen is_seen p ps all e f g h =
     subst (λ xs. OnOk res (q ≡ property_events seen (trees (map view xs)) rest)) (sym e)
-      (subst (λ b. OnOk res (q ≡ second_proto seen (view p) (events used (view p) (property_events b (trees (map view ps)) rest)))) f
-        (subst (λ m. OnOk res (q ≡ second_proto seen (view p) m)) g h))
+    (subst (λ b. OnOk res (q ≡ second_proto seen (view p) (events used (view p) (property_events b (trees (map view ps)) rest)))) f
+    (subst (λ m. OnOk res (q ≡ second_proto seen (view p) m)) g h))
