@@ -132,7 +132,7 @@ unfoldable pub early_of : Tree → List EarlyError
 early_of t = []
 ''')
     write(d / 'src/sentences.rt', (s / 'src/sentences.rt').read_text())
-    x = (s / 'src/early.rt').read_text()
+    x = (s / 'src/entry.rt').read_text()
     out = '''//! A stand-in.
 
 ghost use Rattle.std.specs.Prelude.{◌≡◌, IfOk};
@@ -148,7 +148,7 @@ use swc_ecma_parser_ast::{Module, Program, Script};
 '''
     for m in re.findall(r'^pub fn \w+\(.*?\n\{\n', x, flags=re.M | re.S):
         out += '/// A stand-in.\n' + m + '    let _ = stuck();\n    Ok(Vec::new(alloc))\n}\n\n'
-    write(d / 'src/early.rt', out)
+    write(d / 'src/entry.rt', out)
     write(d / 'src/stuck.rt', STUCK)
     write(d / 'src/lib.rt', (s / 'src/lib.rt').read_text().replace('mod sentences;', 'mod sentences;\nmod stuck;'))
     (d / 'c').mkdir(exist_ok=True)

@@ -36,4 +36,8 @@ inc=f'/tmp/estree-inc/{crate}'; os.makedirs(inc,exist_ok=True)
 words+=['--antt-project','/opt/rattle/rattle/logic/antt-project.json','--logic-built','/opt/rattle/logic_built','--jobs',os.environ.get('RT_JOBS','2'),'--incremental',inc]+flags
 print('as source:',[c for c in order if not ok[c]],flush=True)
 os.chdir(f'{root}/crates/{crate}')
-sys.exit(subprocess.run(words).returncode)
+import time
+words.append('--progress')
+proc=subprocess.Popen(words,stdout=subprocess.PIPE,stderr=subprocess.STDOUT,text=True)
+for line in proc.stdout: print(time.strftime('%H:%M:%S'),line,end='',flush=True)
+sys.exit(proc.wait())

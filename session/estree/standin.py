@@ -70,7 +70,7 @@ def cut_fn(text,name):
     e=text.index('\n}\n',m.start())+3 if '{}' not in text[m.start():text.index('\n',m.end())] else text.index('\n',m.end())+1
     return text[:m.start()]+text[e:]
 W=pathlib.Path('/work/h/estree')
-for n in ['common','error','token','model','input']: sync(W/f'crates/{P}_{n}',DST/f'crates/{P}_{n}')
+for n in ['common','error','token','model']: sync(W/f'crates/{P}_{n}',DST/f'crates/{P}_{n}')
 sync(SRC/f'crates/{P}_trees',DST/f'crates/{P}_trees')
 for n in sys.argv[1:]: sync(SRC/f'crates/{n}',DST/f'crates/{n}')
 a=SRC/f'crates/{P}_ast'; d=DST/f'crates/{P}_ast'
