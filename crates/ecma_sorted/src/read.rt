@@ -3,8 +3,6 @@
 ghost use Rattle.std.specs.Prelude.{◌≡◌, true, refl, map};
 ghost use Rattle.ecma_sorted.specs.Parts.{view_part};
 ghost use Rattle.swc_ecma_parser_grammar.specs.language.Items.{top_item};
-ghost use Rattle.swc_ecma_parser_output_readers.specs.Languages.{DecidesEach, statement_language};
-ghost use Rattle.swc_ecma_parser_output_readers.specs.StatementLaws.{AnyCode};
 ghost use Rattle.swc_ecma_parser_reader.specs.Reader as rules;
 ghost use Rattle.swc_ecma_parser_reader.specs.State.{GivesAs};
 ghost use Rattle.swc_ecma_parser_state.specs.Contents.{seen};
@@ -66,11 +64,9 @@ fn parts_from<O: Origin, I: Tokens>(
     limit: usize,
 ) -> (State<I>, PResult<Vec<Part>>)
     requires { O.start ≡ state }
-    ensures gives { GivesAs (λ found. map view_part found.items)
+    ensures { GivesAs (λ found. map view_part found.items)
         (rules.items (rules.whole_stmt limit top_item) rules.at_end true (begun (seen state)))
         result.1 (seen result.0) }
-    ensures decides { DecidesEach AnyCode statement_language (λ found. map view_part found.items) limit top_item
-        rules.at_end true (begun (seen state)) result.1 (seen result.0) }
 {
     let mut call = state.begin::<O>();
     let maker: MakerOf<Ast> = Maker::new(alloc);
@@ -86,18 +82,15 @@ fn parts_from<O: Origin, I: Tokens>(
     (call.end(), read)
 }
 
-/// The parts up to the end of the tokens, the first of which can be directives; they may nest so many levels deep. With nothing
-/// recorded they are answered exactly where the tokens spell them as statements.
+/// The parts up to the end of the tokens, the first of which can be directives; they may nest so many levels deep.
 pub fn parts<I: Tokens>(
     alloc: Global,
     state: State<I>,
     limit: usize,
 ) -> (State<I>, PResult<Vec<Part>>)
-    ensures gives { GivesAs (λ found. map view_part found.items)
+    ensures { GivesAs (λ found. map view_part found.items)
         (rules.items (rules.whole_stmt limit top_item) rules.at_end true (begun (seen state)))
         result.1 (seen result.0) }
-    ensures decides { DecidesEach AnyCode statement_language (λ found. map view_part found.items) limit top_item
-        rules.at_end true (begun (seen state)) result.1 (seen result.0) }
 {
     parts_from::<Brand, I>(alloc, state, limit)
 }
