@@ -1,3 +1,4 @@
 pub mod After
 pub mod Declared
+pub mod Firsts
 pub mod Holders
