@@ -348,15 +348,15 @@ abbrev mutual
   -- what a `catch` binds and what its block declares are names of one region
   events r (tree.catch s p body) rest =
       event.enter region.Catch s ∷ events (declared (catch_binding p)) p (body_events body (event.leave ∷ rest))
-  events r (tree.while s test body) rest = events used test (loop_events body rest)
-  events r (tree.do_while s test body) rest = loop_events body (events used test rest)
+  events r (tree.while s test body) rest = events used test (event.flow event.loop ∷ events used body (event.flow event.end ∷ rest))
+  events r (tree.do_while s test body) rest = event.flow event.loop ∷ events used body (event.flow event.end ∷ events used test rest)
   events r (tree.for s init test next body) rest =
-      event.enter region.Loop s ∷ events used init (events used test (events used next (loop_events body (event.leave ∷ rest))))
+      event.enter region.Loop s ∷ events used init (events used test (events used next (event.flow event.loop ∷ events used body (event.flow event.end ∷ event.leave ∷ rest))))
   events r (tree.for_in s left right body) rest =
-      let following = events used right (loop_events body (event.leave ∷ rest)) in
+      let following = events used right (event.flow event.loop ∷ events used body (event.flow event.end ∷ event.leave ∷ rest)) in
       event.enter region.Loop s ∷ head_events (events assigned left following) left following
   events r (tree.for_of s is_await left right body) rest =
-      let following = events used right (loop_events body (event.leave ∷ rest)) in
+      let following = events used right (event.flow event.loop ∷ events used body (event.flow event.end ∷ event.leave ∷ rest)) in
       awaited is_await s (event.enter region.Loop s ∷ head_events (events assigned left following) left following)
   events r (tree.expr_stmt s e) rest = events used e rest
   -- imports and exports
@@ -380,10 +380,6 @@ abbrev mutual
   pub all_events : Role → Trees → List Event → List Event
   all_events r none rest = rest
   all_events r (also t ts) rest = events r t (all_events r ts rest)
-
-  -- the body of a loop
-  pub loop_events : (body : Tree) → List Event → List Event
-  loop_events body rest = event.flow event.loop ∷ events used body (event.flow event.end ∷ rest)
 
   -- a key of an object, a class or a member: what its brackets hold, a private name that refers to a member, or a literal
   pub key_events : Tree → List Event → List Event
@@ -449,6 +445,10 @@ abbrev mutual
   default_events (tree.fn_expr s name fn) rest = named (declared (function_binding fn)) name (function_events kind.Function name fn rest)
   default_events (tree.class_expr s name body) rest = named (declared binding.Class) name (class_events name body rest)
   default_events _ rest = rest
+
+-- the body of a loop
+abbrev pub loop_events : (body : Tree) → List Event → List Event
+loop_events body rest = event.flow event.loop ∷ events used body (event.flow event.end ∷ rest)
 
 -- the events of a script, a module or a program
 abbrev pub events_of : Tree → List Event
