@@ -1,4 +1,5 @@
 pub mod After
+pub mod Arms
 pub mod Counted
 pub mod Declared
 pub mod Firsts
