@@ -12,7 +12,7 @@
 #include <stdint.h>
 
 /* The version of this header. Each struct begins with `struct_size`, its size in bytes; a later version may add fields at its end. */
-#define ECMA_VERSION 2
+#define ECMA_VERSION 3
 
 #ifdef __cplusplus
 extern "C" {
@@ -43,7 +43,7 @@ enum {
     ECMA_DECORATORS = 0x1,
     ECMA_DECORATORS_BEFORE_EXPORT = 0x2,
     ECMA_EXPORT_DEFAULT_FROM = 0x4,
-    ECMA_IMPORT_ATTRIBUTES = 0x8,
+    ECMA_IMPORT_ATTRIBUTES = 0x8, /* with ECMA_PLAIN */
     ECMA_RETURN_OUTSIDE_FUNCTION = 0x10,
     ECMA_AUTO_ACCESSORS = 0x20,
     ECMA_EXPLICIT_RESOURCE_MANAGEMENT = 0x40
@@ -60,6 +60,13 @@ enum {
 /* What is not checked. */
 enum {
     ECMA_NO_EARLY_ERRORS = 0x1000 /* early errors found in the finished tree: docs/EARLY.md */
+};
+
+/* The language. All of ECMA-262 is parsed, or the plain language, which has no regular expressions, templates, optional chains, `new.target`,
+ * `#a in b`, names with escapes, old octal forms or HTML-like comments. ECMA_IMPORT_ATTRIBUTES has an effect in the plain language alone:
+ * all of ECMA-262 has import attributes. */
+enum {
+    ECMA_PLAIN = 0x2000
 };
 
 /* The options of a call. */

@@ -2,7 +2,7 @@ import type { Node, Program } from './estree';
 
 export * from './estree';
 
-/** What is read besides ECMA-262. */
+/** What is read besides ECMA-262. Import attributes are a flag of the plain language; elsewhere they are always read. */
 export type Flag =
   | 'decorators'
   | 'decoratorsBeforeExport'
@@ -24,6 +24,11 @@ export interface Options {
   /** How many faults and early errors are told at most: 1,000 by default, and 0 for all. Why there is no tree is told in any case. */
   maxFaults?: number;
   flags?: Flag[];
+  /**
+   * Whether regular expressions, templates, optional chains, `new.target`, `#a in b`, names with escapes, old octal forms and comments as in
+   * HTML are left out, and import attributes are read by their flag alone. By default all of ECMA-262 is read.
+   */
+  plain?: boolean;
   /** Whether nodes have `loc`: lines from 1, columns from 0. */
   locations?: boolean;
   /** Whether nodes have `range`. */

@@ -78,6 +78,16 @@ test('a fault stands beside the tree, with both offsets', () => {
   });
 });
 
+test('the whole language is read, or the plain one', () => {
+  for (const text of ['/a/', '`a`', 'a?.b', 'function f() { new.target }', 'class A { #a; b() { #a in c } }', '\\u0061', '017', '<!-- a']) {
+    assert.deepStrictEqual(parse(text, { sourceType: 'script' }).faults, []);
+    assert.throws(() => parse(text, { sourceType: 'script', plain: true }), SyntaxError);
+  }
+  assert.deepStrictEqual(parse('/a[/]/g').tree.body[0].expression.value, /a[/]/g);
+  assert.strictEqual(parse("import a from 'a' with { type: 'json' }").tree.body[0].attributes.length, 1);
+  assert.throws(() => parse('a', { plain: 1 }), TypeError);
+});
+
 test('a refusal is thrown, with its place', () => {
   assert.throws(() => parse('a;\n b c', { sourceType: 'script' }), error => {
     assert.ok(error instanceof SyntaxError);

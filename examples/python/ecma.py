@@ -13,9 +13,10 @@ FLAGS = {
     'decorators': 0x1, 'decorators_before_export': 0x2, 'export_default_from': 0x4, 'import_attributes': 0x8,
     'return_outside_function': 0x10, 'auto_accessors': 0x20, 'explicit_resource_management': 0x40,
     'locations': 0x100, 'ranges': 0x200, 'comments': 0x400, 'tokens': 0x800, 'no_early_errors': 0x1000,
+    'plain': 0x2000,
 }
 TOO_SHORT, OUT_OF_MEMORY = -1, -2
-VERSION = 2
+VERSION = 3
 
 
 class Options(ctypes.Structure):

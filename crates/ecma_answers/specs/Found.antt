@@ -37,6 +37,10 @@ is_of_undeclared kind.StaticPrototype = false
 is_of_undeclared kind.SecondProto = false
 is_of_undeclared kind.PrivateTwice = false
 is_of_undeclared kind.ExportedTwice = false
+is_of_undeclared kind.MisplacedNewTarget = false
+is_of_undeclared kind.OldNumberInStrict = false
+is_of_undeclared kind.OldEscapeInStrict = false
+is_of_undeclared kind.WrongFlags = false
 
 -- those that are told: where a part of the text stands in no tree, it may declare a name
 abbrev pub kept : (is_part_dropped : Bool) → List EarlyError → List EarlyError

@@ -1,4 +1,5 @@
 pub mod Chosen
+pub mod Languages
 pub mod Spelled
 pub mod Found
 pub mod Outcomes

@@ -84,7 +84,11 @@ fn is_of_undeclared(kind: EarlyErrorKind) -> bool
         | EarlyErrorKind::StaticPrototype
         | EarlyErrorKind::SecondProto
         | EarlyErrorKind::PrivateTwice
-        | EarlyErrorKind::ExportedTwice => false,
+        | EarlyErrorKind::ExportedTwice
+        | EarlyErrorKind::MisplacedNewTarget
+        | EarlyErrorKind::OldNumberInStrict
+        | EarlyErrorKind::OldEscapeInStrict
+        | EarlyErrorKind::WrongFlags => false,
     }
 }
 

@@ -11,6 +11,7 @@ mod object;
 mod options;
 mod outcome;
 mod parsing;
+mod source;
 mod told;
 mod tree;
 
@@ -19,7 +20,7 @@ pub use findings::{Findings, find};
 pub use goals::read;
 pub use laws::one_reading;
 pub use object::answer;
-pub use options::{Goal, MAX_LIMIT, Options};
+pub use options::{Goal, Language, MAX_LIMIT, Options};
 pub use outcome::Outcome;
 pub use parsing::{Reading, Tree};
 pub use told::{Point, Previous, Severity, Told, told_faults};

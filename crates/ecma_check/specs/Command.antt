@@ -11,6 +11,8 @@ use Rattle.swc_ecma_parser_input.specs.declared.syntax.Syntax.TheVariants as syn
 use Rattle.swc_ecma_parser_input.specs.Setting.{plain, plain_setting}
 use Rattle.ecma_answers.specs.declared.options.Goal.{Goal}
 use Rattle.ecma_answers.specs.declared.options.Goal.TheVariants as goal
+use Rattle.ecma_answers.specs.declared.options.Language.{Language}
+use Rattle.ecma_answers.specs.declared.options.Language.TheVariants as language
 use Rattle.ecma_answers.specs.declared.options.Options.{Options}
 use Rattle.ecma_check.specs.declared.command.Format.{Format}
 use Rattle.ecma_check.specs.declared.command.Format.TheVariants as format
@@ -79,6 +81,10 @@ IsGoal f g =
     × (IsUnset f (codes "script") → IsUnset f (codes "module") → IsSet f (codes "program") → g ≡ goal.Program)
     × (IsUnset f (codes "script") → IsUnset f (codes "module") → IsUnset f (codes "program") → g ≡ goal.Auto)
 
+-- the language that a file is read in: the plain one, where that word stands there; else the whole one
+abbrev pub IsLanguage : Found → Language → Type 0
+IsLanguage f l = (IsSet f (codes "plain") → l ≡ language.Plain) × (IsUnset f (codes "plain") → l ≡ language.Whole)
+
 -- one of three at most is so
 abbrev pub is_at_most_one : (first second third : Bool) → Bool
 is_at_most_one first second third = not (first && second || first && third || second && third)
@@ -107,6 +113,7 @@ pub record IsMost (f : Found) (n : ℕ) : Type 0 where
 
 -- what the words ask of each file
 pub record AreOptions (f : Found) (o : Options) : Type 0 where
+  pub language : IsLanguage f o.language
   pub goal : IsGoal f o.goal
   pub limit : IsLimit f o.limit
   pub settings : o.syntax ≡ syntax_named (option_map raw_values (matched_of f (codes "enable")))

@@ -4,6 +4,8 @@ use Rattle.swc_ecma_parser_input.specs.declared.syntax.Syntax.{Syntax}
 use Rattle.swc_ecma_parser_input.specs.declared.syntax.Syntax.TheVariants as syntax
 use Rattle.ecma_answers.specs.declared.options.Goal.{Goal}
 use Rattle.ecma_answers.specs.declared.options.Goal.TheVariants as goal
+use Rattle.ecma_answers.specs.declared.options.Language.{Language}
+use Rattle.ecma_answers.specs.declared.options.Language.TheVariants as language
 use Rattle.ecma_answers.specs.declared.options.Options.{Options}
 use Rattle.ecma_link.specs.declared.options.EcmaOptions.{EcmaOptions}
 
@@ -19,6 +21,10 @@ goal_of n =
     else if n == 3 then Some goal.Auto
     else None
 
+-- the language that is read: the whole one, where nothing is said
+abbrev pub language_of : ℕ → Language
+language_of flags = if has flags 8192 then language.Plain else language.Whole
+
 -- what is read besides ECMA-262
 abbrev pub syntax_of : ℕ → Syntax
 syntax_of flags = syntax.Es (record {
@@ -33,7 +39,7 @@ syntax_of flags = syntax.Es (record {
 
 -- bits that mean nothing
 abbrev pub unknown : ℕ
-unknown = 4294959232
+unknown = 4294951040
 
 -- at most 1,000 levels
 abbrev pub limit_of : ℕ → ℕ
@@ -41,6 +47,7 @@ limit_of n = min n 1000
 
 abbrev pub options_of : EcmaOptions → Goal → Options
 options_of o g = record {
+  language = language_of o.flags;
   goal = g;
   limit = limit_of o.limit;
   syntax = syntax_of o.flags;

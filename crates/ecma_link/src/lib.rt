@@ -77,13 +77,13 @@ pub extern "C" fn ecma_parse_faults(
 /// The version of the interface, which is `ECMA_VERSION` of the header that a caller is to have.
 #[unsafe(no_mangle)]
 pub extern "C" fn ecma_version() -> u32
-    ensures { result ≡ 2 }
+    ensures { result ≡ 3 }
 {
-    2
+    3
 }
 
-/// A law: two calls for one text with one setting have one status, unless memory runs out or the room is too short; and a tree without comments
-/// has one text.
+/// A law: two calls for one text with one setting have one status, unless memory runs out or the room is too short; and a tree has one
+/// text.
 pub fn one_answer()
     ensures statuses { OneStatus }
     ensures trees { OneTree }

@@ -5,7 +5,7 @@ ghost use Rattle.ecma_link.specs.Asked as named;
 ghost use Rattle.ecma_link.specs.Asked.{asked};
 
 use crate::failure::Failure;
-use ecma_answers::{Goal, MAX_LIMIT, Options};
+use ecma_answers::{Goal, Language, MAX_LIMIT, Options};
 use ecma_estree_text::Extras;
 use swc_ecma_parser::input::{EsSyntax, Syntax};
 
@@ -19,7 +19,7 @@ pub struct EcmaOptions {
     pub goal: u32,
     /// How many levels deep the text may nest; more than 1,000 count as 1,000.
     pub limit: u32,
-    /// Bits: what is read besides ECMA-262, and what is written besides nodes.
+    /// Bits: what is read besides ECMA-262, what is written besides nodes, and which language is read.
     pub flags: u32,
     /// How many faults and early errors are told at most; 0 for all.
     pub max_faults: u32,
@@ -49,11 +49,13 @@ const TOKENS: u32 = 0x800;
 
 const NO_EARLY_ERRORS: u32 = 0x1000;
 
+const PLAIN: u32 = 0x2000;
+
 /// How many bytes `EcmaOptions` has.
 const OPTIONS_SIZE: u64 = 24;
 
 /// The bits that mean nothing.
-const UNKNOWN: u32 = 0xffff_e080;
+const UNKNOWN: u32 = 0xffff_c080;
 
 /// What a number names, if it names something.
 fn goal_of(number: u32) -> Result<Goal, Failure>
@@ -66,6 +68,17 @@ fn goal_of(number: u32) -> Result<Goal, Failure>
         2 => Ok(Goal::Program),
         3 => Ok(Goal::Auto),
         _ => Err(Failure::UnknownOption),
+    }
+}
+
+/// The language that is read.
+fn language_of(flags: u32) -> Language
+    ensures { result ≡ named.language_of flags }
+{
+    if flags & PLAIN != 0 {
+        Language::Plain
+    } else {
+        Language::Whole
     }
 }
 
@@ -95,6 +108,7 @@ pub(crate) fn options_of(options: &EcmaOptions) -> Result<Options, Failure>
     }
     let goal = goal_of(options.goal)?;
     Ok(Options {
+        language: language_of(flags),
         goal,
         limit: options.limit.min(MAX_LIMIT),
         syntax: syntax_of(flags),

@@ -1,6 +1,6 @@
 -- A sentence for each kind of fault: what is wrong, and what would be right, with the section of ECMA-262 (edition 2025) or the proposal.
 use Rattle.std.specs.Prelude.{ℕ, List, codes}
-use Rattle.swc_ecma_parser_error.specs.Kind.{Kind, TS1105, TS1107, TS1115, TS1116, ReturnNotAllowed, DuplicateLabel, LabelledFunctionInStrict, LabelledGeneratorOrAsync, DuplicateConstructor, IllegalLanguageModeDirective, TooManyVarInForInHead, VarInitializerInForInHead, ExportExpectFrom, ExportBindingIsString, TS1005, TS1009, TS1172, TS1184, TS1089, InvalidLeadingDecorator, TopLevelAwaitInScript, ImportMetaInScript, AwaitInFunction, AwaitParamInAsync, InvalidIdentInAsync, DeclNotAllowed, UsingDeclNotEnabled, InvalidNameInUsingDecl, InitRequiredForUsingDecl, UsingDeclNotAllowedForForInLoop, ConstDeclarationsRequireInitialization, GeneratorConstructor, ConstructorAccessor, PrivateConstructor, GetterParam, SetterParam, RestPatInSetter, TrailingCommaInsideImport, WithInStrict, InvalidIdentInStrict, Eof, Expected, Unexpected, ExpectedIdent, ExpectedSemiForExprStmt, LineBreakInThrow, MultipleDefault, PatVarWithoutInit, AwaitForStmt, ImportExportInScript, ExportNotAllowed, DecoratorOnExport, TS8038, ReservedWordInImport, ImportBindingIsString, PropertyNamedConstructor, AsyncConstructor, InvalidPat, NotSimpleAssign, AssignProperty, NullishCoalescingWithLogicalOp, UnaryInExp, LineBreakBeforeArrow, InvalidSuper, WithLabel, OutOfMemory, TooDeep, UnexpectedChar, UnterminatedStrLit, UnterminatedBlockComment, InvalidNumber, InvalidStrEscape}
+use Rattle.swc_ecma_parser_error.specs.Kind.{Kind, TS1105, TS1107, TS1115, TS1116, ReturnNotAllowed, DuplicateLabel, LabelledFunctionInStrict, LabelledGeneratorOrAsync, DuplicateConstructor, IllegalLanguageModeDirective, TooManyVarInForInHead, VarInitializerInForInHead, ExportExpectFrom, ExportBindingIsString, TS1005, TS1009, TS1172, TS1184, TS1089, InvalidLeadingDecorator, TopLevelAwaitInScript, ImportMetaInScript, AwaitInFunction, AwaitParamInAsync, InvalidIdentInAsync, DeclNotAllowed, UsingDeclNotEnabled, InvalidNameInUsingDecl, InitRequiredForUsingDecl, UsingDeclNotAllowedForForInLoop, ConstDeclarationsRequireInitialization, GeneratorConstructor, ConstructorAccessor, PrivateConstructor, GetterParam, SetterParam, RestPatInSetter, TrailingCommaInsideImport, WithInStrict, InvalidIdentInStrict, Eof, Expected, Unexpected, ExpectedIdent, ExpectedSemiForExprStmt, LineBreakInThrow, MultipleDefault, PatVarWithoutInit, AwaitForStmt, ImportExportInScript, ExportNotAllowed, DecoratorOnExport, TS8038, ReservedWordInImport, ImportBindingIsString, PropertyNamedConstructor, AsyncConstructor, InvalidPat, NotSimpleAssign, AssignProperty, NullishCoalescingWithLogicalOp, UnaryInExp, LineBreakBeforeArrow, InvalidSuper, WithLabel, OutOfMemory, TooDeep, UnexpectedChar, UnterminatedStrLit, UnterminatedBlockComment, InvalidNumber, InvalidStrEscape, UnterminatedRegxp, UnterminatedTpl}
 
 abbrev pub sentence_of : Kind → List ℕ
 sentence_of TS1105 = codes "`break` outside of a loop or `switch`; move it into one, or name a label around it (ECMA-262, 14.9.1)"
@@ -75,3 +75,5 @@ sentence_of UnterminatedStrLit = codes "this string does not end on its line; wr
 sentence_of UnterminatedBlockComment = codes "this comment does not end; write `*/` after it (ECMA-262, 12.4)"
 sentence_of InvalidNumber = codes "this number is invalid; old octal forms such as 017 are not read, 0o17 is (ECMA-262, 12.9.3)"
 sentence_of InvalidStrEscape = codes "an escape in this string is invalid; old octal escapes are not read (ECMA-262, 12.9.4)"
+sentence_of UnterminatedRegxp = codes "this regular expression does not end on its line; write `/` after it (ECMA-262, 12.9.5)"
+sentence_of UnterminatedTpl = codes "this template does not end; write a backtick after it (ECMA-262, 12.9.6)"

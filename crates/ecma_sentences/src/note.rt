@@ -58,7 +58,7 @@ fn kind_note(kind: &SyntaxError) -> Option<Note>
             ImportBindingIsString PropertyNamedConstructor AsyncConstructor InvalidPat
             NotSimpleAssign AssignProperty NullishCoalescingWithLogicalOp UnaryInExp
             LineBreakBeforeArrow InvalidSuper WithLabel OutOfMemory TooDeep UnexpectedChar UnterminatedStrLit
-            UnterminatedBlockComment InvalidNumber InvalidStrEscape
+            UnterminatedBlockComment InvalidNumber InvalidStrEscape UnterminatedRegxp UnterminatedTpl
         ],
         {
             SyntaxError::MultipleDefault { previous } => place(*previous, "the first `default` is here"),

@@ -91,6 +91,8 @@ macro_rules! sentence {
             UnterminatedBlockComment: "this comment does not end; write `*/` after it (ECMA-262, 12.4)",
             InvalidNumber: "this number is invalid; old octal forms such as 017 are not read, 0o17 is (ECMA-262, 12.9.3)",
             InvalidStrEscape: "an escape in this string is invalid; old octal escapes are not read (ECMA-262, 12.9.4)",
+            UnterminatedRegxp: "this regular expression does not end on its line; write `/` after it (ECMA-262, 12.9.5)",
+            UnterminatedTpl: "this template does not end; write a backtick after it (ECMA-262, 12.9.6)",
         })
     };
 }

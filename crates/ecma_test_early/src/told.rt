@@ -10,7 +10,8 @@ use swc_ecma_parser::common::BytePos;
 use swc_ecma_parser::error::{Error, PResult};
 use swc_ecma_parser::headline::{read_module, read_program, read_script};
 use swc_ecma_parser::input::Syntax;
-use swc_ecma_parser::lexer::{Lexer, StringInput};
+use swc_ecma_parser::lexer::StringInput;
+use swc_ecma_parser_whole_lexer::{Goal, WholeLexer};
 
 /// Within how many levels a text is read.
 const LIMIT: u32 = 1000;
@@ -21,11 +22,11 @@ const LONGEST: usize = 4_000_000;
 /// Drops it. What drops a tree is proved to do so on each way out, so trees are let go of here.
 fn let_go<T: Drop>(_: T) {}
 
-/// A lexer at the start of a text; of an empty one where the text is too long.
-fn lexer(alloc: Global, text: &str) -> Lexer<'_> {
+/// A lexer of the whole language at the start of a text; of an empty one where the text is too long.
+fn lexer(alloc: Global, text: &str, goal: Goal) -> WholeLexer<'_> {
     let text = if text.len() > LONGEST { "" } else { text };
     let input = StringInput::new(text, BytePos(0), BytePos(text.len() as u32));
-    Lexer::new(alloc, Syntax::default(), input, false)
+    WholeLexer::new(alloc, Syntax::default(), input, false, goal)
 }
 
 /// Writes the line of an early error.
@@ -93,7 +94,11 @@ fn write_program(
 }
 
 /// Reads a script, and writes what is told of it.
-fn read_as_script(alloc: Global, out: &mut String, source: Lexer<'_>) -> Result<(), AllocError> {
+fn read_as_script(
+    alloc: Global,
+    out: &mut String,
+    source: WholeLexer<'_>,
+) -> Result<(), AllocError> {
     let (answer, faults) = read_script(alloc, source, LIMIT);
     let written = write_script(alloc, out, &answer, faults.as_slice());
     let_go(answer);
@@ -101,7 +106,11 @@ fn read_as_script(alloc: Global, out: &mut String, source: Lexer<'_>) -> Result<
 }
 
 /// Reads a module, and writes what is told of it.
-fn read_as_module(alloc: Global, out: &mut String, source: Lexer<'_>) -> Result<(), AllocError> {
+fn read_as_module(
+    alloc: Global,
+    out: &mut String,
+    source: WholeLexer<'_>,
+) -> Result<(), AllocError> {
     let (answer, faults) = read_module(alloc, source, LIMIT);
     let written = write_module(alloc, out, &answer, faults.as_slice());
     let_go(answer);
@@ -109,7 +118,11 @@ fn read_as_module(alloc: Global, out: &mut String, source: Lexer<'_>) -> Result<
 }
 
 /// Reads a program, and writes what is told of it.
-fn read_as_program(alloc: Global, out: &mut String, source: Lexer<'_>) -> Result<(), AllocError> {
+fn read_as_program(
+    alloc: Global,
+    out: &mut String,
+    source: WholeLexer<'_>,
+) -> Result<(), AllocError> {
     let (answer, faults) = read_program(alloc, source, LIMIT);
     let written = write_program(alloc, out, &answer, faults.as_slice());
     let_go(answer);
@@ -123,11 +136,10 @@ pub fn write_told(
     entry: Option<Entry>,
     text: &str,
 ) -> Result<(), AllocError> {
-    let source = lexer(alloc, text);
     match entry {
-        Some(Entry::Script) => read_as_script(alloc, out, source),
-        Some(Entry::Module) => read_as_module(alloc, out, source),
-        Some(Entry::Program) => read_as_program(alloc, out, source),
+        Some(Entry::Script) => read_as_script(alloc, out, lexer(alloc, text, Goal::Script)),
+        Some(Entry::Module) => read_as_module(alloc, out, lexer(alloc, text, Goal::Module)),
+        Some(Entry::Program) => read_as_program(alloc, out, lexer(alloc, text, Goal::Script)),
         Some(Entry::Item | Entry::Statement | Entry::ListItem) | None => {
             out.push_str("  no row\n")
         }
