@@ -34,16 +34,9 @@ export interface PrivateIdentifier extends BaseNode {
 
 export interface Literal extends BaseNode {
   type: 'Literal';
-  value: string | number | boolean | bigint | RegExp | null;
+  value: string | number | boolean | bigint | null;
   raw: string;
   bigint?: string;
-  regex?: { pattern: string; flags: string };
-}
-
-export interface TemplateElement extends BaseNode {
-  type: 'TemplateElement';
-  value: { raw: string; cooked: string | null };
-  tail: boolean;
 }
 
 export interface ThisExpression extends BaseNode {
@@ -339,7 +332,7 @@ export interface UpdateExpression extends BaseNode {
 
 export interface BinaryExpression extends BaseNode {
   type: 'BinaryExpression';
-  left: Expression | PrivateIdentifier;
+  left: Expression;
   operator: BinaryOperator;
   right: Expression;
 }
@@ -375,31 +368,14 @@ export interface MemberExpression extends BaseNode {
   object: Expression | Super;
   property: Expression | PrivateIdentifier;
   computed: boolean;
-  optional: boolean;
+  optional: false;
 }
 
 export interface CallExpression extends BaseNode {
   type: 'CallExpression';
   callee: Expression | Super;
   arguments: (Expression | SpreadElement)[];
-  optional: boolean;
-}
-
-export interface ChainExpression extends BaseNode {
-  type: 'ChainExpression';
-  expression: MemberExpression | CallExpression;
-}
-
-export interface TemplateLiteral extends BaseNode {
-  type: 'TemplateLiteral';
-  expressions: Expression[];
-  quasis: TemplateElement[];
-}
-
-export interface TaggedTemplateExpression extends BaseNode {
-  type: 'TaggedTemplateExpression';
-  tag: Expression;
-  quasi: TemplateLiteral;
+  optional: false;
 }
 
 export interface NewExpression extends BaseNode {
@@ -523,9 +499,6 @@ export type Expression =
   | SequenceExpression
   | MemberExpression
   | CallExpression
-  | ChainExpression
-  | TemplateLiteral
-  | TaggedTemplateExpression
   | NewExpression
   | ImportExpression
   | MetaProperty
@@ -582,7 +555,6 @@ export type Node =
   | Pattern
   | Program
   | PrivateIdentifier
-  | TemplateElement
   | Super
   | StaticBlock
   | SwitchCase

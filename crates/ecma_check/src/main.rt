@@ -10,6 +10,8 @@ mod read;
 mod run;
 mod sum;
 mod tell;
+#[cfg(test)]
+mod tests;
 mod told;
 mod words;
 

@@ -17,10 +17,7 @@ use swc_ecma_parser_ast::{
 };
 
 /// Has the name of a member written.
-pub(crate) fn push_member_prop<'a>(
-    w: &mut Writer<'a>,
-    prop: &'a MemberProp,
-) -> Result<(), AllocError>
+fn push_member_prop<'a>(w: &mut Writer<'a>, prop: &'a MemberProp) -> Result<(), AllocError>
     ensures { OnOk result
         (Pushes w.old w.new (json w.old.source plain (view_member_prop prop.now))) }
 {
@@ -32,7 +29,7 @@ pub(crate) fn push_member_prop<'a>(
 }
 
 /// Whether a member is named in brackets.
-pub(crate) fn is_computed(prop: &MemberProp) -> bool
+fn is_computed(prop: &MemberProp) -> bool
     ensures { result ≡ kinds.is_computed (view_member_prop prop.now) }
 {
     match prop {

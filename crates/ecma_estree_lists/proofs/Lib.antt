@@ -1,2 +1,1 @@
-mod Closed
 mod Listed

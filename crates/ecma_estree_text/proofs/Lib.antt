@@ -1,6 +1,5 @@
 mod Counts
 mod Digits
 mod Points
-mod Regexes
 mod Spots
 mod Value

@@ -8,7 +8,6 @@ mod classes;
 mod directives;
 mod exprs;
 mod functions;
-mod literals;
 mod members;
 mod objects;
 mod patterns;

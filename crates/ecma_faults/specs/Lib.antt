@@ -2,4 +2,3 @@ pub mod Excerpt
 pub mod Json
 pub mod Shown
 pub mod Text
-pub mod Early

@@ -33,7 +33,7 @@ fn push_number(out: &mut Vec<u8>, name: &str, value: u64) -> Result<(), AllocErr
 
 /// Writes a field that is a text.
 #[tactic(auto, unfolding(crate::specs::Json::string))]
-pub(crate) fn push_string(out: &mut Vec<u8>, name: &str, value: &str) -> Result<(), AllocError>
+fn push_string(out: &mut Vec<u8>, name: &str, value: &str) -> Result<(), AllocError>
     ensures { OnOk result (out.new.items ≡ out.old.items ++ json.string name.now value.now) }
 {
     push_key(out, name)?;
@@ -86,11 +86,7 @@ fn push_offsets(
 
 /// Writes a place: `byteStart` and `byteEnd` in bytes, `start` and `end` in code units of UTF-16, lines and columns from 1.
 #[tactic(auto, unfolding(crate::specs::Json::span_json))]
-pub(crate) fn push_span(
-    out: &mut Vec<u8>,
-    places: &Places<'_>,
-    span: Span,
-) -> Result<(), AllocError>
+fn push_span(out: &mut Vec<u8>, places: &Places<'_>, span: Span) -> Result<(), AllocError>
     requires { length places.now.text < 2 ^ 32 }
     ensures { OnOk result (out.new.items ≡ out.old.items ++ span_json places.now span) }
 {
@@ -103,7 +99,7 @@ pub(crate) fn push_span(
 
 /// Writes how an object begins with a text.
 #[tactic(auto, unfolding(crate::specs::Json::first))]
-pub(crate) fn push_first(out: &mut Vec<u8>, name: &str, text: &str) -> Result<(), AllocError>
+fn push_first(out: &mut Vec<u8>, name: &str, text: &str) -> Result<(), AllocError>
     ensures { OnOk result (out.new.items ≡ out.old.items ++ first name.now text.now) }
 {
     out.push(b'{')?;
@@ -113,11 +109,7 @@ pub(crate) fn push_first(out: &mut Vec<u8>, name: &str, text: &str) -> Result<()
 }
 
 /// Writes another place that a fault speaks of.
-pub(crate) fn push_note(
-    out: &mut Vec<u8>,
-    places: &Places<'_>,
-    note: Option<Note>,
-) -> Result<(), AllocError>
+fn push_note(out: &mut Vec<u8>, places: &Places<'_>, note: Option<Note>) -> Result<(), AllocError>
     requires { length places.now.text < 2 ^ 32 }
     ensures { OnOk result (out.new.items ≡ out.old.items ++ note_json places.now (noted note)) }
 {

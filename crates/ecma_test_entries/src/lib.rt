@@ -2,12 +2,6 @@
 #![tactic(auto)]
 
 #[cfg(test)]
-mod forms;
-#[cfg(test)]
 mod headlines;
 #[cfg(test)]
-mod lists;
-#[cfg(test)]
 mod parsers;
-#[cfg(test)]
-mod shapes;

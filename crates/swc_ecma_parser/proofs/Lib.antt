@@ -1,4 +1,3 @@
 mod Kept
 mod Answered
 pub mod Same
-pub mod Plainness

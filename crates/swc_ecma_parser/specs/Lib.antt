@@ -2,4 +2,3 @@ pub mod Parsing
 pub mod Reading
 pub mod Headline
 pub mod Same
-pub mod Plain

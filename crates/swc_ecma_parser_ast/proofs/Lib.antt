@@ -1,5 +1,4 @@
 pub mod Derived
-pub mod DerivedLeaf
 pub mod DerivedItem
 pub mod Alike
 pub mod Links

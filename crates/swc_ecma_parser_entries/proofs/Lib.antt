@@ -3,4 +3,3 @@ mod SetBack
 mod Begun
 mod Read
 mod Ended
-mod Programs

@@ -22,13 +22,11 @@ mod Examples
 mod Spelling
 mod SpellingParts
 mod SpelledExpressions
-mod SpelledForms
 mod SpelledPatterns
 mod SpelledFunctions
-pub mod Beginnings
+mod Beginnings
 mod Inversions
 mod Unspelled
-mod UnspelledForms
 mod UnspelledPatterns
 mod UnspelledAwait
 mod SpellingItems

@@ -8,4 +8,3 @@ pub mod Statements
 pub mod ModuleItems
 pub mod Shapes
 pub mod Depths
-pub mod plain

@@ -3,5 +3,3 @@
 
 pub mod access;
 pub mod left;
-pub mod links;
-mod templates;

@@ -72,7 +72,7 @@ fn unmixed<P: Cursor, T: BuildsOperator>(
 }
 
 /// The class of the right operand.
-pub fn right_class(op: BinaryOp) -> Class
+fn right_class(op: BinaryOp) -> Class
     ensures { class_of result ≡ exprs.right_class op }
 {
     let tightness = precedence(op);
