@@ -1,0 +1,6 @@
+mod Clean
+mod Files
+mod Marks
+mod Names
+mod Results
+mod Sums

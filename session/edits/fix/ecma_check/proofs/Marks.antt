@@ -1,0 +1,15 @@
+-- Words as they are told.
+use Rattle.std.proofs.Common.{◌≡◌, ◌≢◌, ℕ, List, ◌∷◌, Option, None, Some, inl, inr, refl, subst}
+use Rattle.std.specs.Borrow.{Bor}
+use Rattle.std.specs.Option.{MatchOption}
+use Rattle.ecma_check.specs.Faults.{IsShown}
+
+-- what a word is without its mark
+abbrev IsStripped : List ℕ → Option (Bor (List ℕ)) → Type 0
+IsStripped word r = MatchOption r ((rest : List ℕ) → word ≢ 0 ∷ rest) (λ x. word ≡ 0 ∷ x.now)
+
+pub marked : (word : List ℕ) (r : Option (Bor (List ℕ))) (x : Bor (List ℕ)) → IsStripped word r → r ≡ Some x → IsShown word x.now
+marked word r x h e = inl (subst (IsStripped word) e h)
+
+pub unmarked : (word : List ℕ) (r : Option (Bor (List ℕ))) → IsStripped word r → r ≡ None → IsShown word word
+unmarked word r h e = inr (subst (IsStripped word) e h, refl)

@@ -1,0 +1,6 @@
+-- What is written of the files, and then the line that sums up.
+use Rattle.ecma_check.proofs.Files.{whole_run}
+use Rattle.ecma_check.proofs.run.summed_answers.Goals as goal
+
+pub returns : goal.returns
+returns g c = whole_run _ _ _ _ _ _ _ _ _ _ c.in_ok-sum.ensures c.in_ok-finish.ensures

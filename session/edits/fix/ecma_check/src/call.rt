@@ -1,0 +1,100 @@
+//! What the words ask for.
+
+ghost use Rattle.std.specs.Prelude.{◌≡◌, IfErr, IfOk, codes, map, option_map};
+ghost use Rattle.clap.specs.Words.{found_of, matched_of, raw_values};
+ghost use Rattle.ecma_check.specs.Command.{IsCheck, files_named};
+
+use crate::command::{Settings, matches_of, settings_of};
+use crate::fault::Fault;
+use clap::{ArgMatches, Error};
+use ecma_faults::push_name;
+use std::alloc::{AllocError, Global};
+
+/// What the words ask for.
+#[derive(Drop)]
+pub enum Call<'a> {
+    /// To check files; `-` is standard input.
+    Check(Settings, Vec<&'a str>),
+    /// To print a text: the help, or the version.
+    Print(Vec<u8>),
+    /// Nothing, since they are no command. The text says what is wrong with them.
+    Refuse(Vec<u8>),
+    /// Nothing, for another reason.
+    Fail(Fault),
+}
+
+/// What is to be checked, and how.
+#[derive(Drop)]
+struct Check<'a> {
+    settings: Settings,
+    files: Vec<&'a str>,
+}
+
+/// Writes lines of a text as a terminal may show them.
+fn push_lines(out: &mut Vec<u8>, text: &str) -> Result<(), AllocError> {
+    for line in text.lines() {
+        push_name(out, line)?;
+        out.push(b'\n')?;
+    }
+    Ok(())
+}
+
+/// What words come to that name nothing to check, as a terminal may show it.
+fn text_of(alloc: Global, error: &Error) -> Result<Vec<u8>, AllocError> {
+    let text = format!(in alloc; "{error}")?;
+    let mut lines = Vec::new(alloc);
+    push_lines(&mut lines, text.as_str())?;
+    Ok(lines)
+}
+
+/// What words ask for that name nothing to check. A text that memory ran out for is empty.
+fn said<'a>(alloc: Global, error: &Error) -> Call<'a> {
+    match text_of(alloc, error) {
+        Ok(text) if text.is_empty() => Call::Fail(Fault::OutOfMemory),
+        Ok(text) if error.use_stderr() => Call::Refuse(text),
+        Ok(text) => Call::Print(text),
+        Err(_) => Call::Fail(Fault::OutOfMemory),
+    }
+}
+
+/// The files that the words name; standard input, where they name none.
+fn files_of<'a>(alloc: Global, matches: &ArgMatches<'a>) -> Result<Vec<&'a str>, AllocError>
+    ensures { IfOk result
+        (λ files. map (λ file. file.now) files.items
+        ≡ files_named (option_map raw_values (matched_of (found_of matches.now) (codes "FILE")))) }
+{
+    let mut files = Vec::new(alloc);
+    match matches.get_strs("FILE") {
+        Some(named) if !named.is_empty() => files.extend_from_slice(named)?,
+        _ => files.push("-")?,
+    }
+    Ok(files)
+}
+
+/// What is to be checked, and how.
+fn check_of<'a>(alloc: Global, matches: &ArgMatches<'a>) -> Result<Check<'a>, Fault>
+    ensures { IfOk result
+        (λ it. IsCheck (found_of matches.now) it.settings (map (λ file. file.now) it.files.items)) }
+{
+    let settings = settings_of(alloc, matches)?;
+    let files = files_of(alloc, matches)?;
+    Ok(Check { settings, files })
+}
+
+/// What the words ask for, if there are words.
+pub fn asked<'a>(alloc: Global, words: &'a Result<Vec<String>, AllocError>) -> Call<'a>
+    ensures wordless { IfErr words.now (λ _. result ≡ Call.Fail Fault.OutOfMemory) }
+{
+    let words = match words {
+        Ok(words) => words,
+        Err(_) => return Call::Fail(Fault::OutOfMemory),
+    };
+    let matches = match matches_of(alloc, words.as_slice()) {
+        Ok(matches) => matches,
+        Err(error) => return said(alloc, &error),
+    };
+    match check_of(alloc, &matches) {
+        Ok(Check { settings, files }) => Call::Check(settings, files),
+        Err(fault) => Call::Fail(fault),
+    }
+}

@@ -1,0 +1,3 @@
+mod Reasons
+mod Same
+mod Words
