@@ -206,4 +206,13 @@ pub record FitsPart (is_last : Bool) (inner : List ℕ) : Type 0 where
 abbrev pub Fits : Form → List ℕ → Type 0
 Fits (form.Regex body) text = FitsRegex body (behind_first text)
 Fits (form.Part is_first is_last) text = FitsPart is_last (behind_first text)
-Fits _ text = ⊤
+Fits form.Kept text = ⊤
+Fits form.Comment text = ⊤
+Fits form.OpenRegex text = ⊤
+Fits form.OpenPart text = ⊤
+Fits form.QuestionDot text = ⊤
+Fits form.NewDot text = ⊤
+Fits form.HashIn text = ⊤
+Fits form.EscapedName text = ⊤
+Fits form.OldNumber text = ⊤
+Fits (form.OldString quote) text = ⊤
