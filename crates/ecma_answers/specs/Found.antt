@@ -41,6 +41,13 @@ is_of_undeclared kind.MisplacedNewTarget = false
 is_of_undeclared kind.OldNumberInStrict = false
 is_of_undeclared kind.OldEscapeInStrict = false
 is_of_undeclared kind.WrongFlags = false
+is_of_undeclared kind.ImportArguments = false
+is_of_undeclared kind.ImportPhase = false
+is_of_undeclared kind.DecoratedFunction = false
+is_of_undeclared kind.MisplacedUsing = false
+is_of_undeclared kind.MisplacedBreak = false
+is_of_undeclared kind.MisplacedContinue = false
+is_of_undeclared kind.MisplacedReturn = false
 
 -- those that are told: where a part of the text stands in no tree, it may declare a name
 abbrev pub kept : (is_part_dropped : Bool) → List EarlyError → List EarlyError

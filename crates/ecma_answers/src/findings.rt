@@ -88,7 +88,14 @@ fn is_of_undeclared(kind: EarlyErrorKind) -> bool
         | EarlyErrorKind::MisplacedNewTarget
         | EarlyErrorKind::OldNumberInStrict
         | EarlyErrorKind::OldEscapeInStrict
-        | EarlyErrorKind::WrongFlags => false,
+        | EarlyErrorKind::WrongFlags
+        | EarlyErrorKind::ImportArguments
+        | EarlyErrorKind::ImportPhase
+        | EarlyErrorKind::DecoratedFunction
+        | EarlyErrorKind::MisplacedUsing
+        | EarlyErrorKind::MisplacedBreak
+        | EarlyErrorKind::MisplacedContinue
+        | EarlyErrorKind::MisplacedReturn => false,
     }
 }
 

@@ -3,11 +3,11 @@
 ghost use Rattle.std.specs.Prelude.{◌≡◌, ◌∷◌, ◌++◌, [], map, IfOk, OnOk};
 ghost use Rattle.ecma_contexts.specs.Contexts as rule;
 ghost use Rattle.ecma_contexts.specs.Contexts.{errors_of, next, told};
-ghost use Rattle.ecma_events.specs.Event.{event_of};
+ghost use Rattle.ecma_events.specs.Event.{event_of, flow_of};
 
 use crate::context::{Context, Contexts};
 use crate::words::{is_restricted, is_strict_word};
-use ecma_events::{Binding, EarlyError, EarlyErrorKind, Event, Role};
+use ecma_events::{Binding, EarlyError, EarlyErrorKind, Event, Flow, Role};
 use std::alloc::{AllocError, Global};
 use swc_ecma_parser_common::Span;
 use swc_ecma_parser_model::Ident;
@@ -122,6 +122,23 @@ fn tell_name(
     }
 }
 
+/// Tells a label that the code around reserves.
+fn tell_label(errors: &mut Vec<EarlyError>, c: Context, flow: Flow<'_>) -> Result<(), AllocError>
+    ensures { OnOk result
+        (errors.new.items ≡ errors.old.items ++ rule.flow_told c (flow_of flow.entry)) }
+{
+    match flow {
+        Flow::Label(_, name) => tell_reserved(errors, c, name),
+        Flow::Loop
+        | Flow::End
+        | Flow::Break(_)
+        | Flow::Continue(_)
+        | Flow::BreakTo(_, _)
+        | Flow::ContinueTo(_, _)
+        | Flow::Return(_) => Ok(()),
+    }
+}
+
 /// Tells what is wrong at an event.
 fn tell(errors: &mut Vec<EarlyError>, c: Context, event: &Event<'_>) -> Result<(), AllocError>
     ensures { OnOk result (errors.new.items ≡ errors.old.items ++ told c (event_of event.now)) }
@@ -137,6 +154,9 @@ fn tell(errors: &mut Vec<EarlyError>, c: Context, event: &Event<'_>) -> Result<(
         Event::With(span) => {
             let is_wrong = c.is_strict && !c.is_module;
             tell_if(errors, is_wrong, EarlyErrorKind::WithInStrict, span)
+        }
+        Event::Using(span) => {
+            tell_if(errors, c.bans_using, EarlyErrorKind::MisplacedUsing, span)
         }
         Event::SuperCall(span) => {
             tell_if(
@@ -154,7 +174,11 @@ fn tell(errors: &mut Vec<EarlyError>, c: Context, event: &Event<'_>) -> Result<(
                 span,
             )
         }
-        Event::Await(span) => tell_if(errors, c.bans_await, EarlyErrorKind::MisplacedAwait, span),
+        Event::Await(span) => {
+            let is_wrong = c.bans_await && c.takes_await;
+            tell_if(errors, is_wrong, EarlyErrorKind::MisplacedAwait, span)
+        }
+        Event::Awaits(span) => tell_if(errors, c.bans_await, EarlyErrorKind::MisplacedAwait, span),
         Event::Yield(span) => tell_if(errors, c.bans_yield, EarlyErrorKind::MisplacedYield, span),
         Event::NewTarget(span) => {
             tell_if(
@@ -170,12 +194,14 @@ fn tell(errors: &mut Vec<EarlyError>, c: Context, event: &Event<'_>) -> Result<(
         Event::OldString(span) => {
             tell_if(errors, c.is_strict, EarlyErrorKind::OldEscapeInStrict, span)
         }
-        Event::WrongFlags(span) => tell_if(errors, true, EarlyErrorKind::WrongFlags, span),
+        Event::Wrong(kind, span) => tell_if(errors, true, kind, span),
+        Event::Flow(flow) => tell_label(errors, c, flow),
         Event::Prototype(span) => tell_if(errors, true, EarlyErrorKind::StaticPrototype, span),
         Event::SecondProto(span) => tell_if(errors, true, EarlyErrorKind::SecondProto, span),
         Event::Enter(_, _)
         | Event::Leave
         | Event::Body
+        | Event::Members
         | Event::Bare(_)
         | Event::PrivateMember(_, _, _)
         | Event::PrivateUse(_)
@@ -194,25 +220,29 @@ fn follow(contexts: &mut Contexts, event: &Event<'_>) -> Result<(), AllocError>
         Event::Body => contexts.enter_body(),
         Event::Leave => contexts.leave(),
         Event::Name(_, _)
+        | Event::Members
         | Event::Bare(_)
         | Event::DeleteName(_)
         | Event::DeletePrivate(_)
         | Event::With(_)
+        | Event::Using(_)
         | Event::SuperCall(_)
         | Event::SuperMember(_)
         | Event::Await(_)
+        | Event::Awaits(_)
         | Event::Yield(_)
         | Event::NewTarget(_)
         | Event::OldNumber(_)
         | Event::OldString(_)
-        | Event::WrongFlags(_)
+        | Event::Wrong(_, _)
         | Event::PrivateMember(_, _, _)
         | Event::PrivateUse(_)
         | Event::Prototype(_)
         | Event::SecondProto(_)
         | Event::Export(_, _)
         | Event::ExportDefault(_)
-        | Event::ExportLocal(_, _) => {}
+        | Event::ExportLocal(_, _)
+        | Event::Flow(_) => {}
     }
     Ok(())
 }

@@ -6,7 +6,7 @@ ghost use Rattle.ecma_event_exprs.specs.Literals as text;
 ghost use Rattle.swc_ecma_parser_ast.specs.View.{view_lit};
 
 use crate::walk::Walk;
-use ecma_events::Event;
+use ecma_events::{EarlyErrorKind, Event};
 use std::alloc::AllocError;
 use swc_ecma_parser_ast::{Lit, Number, Regex, Str};
 
@@ -142,7 +142,7 @@ fn regex<'a>(walk: &mut Walk<'a>, x: &'a Regex) -> Result<(), AllocError>
     if are_flags(x.flags.as_str().as_bytes()) {
         return Ok(());
     }
-    walk.event(Event::WrongFlags(x.span))
+    walk.event(Event::Wrong(EarlyErrorKind::WrongFlags, x.span))
 }
 
 /// A literal.

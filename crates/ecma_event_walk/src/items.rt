@@ -5,19 +5,19 @@ ghost use Rattle.ecma_events.specs.Event as steps;
 ghost use Rattle.ecma_event_exprs.specs.Events.{class_events, declared, default_events, events, function_binding, function_events, named, exported, local, specifier, specifiers, used};
 ghost use Rattle.ecma_events.specs.declared.event.Binding.TheVariants as binding;
 ghost use Rattle.ecma_events.specs.declared.event.CodeKind.TheVariants as code_kind;
-ghost use Rattle.swc_ecma_parser_ast.specs.View.{view_class, view_default_decl, view_export_default_decl, view_export_default_expr, view_export_named_specifier, view_export_specifier, view_function, view_ident, view_import_specifier, view_module_decl, view_module_export_name, view_module_item, view_named_export, view_str};
+ghost use Rattle.swc_ecma_parser_ast.specs.View.{view_class, view_default_decl, view_export_default_decl, view_export_default_expr, view_export_named_specifier, view_export_specifier, view_function, view_ident, view_import_decl, view_import_specifier, view_module_decl, view_module_export_name, view_module_item, view_named_export, view_str};
 ghost use Rattle.swc_ecma_parser_ast.specs.Parts.{view_option};
 ghost use Rattle.swc_ecma_parser_model.specs.Forms.{is_absent};
 ghost use Rattle.swc_ecma_parser_model.specs.Tree.{trees};
 
 use crate::stmts::{decl, declared, stmt};
 use ecma_event_exprs::{Walk, Work, class, function, function_binding, optional_name};
-use ecma_events::{Binding, Event, Role};
+use ecma_events::{Binding, EarlyErrorKind, Event, Role};
 use std::alloc::AllocError;
 use swc_ecma_parser_ast::{
     ClassExpr, DefaultDecl, ExportDefaultDecl, ExportDefaultExpr, ExportNamedSpecifier,
-    ExportSpecifier, FnExpr, Function, ImportSpecifier, ModuleDecl, ModuleExportName, ModuleItem,
-    NamedExport, Str,
+    ExportSpecifier, FnExpr, Function, ImportDecl, ImportPhase, ImportSpecifier, ModuleDecl,
+    ModuleExportName, ModuleItem, NamedExport, Str,
 };
 
 /// An item.
@@ -34,12 +34,24 @@ fn module_decl<'a>(walk: &mut Walk<'a>, x: &'a ModuleDecl) -> Result<(), AllocEr
     ensures { OnOk result (walk.new ≡ events used (view_module_decl x.now) walk.old) }
 {
     match x {
-        ModuleDecl::Import(x) => walk.push(Work::Imports(x.specifiers.as_slice())),
+        ModuleDecl::Import(x) => import_decl(walk, x),
         ModuleDecl::ExportDecl(x) => decl(walk, true, &x.decl),
         ModuleDecl::ExportNamed(x) => named_export(walk, x),
         ModuleDecl::ExportDefaultDecl(x) => default_decl(walk, x),
         ModuleDecl::ExportDefaultExpr(x) => default_expr(walk, x),
         ModuleDecl::ExportAll(_) => Ok(()),
+    }
+}
+
+fn import_decl<'a>(walk: &mut Walk<'a>, x: &'a ImportDecl) -> Result<(), AllocError>
+    ensures { OnOk result (walk.new ≡ events used (view_import_decl x.now) walk.old) }
+{
+    walk.push(Work::Imports(x.specifiers.as_slice()))?;
+    match x.phase {
+        ImportPhase::Evaluation => Ok(()),
+        ImportPhase::Source | ImportPhase::Defer => {
+            walk.event(Event::Wrong(EarlyErrorKind::ImportPhase, x.span))
+        }
     }
 }
 

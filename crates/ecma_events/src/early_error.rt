@@ -45,6 +45,20 @@ pub enum EarlyErrorKind {
     StaticPrototype,
     /// A second `__proto__: value` of an object.
     SecondProto,
+    /// `import(..)` with no argument, with more than two, or with one that is spread.
+    ImportArguments,
+    /// `import defer` and `import source`, which two proposals have.
+    ImportPhase,
+    /// Decorators of a function, which no class holds.
+    DecoratedFunction,
+    /// A declaration by `using` right in a script or in the clauses of a `switch`.
+    MisplacedUsing,
+    /// A `break` with nothing that it leaves, or with a label that does not stand around.
+    MisplacedBreak,
+    /// A `continue` with no loop that it goes on with, or with a label of none.
+    MisplacedContinue,
+    /// A `return` in a static block.
+    MisplacedReturn,
     /// A private name is declared twice in a class.
     PrivateTwice,
     /// A private name that no class around declares.

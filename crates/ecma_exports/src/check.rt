@@ -70,23 +70,27 @@ fn tell(
         Event::Enter(_, _)
         | Event::Leave
         | Event::Body
+        | Event::Members
         | Event::Bare(_)
         | Event::DeleteName(_)
         | Event::DeletePrivate(_)
         | Event::With(_)
+        | Event::Using(_)
         | Event::SuperCall(_)
         | Event::SuperMember(_)
         | Event::Await(_)
+        | Event::Awaits(_)
         | Event::Yield(_)
         | Event::NewTarget(_)
         | Event::OldNumber(_)
         | Event::OldString(_)
-        | Event::WrongFlags(_)
+        | Event::Wrong(_, _)
         | Event::PrivateMember(_, _, _)
         | Event::PrivateUse(_)
         | Event::Prototype(_)
         | Event::SecondProto(_)
-        | Event::ExportLocal(_, _) => Ok(()),
+        | Event::ExportLocal(_, _)
+        | Event::Flow(_) => Ok(()),
     }
 }
 
@@ -121,22 +125,26 @@ fn follow<'a>(exports: &mut Exports<'a>, event: &Event<'a>) -> Result<(), AllocE
         Event::ExportDefault(span) => exports.export(DEFAULT, span),
         Event::ExportLocal(span, text) => exports.add_local(text.as_str(), span),
         Event::Body
+        | Event::Members
         | Event::Bare(_)
         | Event::DeleteName(_)
         | Event::DeletePrivate(_)
         | Event::With(_)
+        | Event::Using(_)
         | Event::SuperCall(_)
         | Event::SuperMember(_)
         | Event::Await(_)
+        | Event::Awaits(_)
         | Event::Yield(_)
         | Event::NewTarget(_)
         | Event::OldNumber(_)
         | Event::OldString(_)
-        | Event::WrongFlags(_)
+        | Event::Wrong(_, _)
         | Event::PrivateMember(_, _, _)
         | Event::PrivateUse(_)
         | Event::Prototype(_)
-        | Event::SecondProto(_) => Ok(()),
+        | Event::SecondProto(_)
+        | Event::Flow(_) => Ok(()),
     }
 }
 
