@@ -48,6 +48,11 @@ is_of_undeclared kind.MisplacedUsing = false
 is_of_undeclared kind.MisplacedBreak = false
 is_of_undeclared kind.MisplacedContinue = false
 is_of_undeclared kind.MisplacedReturn = false
+is_of_undeclared kind.MisplacedFunction = false
+is_of_undeclared kind.MisplacedLet = false
+is_of_undeclared kind.MisplacedAsync = false
+is_of_undeclared kind.HeadInitializer = false
+is_of_undeclared kind.MisplacedIn = false
 
 -- those that are told: where a part of the text stands in no tree, it may declare a name
 abbrev pub kept : (is_part_dropped : Bool) → List EarlyError → List EarlyError

@@ -95,7 +95,12 @@ fn is_of_undeclared(kind: EarlyErrorKind) -> bool
         | EarlyErrorKind::MisplacedUsing
         | EarlyErrorKind::MisplacedBreak
         | EarlyErrorKind::MisplacedContinue
-        | EarlyErrorKind::MisplacedReturn => false,
+        | EarlyErrorKind::MisplacedReturn
+        | EarlyErrorKind::MisplacedFunction
+        | EarlyErrorKind::MisplacedLet
+        | EarlyErrorKind::MisplacedAsync
+        | EarlyErrorKind::HeadInitializer
+        | EarlyErrorKind::MisplacedIn => false,
     }
 }
 

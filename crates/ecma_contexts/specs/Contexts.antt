@@ -187,6 +187,11 @@ told c (event.prototype s) = error_at error.StaticPrototype s ∷ []
 -- an object has one `__proto__: value` (13.2.5.1)
 told c (event.second_proto s) = error_at error.SecondProto s ∷ []
 told c (event.flow x) = flow_told c x
+-- strict code has no function behind a label (14.13.1); the parser tells it where it knows the code to be strict, as it does not of a module before
+-- its first import or export
+told c (event.labeled_function s) = told_if c.is_module error.MisplacedFunction s
+-- no variable before `in` has an initializer (14.7.5), but a `var` of a name alone in code that is not strict (B.3.5); of strict code the same
+told c (event.head_init is_name s) = told_if (c.is_module || (not is_name && not c.is_strict)) error.HeadInitializer s
 told c _ = []
 
 abbrev pub first_or : {X : Type 0} → X → List X → X

@@ -196,6 +196,13 @@ fn tell(errors: &mut Vec<EarlyError>, c: Context, event: &Event<'_>) -> Result<(
         }
         Event::Wrong(kind, span) => tell_if(errors, true, kind, span),
         Event::Flow(flow) => tell_label(errors, c, flow),
+        Event::LabeledFunction(span) => {
+            tell_if(errors, c.is_module, EarlyErrorKind::MisplacedFunction, span)
+        }
+        Event::HeadInit(is_name, span) => {
+            let is_wrong = c.is_module || !is_name && !c.is_strict;
+            tell_if(errors, is_wrong, EarlyErrorKind::HeadInitializer, span)
+        }
         Event::Prototype(span) => tell_if(errors, true, EarlyErrorKind::StaticPrototype, span),
         Event::SecondProto(span) => tell_if(errors, true, EarlyErrorKind::SecondProto, span),
         Event::Enter(_, _)
@@ -242,7 +249,9 @@ fn follow(contexts: &mut Contexts, event: &Event<'_>) -> Result<(), AllocError>
         | Event::Export(_, _)
         | Event::ExportDefault(_)
         | Event::ExportLocal(_, _)
-        | Event::Flow(_) => {}
+        | Event::Flow(_)
+        | Event::LabeledFunction(_)
+        | Event::HeadInit(_, _) => {}
     }
     Ok(())
 }

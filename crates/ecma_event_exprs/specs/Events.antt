@@ -14,7 +14,9 @@ use Rattle.ecma_events.specs.declared.event.Role.{Role}
 use Rattle.ecma_events.specs.declared.event.Role.TheVariants as role
 use Rattle.ecma_events.specs.Event as event
 use Rattle.ecma_events.specs.Event.{Event}
+use Rattle.ecma_event_exprs.specs.declared.work.PartOf.TheVariants as part
 use Rattle.ecma_event_exprs.specs.Literals.{are_flags, has_old_escape, is_old_number}
+use Rattle.ecma_event_exprs.specs.Misplaced.{head_init, head_inits, of_head, part_events}
 use Rattle.swc_ecma_parser_common.specs.declared.span.Span.{Span}
 use Rattle.swc_ecma_parser_model.specs.declared.leaves.ImportPhase.{ImportPhase}
 use Rattle.swc_ecma_parser_model.specs.declared.leaves.ImportPhase.TheVariants as import_phase
@@ -334,13 +336,15 @@ abbrev mutual
   events r (tree.block s stmts) rest = event.enter region.Block s ∷ events used stmts (event.leave ∷ rest)
   events r (tree.empty s) rest = rest
   events r (tree.debugger s) rest = rest
-  events r (tree.with s obj body) rest = event.with s ∷ events used obj (events used body rest)
+  events r (tree.with s obj body) rest = event.with s ∷ events used obj (part_events part.Statement body (events used body rest))
   events r (tree.return s arg) rest = event.flow (event.return s) ∷ events used arg rest
-  events r (tree.labeled s (tree.ident t text) body) rest = event.flow (event.label (is_loop body) t text) ∷ events used body (event.flow event.end ∷ rest)
+  events r (tree.labeled s (tree.ident t text) body) rest =
+      event.flow (event.label (is_loop body) t text) ∷ part_events part.Label body (events used body (event.flow event.end ∷ rest))
   events r (tree.labeled s label body) rest = events used body rest
   events r (tree.break s label) rest = break_events s label rest
   events r (tree.continue s label) rest = continue_events s label rest
-  events r (tree.if_stmt s test cons alt) rest = events used test (events used cons (events used alt rest))
+  events r (tree.if_stmt s test cons alt) rest =
+      events used test (part_events part.Statement cons (events used cons (part_events part.Statement alt (events used alt rest))))
   events r (tree.switch s discriminant cases) rest = events used discriminant (event.enter region.Switch s ∷ events used cases (event.leave ∷ rest))
   events r (tree.case s test cons) rest = events used test (events used cons rest)
   events r (tree.throw s arg) rest = events used arg rest
@@ -348,16 +352,19 @@ abbrev mutual
   -- what a `catch` binds and what its block declares are names of one region
   events r (tree.catch s p body) rest =
       event.enter region.Catch s ∷ events (declared (catch_binding p)) p (body_events body (event.leave ∷ rest))
-  events r (tree.while s test body) rest = events used test (event.flow event.loop ∷ events used body (event.flow event.end ∷ rest))
-  events r (tree.do_while s test body) rest = event.flow event.loop ∷ events used body (event.flow event.end ∷ events used test rest)
+  events r (tree.while s test body) rest =
+      events used test (event.flow event.loop ∷ part_events part.Statement body (events used body (event.flow event.end ∷ rest)))
+  events r (tree.do_while s test body) rest =
+      event.flow event.loop ∷ part_events part.Statement body (events used body (event.flow event.end ∷ events used test rest))
   events r (tree.for s init test next body) rest =
-      event.enter region.Loop s ∷ events used init (events used test (events used next (event.flow event.loop ∷ events used body (event.flow event.end ∷ event.leave ∷ rest))))
+      let following = event.flow event.loop ∷ part_events part.Statement body (events used body (event.flow event.end ∷ event.leave ∷ rest)) in
+      event.enter region.Loop s ∷ head_inits init (events used init (events used test (events used next following)))
   events r (tree.for_in s left right body) rest =
-      let following = events used right (event.flow event.loop ∷ events used body (event.flow event.end ∷ event.leave ∷ rest)) in
-      event.enter region.Loop s ∷ head_events (events assigned left following) left following
+      let following = events used right (event.flow event.loop ∷ part_events part.Statement body (events used body (event.flow event.end ∷ event.leave ∷ rest))) in
+      head_init left (event.enter region.Loop s ∷ head_events (events assigned left following) left following)
   events r (tree.for_of s is_await left right body) rest =
-      let following = events used right (event.flow event.loop ∷ events used body (event.flow event.end ∷ event.leave ∷ rest)) in
-      awaited is_await s (event.enter region.Loop s ∷ head_events (events assigned left following) left following)
+      let following = events used right (event.flow event.loop ∷ part_events part.Statement body (events used body (event.flow event.end ∷ event.leave ∷ rest))) in
+      awaited is_await s (of_head is_await left (event.enter region.Loop s ∷ head_events (events assigned left following) left following))
   events r (tree.expr_stmt s e) rest = events used e rest
   -- imports and exports
   events r (tree.import s names src attributes phase) rest = phased phase s (events (declared binding.Import) names rest)
@@ -448,7 +455,7 @@ abbrev mutual
 
 -- the body of a loop
 abbrev pub loop_events : (body : Tree) → List Event → List Event
-loop_events body rest = event.flow event.loop ∷ events used body (event.flow event.end ∷ rest)
+loop_events body rest = event.flow event.loop ∷ part_events part.Statement body (events used body (event.flow event.end ∷ rest))
 
 -- the events of a script, a module or a program
 abbrev pub events_of : Tree → List Event

@@ -23,4 +23,4 @@ pub use members::member;
 pub use objects::{key, properties, property};
 pub use patterns::{pat, pat_property};
 pub use walk::Walk;
-pub use work::Work;
+pub use work::{PartOf, Work};

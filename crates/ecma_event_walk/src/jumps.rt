@@ -4,7 +4,7 @@ ghost use Rattle.std.specs.Prelude.{◌≡◌, OnOk};
 ghost use Rattle.ecma_event_exprs.specs.Events.{break_events, continue_events, events, is_loop, loop_events, used};
 ghost use Rattle.swc_ecma_parser_ast.specs.View.{view_break_stmt, view_continue_stmt, view_labeled_stmt, view_return_stmt};
 
-use ecma_event_exprs::{Walk, Work, optional_expr};
+use ecma_event_exprs::{PartOf, Walk, Work, optional_expr};
 use ecma_events::{Event, Flow};
 use std::alloc::AllocError;
 use swc_ecma_parser_ast::{BreakStmt, ContinueStmt, LabeledStmt, ReturnStmt, Stmt, StmtBox};
@@ -13,10 +13,11 @@ use swc_ecma_parser_ast::{BreakStmt, ContinueStmt, LabeledStmt, ReturnStmt, Stmt
 pub(crate) fn loop_body<'a>(walk: &mut Walk<'a>, body: &'a StmtBox) -> Result<(), AllocError>
     ensures { OnOk result (walk.new ≡ loop_events body.now.node.tree walk.old) }
 {
+    walk.event(Event::Flow(Flow::End))?;
     walk.three(
         Work::Event(Event::Flow(Flow::Loop)),
+        Work::Part(PartOf::Statement, body),
         Work::Stmt(body),
-        Work::Event(Event::Flow(Flow::End)),
     )
 }
 
@@ -50,10 +51,11 @@ pub(crate) fn labeled<'a>(walk: &mut Walk<'a>, x: &'a LabeledStmt) -> Result<(),
     ensures { OnOk result (walk.new ≡ events used (view_labeled_stmt x.now) walk.old) }
 {
     let is_loop = is_loop(&x.body);
+    walk.event(Event::Flow(Flow::End))?;
     walk.three(
         Work::Event(Event::Flow(Flow::Label(is_loop, &x.label))),
+        Work::Part(PartOf::Label, &x.body),
         Work::Stmt(&x.body),
-        Work::Event(Event::Flow(Flow::End)),
     )
 }
 

@@ -3,6 +3,8 @@
 ghost use Rattle.std.specs.Prelude.{◌≡◌, ◌∷◌, false, map, OnOk};
 ghost use Rattle.ecma_events.specs.Event as steps;
 ghost use Rattle.ecma_event_exprs.specs.Events.{awaited, bare, binding_of, declared_events, is_const, catch_binding, class_events, declared, events, function_binding, function_events, head_binding, head_events, loop_events, named, used, assigned};
+ghost use Rattle.ecma_event_exprs.specs.Misplaced.{head_inits, part_events};
+ghost use Rattle.ecma_event_exprs.specs.declared.work.PartOf.TheVariants as part;
 ghost use Rattle.ecma_events.specs.declared.event.Binding.TheVariants as binding;
 ghost use Rattle.ecma_events.specs.declared.event.CodeKind.TheVariants as code_kind;
 ghost use Rattle.ecma_events.specs.declared.event.Region.TheVariants as region;
@@ -13,8 +15,9 @@ ghost use Rattle.swc_ecma_parser_model.specs.Tree.{listed};
 
 use crate::jumps::{break_stmt, continue_stmt, labeled, loop_body, return_stmt};
 use ecma_event_exprs::{
-    Walk, Work, function_binding, named_class, named_function, optional_expr, pat,
+    PartOf, Walk, Work, function_binding, named_class, named_function, optional_expr, pat,
 };
+use ecma_event_parts::{head_init, of_head};
 use ecma_events::{Binding, Event, Region, Role};
 use std::alloc::AllocError;
 use swc_ecma_parser_ast::{
@@ -70,20 +73,21 @@ pub(crate) fn block<'a>(walk: &mut Walk<'a>, x: &'a BlockStmt) -> Result<(), All
 fn with<'a>(walk: &mut Walk<'a>, x: &'a WithStmt) -> Result<(), AllocError>
     ensures { OnOk result (walk.new ≡ events used (view_with_stmt x.now) walk.old) }
 {
+    walk.push(Work::Stmt(&x.body))?;
     walk.three(
         Work::Event(Event::With(x.span)),
         Work::Expr(Role::Used, &x.obj),
-        Work::Stmt(&x.body),
+        Work::Part(PartOf::Statement, &x.body),
     )
 }
 
-/// A statement that may be left out.
+/// What stands behind `else`, if anything does.
 fn optional_stmt<'a>(walk: &mut Walk<'a>, x: &'a Option<StmtBox>) -> Result<(), AllocError>
-    ensures { OnOk result
-        (walk.new ≡ events used (view_option (λ b. b.node.tree) x.now) walk.old) }
+    ensures { let t = view_option (λ b. b.node.tree) x.now in OnOk result
+        (walk.new ≡ part_events part.Statement t (events used t walk.old)) }
 {
     match x {
-        Some(x) => walk.push(Work::Stmt(x)),
+        Some(x) => walk.two(Work::Part(PartOf::Statement, x), Work::Stmt(x)),
         None => Ok(()),
     }
 }
@@ -92,7 +96,11 @@ fn if_stmt<'a>(walk: &mut Walk<'a>, x: &'a IfStmt) -> Result<(), AllocError>
     ensures { OnOk result (walk.new ≡ events used (view_if_stmt x.now) walk.old) }
 {
     optional_stmt(walk, &x.alt)?;
-    walk.two(Work::Expr(Role::Used, &x.test), Work::Stmt(&x.cons))
+    walk.three(
+        Work::Expr(Role::Used, &x.test),
+        Work::Part(PartOf::Statement, &x.cons),
+        Work::Stmt(&x.cons),
+    )
 }
 
 fn switch<'a>(walk: &mut Walk<'a>, x: &'a SwitchStmt) -> Result<(), AllocError>
@@ -360,11 +368,15 @@ fn for_stmt<'a>(walk: &mut Walk<'a>, x: &'a ForStmt) -> Result<(), AllocError>
 
 /// What a `for` begins with.
 fn var_or_expr<'a>(walk: &mut Walk<'a>, x: &'a VarDeclOrExpr) -> Result<(), AllocError>
-    ensures { OnOk result (walk.new ≡ events used (view_var_decl_or_expr x.now) walk.old) }
+    ensures { let h = view_var_decl_or_expr x.now in OnOk result
+        (walk.new ≡ head_inits h (events used h walk.old)) }
 {
     match x {
         VarDeclOrExpr::VarDecl(x) => {
-            walk.push(Work::Declarators(declared(binding_of(x.kind)), x.decls.as_slice()))
+            walk.two(
+                Work::Inits(x.decls.as_slice()),
+                Work::Declarators(declared(binding_of(x.kind)), x.decls.as_slice()),
+            )
         }
         VarDeclOrExpr::Expr(x) => walk.push(Work::Expr(Role::Used, x)),
     }
@@ -372,8 +384,8 @@ fn var_or_expr<'a>(walk: &mut Walk<'a>, x: &'a VarDeclOrExpr) -> Result<(), Allo
 
 /// The first part of a `for`, which may be left out.
 fn init<'a>(walk: &mut Walk<'a>, x: &'a Option<VarDeclOrExpr>) -> Result<(), AllocError>
-    ensures { OnOk result
-        (walk.new ≡ events used (view_option view_var_decl_or_expr x.now) walk.old) }
+    ensures { let h = view_option view_var_decl_or_expr x.now in OnOk result
+        (walk.new ≡ head_inits h (events used h walk.old)) }
 {
     match x {
         Some(x) => var_or_expr(walk, x),
@@ -417,12 +429,14 @@ fn each<'a>(
 fn for_in<'a>(walk: &mut Walk<'a>, x: &'a ForInStmt) -> Result<(), AllocError>
     ensures { OnOk result (walk.new ≡ events used (view_for_in_stmt x.now) walk.old) }
 {
-    each(walk, x.span, &x.left, &x.right, &x.body)
+    each(walk, x.span, &x.left, &x.right, &x.body)?;
+    head_init(walk, &x.left)
 }
 
 fn for_of<'a>(walk: &mut Walk<'a>, x: &'a ForOfStmt) -> Result<(), AllocError>
     ensures { OnOk result (walk.new ≡ events used (view_for_of_stmt x.now) walk.old) }
 {
     each(walk, x.span, &x.left, &x.right, &x.body)?;
+    of_head(walk, x.is_await, &x.left)?;
     awaited(walk, x.is_await, x.span)
 }

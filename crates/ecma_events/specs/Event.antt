@@ -50,6 +50,8 @@ pub data Event : Type 0 where
   export_default : Span → Event
   export_local : Span → Text → Event
   flow : Flow → Event
+  labeled_function : Span → Event
+  head_init : (is_name : Bool) → Span → Event
 
 abbrev pub flow_of : Turn → Flow
 flow_of turn.Loop = loop
@@ -89,3 +91,5 @@ event_of (step.Export s x) = export s x.now
 event_of (step.ExportDefault s) = export_default s
 event_of (step.ExportLocal s x) = export_local s x.now
 event_of (step.Flow x) = flow (flow_of x)
+event_of (step.LabeledFunction s) = labeled_function s
+event_of (step.HeadInit is_name s) = head_init is_name s

@@ -59,6 +59,16 @@ pub enum EarlyErrorKind {
     MisplacedContinue,
     /// A `return` in a static block.
     MisplacedReturn,
+    /// A function as the body of another statement, or behind a label where none may stand.
+    MisplacedFunction,
+    /// An expression that begins with `let`, where `let` would begin a declaration.
+    MisplacedLet,
+    /// `async` alone before `of`.
+    MisplacedAsync,
+    /// An initializer of a variable before `in`.
+    HeadInitializer,
+    /// The operator `in` in a head of three parts, outside of brackets.
+    MisplacedIn,
     /// A private name is declared twice in a class.
     PrivateTwice,
     /// A private name that no class around declares.

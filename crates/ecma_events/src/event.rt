@@ -154,4 +154,8 @@ pub enum Event<'a> {
     /// A name of this module that is exported by a list.
     ExportLocal(Span, &'a Atom),
     Flow(Flow<'a>),
+    /// A function behind a label that is not async.
+    LabeledFunction(Span),
+    /// An initializer before `in`, with the span of its declarator, and whether it is that of a name alone.
+    HeadInit(bool, Span),
 }

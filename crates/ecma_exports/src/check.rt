@@ -90,7 +90,9 @@ fn tell(
         | Event::Prototype(_)
         | Event::SecondProto(_)
         | Event::ExportLocal(_, _)
-        | Event::Flow(_) => Ok(()),
+        | Event::Flow(_)
+        | Event::LabeledFunction(_)
+        | Event::HeadInit(_, _) => Ok(()),
     }
 }
 
@@ -144,7 +146,9 @@ fn follow<'a>(exports: &mut Exports<'a>, event: &Event<'a>) -> Result<(), AllocE
         | Event::PrivateUse(_)
         | Event::Prototype(_)
         | Event::SecondProto(_)
-        | Event::Flow(_) => Ok(()),
+        | Event::Flow(_)
+        | Event::LabeledFunction(_)
+        | Event::HeadInit(_, _) => Ok(()),
     }
 }
 

@@ -124,7 +124,9 @@ fn tell(
         | Event::SecondProto(_)
         | Event::Export(_, _)
         | Event::ExportDefault(_)
-        | Event::ExportLocal(_, _) => Ok(()),
+        | Event::ExportLocal(_, _)
+        | Event::LabeledFunction(_)
+        | Event::HeadInit(_, _) => Ok(()),
     }
 }
 
@@ -162,7 +164,9 @@ fn follow<'a>(frames: &mut Frames<'a>, event: &Event<'a>) -> Result<(), AllocErr
         | Event::SecondProto(_)
         | Event::Export(_, _)
         | Event::ExportDefault(_)
-        | Event::ExportLocal(_, _) => Ok(()),
+        | Event::ExportLocal(_, _)
+        | Event::LabeledFunction(_)
+        | Event::HeadInit(_, _) => Ok(()),
     }
 }
 

@@ -119,7 +119,9 @@ fn step<'a>(
         | Event::Export(_, _)
         | Event::ExportDefault(_)
         | Event::ExportLocal(_, _)
-        | Event::Flow(_) => Ok(()),
+        | Event::Flow(_)
+        | Event::LabeledFunction(_)
+        | Event::HeadInit(_, _) => Ok(()),
     }
 }
 
