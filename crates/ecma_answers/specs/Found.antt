@@ -53,6 +53,9 @@ is_of_undeclared kind.MisplacedLet = false
 is_of_undeclared kind.MisplacedAsync = false
 is_of_undeclared kind.HeadInitializer = false
 is_of_undeclared kind.MisplacedIn = false
+is_of_undeclared kind.WrongAttribute = false
+is_of_undeclared kind.SecondAttribute = false
+is_of_undeclared kind.LoneSurrogate = false
 
 -- those that are told: where a part of the text stands in no tree, it may declare a name
 abbrev pub kept : (is_part_dropped : Bool) → List EarlyError → List EarlyError

@@ -100,7 +100,10 @@ fn is_of_undeclared(kind: EarlyErrorKind) -> bool
         | EarlyErrorKind::MisplacedLet
         | EarlyErrorKind::MisplacedAsync
         | EarlyErrorKind::HeadInitializer
-        | EarlyErrorKind::MisplacedIn => false,
+        | EarlyErrorKind::MisplacedIn
+        | EarlyErrorKind::WrongAttribute
+        | EarlyErrorKind::SecondAttribute
+        | EarlyErrorKind::LoneSurrogate => false,
     }
 }
 

@@ -3,6 +3,7 @@
 ghost use Rattle.std.specs.Prelude.{◌≡◌, ◌∷◌, ◌++◌, [], map, IfOk, OnOk};
 ghost use Rattle.ecma_contexts.specs.Contexts as rule;
 ghost use Rattle.ecma_contexts.specs.Contexts.{errors_of, next, told};
+ghost use Rattle.ecma_events.specs.Event as steps;
 ghost use Rattle.ecma_events.specs.Event.{event_of, flow_of};
 
 use crate::context::{Context, Contexts};
@@ -139,6 +140,28 @@ fn tell_label(errors: &mut Vec<EarlyError>, c: Context, flow: Flow<'_>) -> Resul
     }
 }
 
+/// Tells a function behind a label.
+fn tell_labeled(errors: &mut Vec<EarlyError>, c: Context, span: Span) -> Result<(), AllocError>
+    ensures { OnOk result
+        (errors.new.items ≡ errors.old.items ++ told c (steps.labeled_function span)) }
+{
+    tell_if(errors, c.is_module, EarlyErrorKind::MisplacedFunction, span)
+}
+
+/// Tells an initializer before `in`.
+fn tell_head_init(
+    errors: &mut Vec<EarlyError>,
+    c: Context,
+    is_name: bool,
+    span: Span,
+) -> Result<(), AllocError>
+    ensures { OnOk result
+        (errors.new.items ≡ errors.old.items ++ told c (steps.head_init is_name span)) }
+{
+    let is_wrong = c.is_module || !is_name && !c.is_strict;
+    tell_if(errors, is_wrong, EarlyErrorKind::HeadInitializer, span)
+}
+
 /// Tells what is wrong at an event.
 fn tell(errors: &mut Vec<EarlyError>, c: Context, event: &Event<'_>) -> Result<(), AllocError>
     ensures { OnOk result (errors.new.items ≡ errors.old.items ++ told c (event_of event.now)) }
@@ -196,13 +219,8 @@ fn tell(errors: &mut Vec<EarlyError>, c: Context, event: &Event<'_>) -> Result<(
         }
         Event::Wrong(kind, span) => tell_if(errors, true, kind, span),
         Event::Flow(flow) => tell_label(errors, c, flow),
-        Event::LabeledFunction(span) => {
-            tell_if(errors, c.is_module, EarlyErrorKind::MisplacedFunction, span)
-        }
-        Event::HeadInit(is_name, span) => {
-            let is_wrong = c.is_module || !is_name && !c.is_strict;
-            tell_if(errors, is_wrong, EarlyErrorKind::HeadInitializer, span)
-        }
+        Event::LabeledFunction(span) => tell_labeled(errors, c, span),
+        Event::HeadInit(is_name, span) => tell_head_init(errors, c, is_name, span),
         Event::Prototype(span) => tell_if(errors, true, EarlyErrorKind::StaticPrototype, span),
         Event::SecondProto(span) => tell_if(errors, true, EarlyErrorKind::SecondProto, span),
         Event::Enter(_, _)
@@ -214,7 +232,9 @@ fn tell(errors: &mut Vec<EarlyError>, c: Context, event: &Event<'_>) -> Result<(
         | Event::PrivateUse(_)
         | Event::Export(_, _)
         | Event::ExportDefault(_)
-        | Event::ExportLocal(_, _) => Ok(()),
+        | Event::ExportLocal(_, _)
+        | Event::Attributes(_)
+        | Event::Attribute(_, _) => Ok(()),
     }
 }
 
@@ -251,7 +271,9 @@ fn follow(contexts: &mut Contexts, event: &Event<'_>) -> Result<(), AllocError>
         | Event::ExportLocal(_, _)
         | Event::Flow(_)
         | Event::LabeledFunction(_)
-        | Event::HeadInit(_, _) => {}
+        | Event::HeadInit(_, _)
+        | Event::Attributes(_)
+        | Event::Attribute(_, _) => {}
     }
     Ok(())
 }

@@ -51,6 +51,9 @@ macro_rules! sentence {
             MisplacedAsync: "`async` alone cannot stand before `of`; choose another name, or put parentheses around it (ECMA-262, 14.7.5)",
             HeadInitializer: "a variable before `in` cannot have an initializer; assign to it before the loop (ECMA-262, 14.7.5)",
             MisplacedIn: "`in` is not an operator in the head of a `for`; put parentheses around it (ECMA-262, 14.7.4)",
+            WrongAttribute: "an attribute of an import is a name or a string, with a string as its value (ECMA-262, 16.2.2)",
+            SecondAttribute: "this attribute is already given; remove one of the two (ECMA-262, 16.2.2)",
+            LoneSurrogate: "a string that names an import or an export cannot have half of a surrogate pair; write both halves (ECMA-262, 16.2.1.1)",
             PrivateTwice: "this class already declares this private name; rename one of the two (ECMA-262, 15.7.1)",
             PrivateUndeclared: "no class around this declares this private name; declare it, or correct its spelling (ECMA-262, 16.1.1)",
             ExportedTwice: "this name is already exported; remove one of the two (ECMA-262, 16.2.1.1)",
@@ -97,6 +100,9 @@ pub fn name(kind: EarlyErrorKind) -> &'static str
         EarlyErrorKind::MisplacedAsync => "MisplacedAsync",
         EarlyErrorKind::HeadInitializer => "HeadInitializer",
         EarlyErrorKind::MisplacedIn => "MisplacedIn",
+        EarlyErrorKind::WrongAttribute => "WrongAttribute",
+        EarlyErrorKind::SecondAttribute => "SecondAttribute",
+        EarlyErrorKind::LoneSurrogate => "LoneSurrogate",
         EarlyErrorKind::PrivateTwice => "PrivateTwice",
         EarlyErrorKind::PrivateUndeclared => "PrivateUndeclared",
         EarlyErrorKind::ExportedTwice => "ExportedTwice",
@@ -118,6 +124,7 @@ pub fn note(kind: EarlyErrorKind) -> &'static str
     match kind {
         EarlyErrorKind::ExportedTwice => "first exported here",
         EarlyErrorKind::EqualParameters => "the other parameter",
+        EarlyErrorKind::SecondAttribute => "first given here",
         _ => "declared here",
     }
 }

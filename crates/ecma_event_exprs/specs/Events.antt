@@ -17,6 +17,7 @@ use Rattle.ecma_events.specs.Event.{Event}
 use Rattle.ecma_event_exprs.specs.declared.work.PartOf.TheVariants as part
 use Rattle.ecma_event_exprs.specs.Literals.{are_flags, has_old_escape, is_old_number}
 use Rattle.ecma_event_exprs.specs.Misplaced.{head_init, head_inits, of_head, part_events}
+use Rattle.ecma_surrogates.specs.Surrogates.{has_lone_surrogate}
 use Rattle.swc_ecma_parser_common.specs.declared.span.Span.{Span}
 use Rattle.swc_ecma_parser_model.specs.declared.leaves.ImportPhase.{ImportPhase}
 use Rattle.swc_ecma_parser_model.specs.declared.leaves.ImportPhase.TheVariants as import_phase
@@ -209,6 +210,44 @@ is_proto _ = false
 abbrev pub second_proto : (seen : Bool) → Tree → List Event → List Event
 second_proto seen p rest = if is_proto p && seen then event.second_proto (span_of p) ∷ rest else rest
 
+-- a string that names what is imported or exported, with a lone surrogate (16.2.1.1) and with escapes in old forms
+abbrev pub lone_surrogate : Span → (raw : Text) → List Event → List Event
+lone_surrogate s raw rest = if has_lone_surrogate raw then event.wrong error.LoneSurrogate s ∷ rest else rest
+
+abbrev pub module_name : Tree → List Event → List Event
+module_name (tree.str s value raw) rest = lone_surrogate s raw (string s raw rest)
+module_name _ rest = rest
+
+-- The attributes of an import: each is a word or a string with a string (16.2.2).
+abbrev pub is_string : Tree → Bool
+is_string (tree.str s value raw) = true
+is_string _ = false
+
+abbrev pub attribute_key : Tree → List Event → List Event
+attribute_key (tree.ident s text) rest = event.attribute s text ∷ rest
+attribute_key (tree.str s value raw) rest = event.attribute s value ∷ string s raw rest
+attribute_key key rest = event.wrong error.WrongAttribute (span_of key) ∷ rest
+
+abbrev pub attribute_value : Tree → List Event → List Event
+attribute_value value rest = if is_string value then literal_key value rest else event.wrong error.WrongAttribute (span_of value) ∷ rest
+
+abbrev pub attribute_events : Tree → List Event → List Event
+attribute_events (tree.key_value_prop s key value) rest = attribute_key key (attribute_value value rest)
+attribute_events (tree.spread_prop dots e) rest = event.wrong error.WrongAttribute dots ∷ rest
+attribute_events p rest = event.wrong error.WrongAttribute (span_of p) ∷ rest
+
+abbrev pub all_attribute_events : Trees → List Event → List Event
+all_attribute_events none rest = rest
+all_attribute_events (also p ps) rest = attribute_events p (all_attribute_events ps rest)
+
+abbrev pub attributes : Tree → List Event → List Event
+attributes (tree.object s (tree.list ps)) rest = event.attributes s ∷ all_attribute_events ps rest
+attributes _ rest = rest
+
+-- what stands behind the names of an import or export: the module, and attributes
+abbrev pub source : (src given : Tree) → List Event → List Event
+source src given rest = literal_key src (attributes given rest)
+
 -- a name that is exported
 abbrev pub exported : Tree → List Event → List Event
 exported (tree.ident s text) rest = event.export s text ∷ rest
@@ -223,10 +262,10 @@ local _ rest = rest
 
 -- names that are exported: the second name where there is one; of this module where there is no source
 abbrev pub specifier : (is_local : Bool) → Tree → List Event → List Event
-specifier is_local (tree.export_namespace s name) rest = exported name rest
+specifier is_local (tree.export_namespace s name) rest = exported name (module_name name rest)
 specifier is_local (tree.export_default name) rest = exported name rest
 specifier is_local (tree.export_specifier s orig name) rest =
-    let following = exported (if is_absent name then orig else name) rest in
+    let following = exported (if is_absent name then orig else name) (module_name orig (module_name name rest)) in
     if is_local then local orig following else following
 specifier is_local _ rest = rest
 
@@ -367,16 +406,16 @@ abbrev mutual
       awaited is_await s (of_head is_await left (event.enter region.Loop s ∷ head_events (events assigned left following) left following))
   events r (tree.expr_stmt s e) rest = events used e rest
   -- imports and exports
-  events r (tree.import s names src attributes phase) rest = phased phase s (events (declared binding.Import) names rest)
-  events r (tree.import_named s name imported) rest = events r name rest
+  events r (tree.import s names src given phase) rest = phased phase s (events (declared binding.Import) names (source src given rest))
+  events r (tree.import_named s name imported) rest = events r name (module_name imported rest)
   events r (tree.import_default s name) rest = events r name rest
   events r (tree.import_namespace s name) rest = events r name rest
   events r (tree.export_decl s d) rest = declared_events true d rest
-  events r (tree.export_named s (tree.list names) src attributes) rest = specifiers (is_absent src) names rest
-  events r (tree.export_named s names src attributes) rest = rest
+  events r (tree.export_named s (tree.list names) src given) rest = specifiers (is_absent src) names (source src given rest)
+  events r (tree.export_named s names src given) rest = rest
   events r (tree.export_default_decl s d) rest = event.export_default s ∷ default_events d rest
   events r (tree.export_default_expr s e) rest = event.export_default s ∷ events used e rest
-  events r (tree.export_all s src attributes) rest = rest
+  events r (tree.export_all s src given) rest = source src given rest
   events r (tree.export_namespace s name) rest = rest
   events r (tree.export_default name) rest = rest
   events r (tree.export_specifier s orig name) rest = rest

@@ -3,7 +3,7 @@ use Rattle.std.specs.Prelude.{List, [], ◌∷◌, map}
 use Rattle.ecma_event_exprs.specs.declared.work.Work.{Work}
 use Rattle.ecma_event_exprs.specs.declared.work.Work.TheVariants as w
 use Rattle.ecma_events.specs.Event.{Event, event_of}
-use Rattle.ecma_event_exprs.specs.Events.{events, all_events, body_events, deleted, key_events, property_events, specifiers, used, declared}
+use Rattle.ecma_event_exprs.specs.Events.{all_attribute_events, all_events, attribute_events, attribute_value, body_events, declared, deleted, events, key_events, property_events, specifiers, used}
 use Rattle.ecma_event_exprs.specs.Misplaced.{all_init_events, in_events, init_events, part_events, start_events}
 use Rattle.ecma_events.specs.declared.event.Binding.TheVariants as binding
 use Rattle.swc_ecma_parser_ast.specs.Parts.{view_option}
@@ -54,6 +54,9 @@ work_events (w.Part p x) rest = part_events p x.now.node.tree rest
 work_events (w.Start is_head is_before_bracket x) rest = start_events is_head is_before_bracket x.now.node.tree rest
 work_events (w.In x) rest = in_events x.now.node.tree rest
 work_events (w.Init x) rest = init_events (view_declarator x.now) rest
+work_events (w.Attribute x) rest = attribute_events (view_prop_or_spread x.now) rest
+work_events (w.Attributes xs) rest = all_attribute_events (trees (map view_prop_or_spread xs.now)) rest
+work_events (w.AttributeValue x) rest = attribute_value x.now.node.tree rest
 work_events (w.Inits xs) rest = all_init_events (trees (map view_declarator xs.now)) rest
 
 -- the stack's top is its first

@@ -116,7 +116,7 @@ fn are_flags(bytes: &[u8]) -> bool
 }
 
 /// Tells a string with an escape in an old form.
-pub(crate) fn string<'a>(walk: &mut Walk<'a>, x: &'a Str) -> Result<(), AllocError>
+pub fn string<'a>(walk: &mut Walk<'a>, x: &'a Str) -> Result<(), AllocError>
     ensures { OnOk result (walk.new ≡ string x.now.span x.now.raw walk.old) }
 {
     if has_old_escape(x.raw.as_str().as_bytes()) {
@@ -146,7 +146,7 @@ fn regex<'a>(walk: &mut Walk<'a>, x: &'a Regex) -> Result<(), AllocError>
 }
 
 /// A literal.
-pub(crate) fn literal<'a>(walk: &mut Walk<'a>, x: &'a Lit) -> Result<(), AllocError>
+pub fn literal<'a>(walk: &mut Walk<'a>, x: &'a Lit) -> Result<(), AllocError>
     ensures { OnOk result (walk.new ≡ events used (view_lit x.now) walk.old) }
 {
     match x {

@@ -70,4 +70,8 @@ pub enum Work<'a> {
     /// The initializer of a variable in a head of three parts: operators `in`.
     Init(&'a VarDeclarator),
     Inits(&'a [VarDeclarator]),
+    /// An attribute of an import.
+    Attribute(&'a PropOrSpread),
+    Attributes(&'a [PropOrSpread]),
+    AttributeValue(&'a ExprBox),
 }

@@ -16,11 +16,20 @@ use swc_ecma_parser_ast::{
     BinaryOp, BlockStmtOrExpr, Expr, ExprBox, ForHead, Ident, Pat, Span, VarDeclarator,
 };
 
+fn is_in(op: BinaryOp) -> bool
+    ensures { result ≡ found.is_in op }
+{
+    match op {
+        BinaryOp::In => true,
+        _ => false,
+    }
+}
+
 /// Tells an operator `in`.
 fn in_operator(walk: &mut Walk<'_>, op: BinaryOp, span: Span) -> Result<(), AllocError>
     ensures { OnOk result (walk.new ≡ in_operator op span walk.old) }
 {
-    if op == BinaryOp::In {
+    if is_in(op) {
         return walk.event(Event::Wrong(EarlyErrorKind::MisplacedIn, span));
     }
     Ok(())

@@ -11,7 +11,9 @@ use crate::{items, lists, stmts};
 use ecma_event_exprs::{
     Walk, Work, delete, expr, key, member, member_key, pat, pat_property, properties, property,
 };
-use ecma_event_parts::{init, inits, operators, part, start};
+use ecma_event_parts::{
+    attribute, attribute_value, attributes, init, inits, operators, part, start,
+};
 use ecma_events::{Binding, Event, Role};
 use std::alloc::AllocError;
 use swc_ecma_parser_ast::{ExprBox, Param, PatBox, StmtBox, StmtList};
@@ -119,6 +121,9 @@ fn step<'a>(walk: &mut Walk<'a>, work: Work<'a>) -> Result<(), AllocError>
         Work::In(x) => operators(walk, x),
         Work::Init(x) => init(walk, x),
         Work::Inits(xs) => inits(walk, xs),
+        Work::Attribute(x) => attribute(walk, x),
+        Work::Attributes(xs) => attributes(walk, xs),
+        Work::AttributeValue(x) => attribute_value(walk, x),
     }
 }
 

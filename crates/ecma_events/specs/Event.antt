@@ -52,6 +52,8 @@ pub data Event : Type 0 where
   flow : Flow → Event
   labeled_function : Span → Event
   head_init : (is_name : Bool) → Span → Event
+  attributes : Span → Event
+  attribute : Span → Text → Event
 
 abbrev pub flow_of : Turn → Flow
 flow_of turn.Loop = loop
@@ -93,3 +95,5 @@ event_of (step.ExportLocal s x) = export_local s x.now
 event_of (step.Flow x) = flow (flow_of x)
 event_of (step.LabeledFunction s) = labeled_function s
 event_of (step.HeadInit is_name s) = head_init is_name s
+event_of (step.Attributes s) = attributes s
+event_of (step.Attribute s x) = attribute s x.now

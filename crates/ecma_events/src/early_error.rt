@@ -69,6 +69,12 @@ pub enum EarlyErrorKind {
     HeadInitializer,
     /// The operator `in` in a head of three parts, outside of brackets.
     MisplacedIn,
+    /// An attribute of an import that is no word or string with a string.
+    WrongAttribute,
+    /// A second attribute of an import with the same key.
+    SecondAttribute,
+    /// A string that names an import or an export, with half of a surrogate pair.
+    LoneSurrogate,
     /// A private name is declared twice in a class.
     PrivateTwice,
     /// A private name that no class around declares.

@@ -158,4 +158,8 @@ pub enum Event<'a> {
     LabeledFunction(Span),
     /// An initializer before `in`, with the span of its declarator, and whether it is that of a name alone.
     HeadInit(bool, Span),
+    /// The attributes of an import begin, with the span of all of them.
+    Attributes(Span),
+    /// The key of an attribute.
+    Attribute(Span, &'a Atom),
 }

@@ -126,7 +126,9 @@ fn tell(
         | Event::ExportDefault(_)
         | Event::ExportLocal(_, _)
         | Event::LabeledFunction(_)
-        | Event::HeadInit(_, _) => Ok(()),
+        | Event::HeadInit(_, _)
+        | Event::Attributes(_)
+        | Event::Attribute(_, _) => Ok(()),
     }
 }
 
@@ -166,7 +168,9 @@ fn follow<'a>(frames: &mut Frames<'a>, event: &Event<'a>) -> Result<(), AllocErr
         | Event::ExportDefault(_)
         | Event::ExportLocal(_, _)
         | Event::LabeledFunction(_)
-        | Event::HeadInit(_, _) => Ok(()),
+        | Event::HeadInit(_, _)
+        | Event::Attributes(_)
+        | Event::Attribute(_, _) => Ok(()),
     }
 }
 

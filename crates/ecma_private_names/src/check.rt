@@ -121,7 +121,9 @@ fn step<'a>(
         | Event::ExportLocal(_, _)
         | Event::Flow(_)
         | Event::LabeledFunction(_)
-        | Event::HeadInit(_, _) => Ok(()),
+        | Event::HeadInit(_, _)
+        | Event::Attributes(_)
+        | Event::Attribute(_, _) => Ok(()),
     }
 }
 

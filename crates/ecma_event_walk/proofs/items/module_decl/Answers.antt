@@ -19,3 +19,6 @@ returns-in-ExportDefaultDecl c = arm c.default_decl.result _ c.args.walk.now use
 
 pub returns-in-ExportDefaultExpr : goal.returns-in-ExportDefaultExpr
 returns-in-ExportDefaultExpr c = arm c.default_expr.result _ c.args.walk.now used (view_module_decl c.args.x.now) _ (ap view_module_decl c.in-ExportDefaultExpr.is) c.default_expr.ensures
+
+pub returns-in-ExportAll : goal.returns-in-ExportAll
+returns-in-ExportAll c = arm c.export_all.result _ c.args.walk.now used (view_module_decl c.args.x.now) _ (ap view_module_decl c.in-ExportAll.is) c.export_all.ensures

@@ -133,3 +133,12 @@ returns-in-Init c = work_arm c.init.result _ c.args.walk.now c.args.work _ c.in-
 
 pub returns-in-Inits : goal.returns-in-Inits
 returns-in-Inits c = work_arm c.inits.result _ c.args.walk.now c.args.work _ c.in-Inits.is c.inits.ensures
+
+pub returns-in-Attribute : goal.returns-in-Attribute
+returns-in-Attribute c = work_arm c.attribute.result _ c.args.walk.now c.args.work _ c.in-Attribute.is c.attribute.ensures
+
+pub returns-in-Attributes : goal.returns-in-Attributes
+returns-in-Attributes c = work_arm c.attributes.result _ c.args.walk.now c.args.work _ c.in-Attributes.is c.attributes.ensures
+
+pub returns-in-AttributeValue : goal.returns-in-AttributeValue
+returns-in-AttributeValue c = work_arm c.attribute_value.result _ c.args.walk.now c.args.work _ c.in-AttributeValue.is c.attribute_value.ensures
