@@ -19,7 +19,7 @@ pub use classes::{class, named_class};
 pub use directives::are_directed;
 pub use exprs::{delete, expr, member_key, optional_expr};
 pub use functions::{function, function_binding, named_function, optional_name};
-pub use literals::{literal, string};
+pub use literals::string;
 pub use members::member;
 pub use objects::{key, properties, property};
 pub use patterns::{pat, pat_property};

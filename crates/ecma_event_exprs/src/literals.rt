@@ -146,7 +146,7 @@ fn regex<'a>(walk: &mut Walk<'a>, x: &'a Regex) -> Result<(), AllocError>
 }
 
 /// A literal.
-pub fn literal<'a>(walk: &mut Walk<'a>, x: &'a Lit) -> Result<(), AllocError>
+pub(crate) fn literal<'a>(walk: &mut Walk<'a>, x: &'a Lit) -> Result<(), AllocError>
     ensures { OnOk result (walk.new ≡ events used (view_lit x.now) walk.old) }
 {
     match x {

@@ -1,14 +1,16 @@
 //! Functions and expressions as parts of statements, where they may not stand.
 
-ghost use Rattle.std.specs.Prelude.{◌≡◌, OnOk};
+ghost use Rattle.std.specs.Prelude.{◌≡◌, ◌∷◌, OnOk};
 ghost use Rattle.ecma_event_exprs.specs.Misplaced.{function_part, labeled_part, part_events, start_part};
 ghost use Rattle.ecma_event_exprs.specs.declared.work.PartOf.TheVariants as part;
+ghost use Rattle.ecma_events.specs.Event as steps;
+ghost use Rattle.ecma_events.specs.declared.early_error.EarlyErrorKind.TheVariants as error;
 ghost use Rattle.swc_ecma_parser_ast.specs.View.{view_decl, view_fn_decl, view_function, view_stmt};
 
 use ecma_event_exprs::{PartOf, Walk, Work};
 use ecma_events::{EarlyErrorKind, Event};
 use std::alloc::AllocError;
-use swc_ecma_parser_ast::{Decl, ExprBox, FnDecl, Function, Stmt, StmtBox};
+use swc_ecma_parser_ast::{Decl, ExprBox, FnDecl, Function, Span, Stmt, StmtBox};
 
 /// A statement as a part of another: what of it may not stand there.
 pub fn part<'a>(walk: &mut Walk<'a>, part_of: PartOf, x: &'a StmtBox) -> Result<(), AllocError>
@@ -61,20 +63,35 @@ fn fn_part<'a>(walk: &mut Walk<'a>, part_of: PartOf, x: &'a FnDecl) -> Result<()
     function_part(walk, part_of, &x.function)
 }
 
+fn wrong(walk: &mut Walk<'_>, span: Span) -> Result<(), AllocError>
+    ensures { OnOk result (walk.new ≡ steps.wrong error.MisplacedFunction span ∷ walk.old) }
+{
+    walk.event(Event::Wrong(EarlyErrorKind::MisplacedFunction, span))
+}
+
 /// Tells a function where none may stand; the parser tells those of `if`, loops and `with` that are not async.
 fn function_part(walk: &mut Walk<'_>, part_of: PartOf, x: &Function) -> Result<(), AllocError>
     ensures { OnOk result (walk.new ≡ function_part part_of (view_function x.now) walk.old) }
 {
-    let is_wrong = match part_of {
-        PartOf::Statement | PartOf::Label => x.is_async,
-        PartOf::LabeledPart => !x.is_async,
-    };
-    if is_wrong {
-        return walk.event(Event::Wrong(EarlyErrorKind::MisplacedFunction, x.span));
-    }
     match part_of {
-        PartOf::Label => walk.event(Event::LabeledFunction(x.span)),
-        PartOf::Statement | PartOf::LabeledPart => Ok(()),
+        PartOf::Statement => {
+            if x.is_async {
+                return wrong(walk, x.span);
+            }
+            Ok(())
+        }
+        PartOf::Label => {
+            if x.is_async {
+                return wrong(walk, x.span);
+            }
+            walk.event(Event::LabeledFunction(x.span))
+        }
+        PartOf::LabeledPart => {
+            if x.is_async {
+                return Ok(());
+            }
+            wrong(walk, x.span)
+        }
     }
 }
 
