@@ -8,7 +8,7 @@ ghost use Rattle.ecma_events.specs.Event.{event_of, flow_of};
 
 use crate::context::{Context, Contexts};
 use crate::words::{is_restricted, is_strict_word};
-use ecma_events::{Binding, EarlyError, EarlyErrorKind, Event, Flow, Role};
+use ecma_events::{Binding, EarlyError, EarlyErrorKind, EarlyErrorKind as Kind, Event, Flow, Role};
 use std::alloc::{AllocError, Global};
 use swc_ecma_parser_common::Span;
 use swc_ecma_parser_model::Ident;
@@ -168,61 +168,32 @@ fn tell(errors: &mut Vec<EarlyError>, c: Context, event: &Event<'_>) -> Result<(
 {
     match *event {
         Event::Name(role, name) => tell_name(errors, c, role, name),
-        Event::DeleteName(span) => {
-            tell_if(errors, c.is_strict, EarlyErrorKind::NameDeleted, span)
-        }
-        Event::DeletePrivate(span) => {
-            tell_if(errors, true, EarlyErrorKind::PrivateDeleted, span)
-        }
+        Event::DeleteName(span) => tell_if(errors, c.is_strict, Kind::NameDeleted, span),
+        Event::DeletePrivate(span) => tell_if(errors, true, Kind::PrivateDeleted, span),
         Event::With(span) => {
             let is_wrong = c.is_strict && !c.is_module;
-            tell_if(errors, is_wrong, EarlyErrorKind::WithInStrict, span)
+            tell_if(errors, is_wrong, Kind::WithInStrict, span)
         }
-        Event::Using(span) => {
-            tell_if(errors, c.bans_using, EarlyErrorKind::MisplacedUsing, span)
-        }
-        Event::SuperCall(span) => {
-            tell_if(
-                errors,
-                !c.super_calls,
-                EarlyErrorKind::MisplacedSuperCall,
-                span,
-            )
-        }
-        Event::SuperMember(span) => {
-            tell_if(
-                errors,
-                !c.super_members,
-                EarlyErrorKind::MisplacedSuper,
-                span,
-            )
-        }
+        Event::Using(span) => tell_if(errors, c.bans_using, Kind::MisplacedUsing, span),
+        Event::SuperCall(span) => tell_if(errors, !c.super_calls, Kind::MisplacedSuperCall, span),
+        Event::SuperMember(span) => tell_if(errors, !c.super_members, Kind::MisplacedSuper, span),
         Event::Await(span) => {
             let is_wrong = c.bans_await && c.takes_await;
-            tell_if(errors, is_wrong, EarlyErrorKind::MisplacedAwait, span)
+            tell_if(errors, is_wrong, Kind::MisplacedAwait, span)
         }
-        Event::Awaits(span) => tell_if(errors, c.bans_await, EarlyErrorKind::MisplacedAwait, span),
-        Event::Yield(span) => tell_if(errors, c.bans_yield, EarlyErrorKind::MisplacedYield, span),
+        Event::Awaits(span) => tell_if(errors, c.bans_await, Kind::MisplacedAwait, span),
+        Event::Yield(span) => tell_if(errors, c.bans_yield, Kind::MisplacedYield, span),
         Event::NewTarget(span) => {
-            tell_if(
-                errors,
-                !c.has_new_target,
-                EarlyErrorKind::MisplacedNewTarget,
-                span,
-            )
+            tell_if(errors, !c.has_new_target, Kind::MisplacedNewTarget, span)
         }
-        Event::OldNumber(span) => {
-            tell_if(errors, c.is_strict, EarlyErrorKind::OldNumberInStrict, span)
-        }
-        Event::OldString(span) => {
-            tell_if(errors, c.is_strict, EarlyErrorKind::OldEscapeInStrict, span)
-        }
+        Event::OldNumber(span) => tell_if(errors, c.is_strict, Kind::OldNumberInStrict, span),
+        Event::OldString(span) => tell_if(errors, c.is_strict, Kind::OldEscapeInStrict, span),
         Event::Wrong(kind, span) => tell_if(errors, true, kind, span),
         Event::Flow(flow) => tell_label(errors, c, flow),
         Event::LabeledFunction(span) => tell_labeled(errors, c, span),
         Event::HeadInit(is_name, span) => tell_head_init(errors, c, is_name, span),
-        Event::Prototype(span) => tell_if(errors, true, EarlyErrorKind::StaticPrototype, span),
-        Event::SecondProto(span) => tell_if(errors, true, EarlyErrorKind::SecondProto, span),
+        Event::Prototype(span) => tell_if(errors, true, Kind::StaticPrototype, span),
+        Event::SecondProto(span) => tell_if(errors, true, Kind::SecondProto, span),
         Event::Enter(_, _)
         | Event::Leave
         | Event::Body

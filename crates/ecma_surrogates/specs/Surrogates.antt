@@ -1,6 +1,6 @@
 -- Lone surrogates in a string as it is written (11.1.4): an escape of a high one with no escape of a low one right behind it, and one of a low one with
 -- no high one before it. The text between the escapes has whole characters.
-use Rattle.std.specs.Prelude.{ℕ, Bool, true, false, not, ◌&&◌, ◌||◌, ◌==◌, ◌-◌, nat_le, nat_lt, if◌then◌else◌, List, [], ◌∷◌}
+use Rattle.std.specs.Prelude.{ℕ, Bool, false, not, ◌&&◌, ◌||◌, ◌==◌, ◌-◌, nat_le, nat_lt, if◌then◌else◌, List, [], ◌∷◌}
 use Rattle.ecma_surrogates.specs.declared.surrogates.Place.{Place}
 use Rattle.ecma_surrogates.specs.declared.surrogates.Place.TheVariants as place
 use Rattle.ecma_surrogates.specs.declared.surrogates.Half.{Half}
