@@ -22,7 +22,7 @@ ghost use Rattle.swc_ecma_parser_reader.specs.Reader as rules;
 ghost use Rattle.swc_ecma_parser_reader.specs.State.{Gives, GivesAs};
 
 use crate::covering::Covering;
-use crate::levels::cover_level;
+use crate::levels::{cover_level, pat_level};
 use swc_ecma_parser_classes::class::{NamedClass, class_decl_with, class_expr_with};
 use swc_ecma_parser_classes::readers::ClassGrammar;
 use swc_ecma_parser_common::Span;
@@ -35,14 +35,12 @@ use swc_ecma_parser_literals::object::object_level;
 use swc_ecma_parser_members::decorators::{Leading, leading_decorators, misplaced};
 use swc_ecma_parser_members::member::member_level;
 use swc_ecma_parser_model::VarDeclKind;
-use swc_ecma_parser_operators::decorator::decorated_level;
 use swc_ecma_parser_operators::operator::expr_level;
-use swc_ecma_parser_patterns::pat::{element_level, pattern_level};
 use swc_ecma_parser_recovery::recovery::declaration_end;
 use swc_ecma_parser_shared::cover::{Cover, Reading, done};
 use swc_ecma_parser_shared::grammar::{Grammar, Part};
-use swc_ecma_parser_shared::steps::{grown, since, with_in};
-use swc_ecma_parser_statements::variables::declarators;
+use swc_ecma_parser_shared::steps::grown;
+use swc_ecma_parser_statements::variables::{declarators, variables};
 use swc_ecma_parser_token::TokenKind;
 use swc_ecma_parser_trees::{BuildsStatements, MakerOf};
 
@@ -261,8 +259,8 @@ pub fn expr<P: Cursor, T: BuildsStatements>(
         Reading::Cover => covered::<P, T>(t, p, depth, Covering::Whole),
         Reading::Head => covered::<P, T>(t, p, depth, Covering::Head),
         Reading::Class => Ok(done(class_expression::<P, T>(t, p, depth)?)),
-        Reading::Decorated => Ok(done(decorated::<P, T>(t, p, depth)?)),
-        Reading::Object => Ok(done(object_alone::<P, T>(t, p, depth)?)),
+        Reading::Decorated => covered::<P, T>(t, p, depth, Covering::Decorated),
+        Reading::Object => covered::<P, T>(t, p, depth, Covering::Object),
         Reading::Behind(start) => covered::<P, T>(t, p, depth, Covering::Behind(start)),
         Reading::BehindAwait(start) => {
             covered::<P, T>(t, p, depth, Covering::BehindAwait(start))
@@ -328,26 +326,7 @@ fn covered<P: Cursor, T: BuildsStatements>(
     cover_level(&g, t, p, place)
 }
 
-/// What stands behind the `@` of a decorator, in so many levels.
-#[cycle(knot)]
-#[tactic(auto, using(swc_ecma_parser_reader::proofs::decorators::Loops::decorated_lowest, swc_ecma_parser_reader::proofs::decorators::Loops::decorated_above))]
-#[inline(never)]
-fn decorated<P: Cursor, T: BuildsStatements>(
-    t: &MakerOf<T>,
-    p: &mut P,
-    depth: usize,
-) -> PResult<T::Expr>
-    ensures { GivesAs T.expr_of (decorated_in depth (P.seen p.old)) result (P.seen p.new) }
-{
-    if depth == 0 {
-        return Err(p.too_deep());
-    }
-    let g = readers!(depth - 1);
-    decorated_level(&g, t, p)
-}
-
 /// An object alone, whatever stands behind it, in so many levels: what the attributes of an import are.
-#[cycle(knot)]
 #[tactic(auto, using(swc_ecma_parser_reader::proofs::Objects::object_lowest, swc_ecma_parser_reader::proofs::Objects::object_above))]
 #[inline(never)]
 pub fn object_alone<P: Cursor, T: BuildsStatements>(
@@ -530,10 +509,7 @@ pub fn pat<P: Cursor, T: BuildsStatements>(
         return Err(p.too_deep());
     }
     let g = readers!(depth - 1);
-    match part {
-        Part::Pattern => pattern_level(&g, t, p),
-        Part::Element => element_level(&g, t, p),
-    }
+    pat_level(&g, t, p, part)
 }
 
 /// Whether a function begins here.
@@ -546,7 +522,6 @@ fn begins_function<P: Cursor>(p: &P) -> bool
 }
 
 /// The declarators of a declaration, in so many levels.
-#[cycle(knot)]
 pub fn inner_declarators<P: Cursor, T: BuildsStatements>(
     t: &MakerOf<T>,
     p: &mut P,
@@ -562,7 +537,6 @@ pub fn inner_declarators<P: Cursor, T: BuildsStatements>(
 }
 
 /// The end of a declaration, where what is dropped for want of one stands in so many levels.
-#[cycle(knot)]
 pub fn inner_declaration_end<P: Cursor, T: BuildsStatements>(
     t: &MakerOf<T>,
     p: &mut P,
@@ -675,7 +649,6 @@ pub fn declared_function<P: Cursor, T: BuildsStatements>(
 
 /// A declaration of `var`, in so many levels.
 #[cycle(knot)]
-#[tactic(auto, unfolding(swc_ecma_parser_reader::specs::Reader::variables, swc_ecma_parser_grammar::specs::Looks::spanned))]
 #[inline(never)]
 fn declared_variables<P: Cursor, T: BuildsStatements>(
     t: &MakerOf<T>,
@@ -686,13 +659,6 @@ fn declared_variables<P: Cursor, T: BuildsStatements>(
         (rules.variables (rules.expr depth) (rules.pattern depth) decl.Var (P.seen p.old)) result
         (P.seen p.new) }
 {
-    let start = p.span();
-    p.skip()?;
-    let outer = p.flags();
-    p.set_flags(with_in(outer));
-    let found = inner_declarators::<P, T>(t, p, depth, VarDeclKind::Var)?;
-    p.set_flags(outer);
-    inner_declaration_end::<P, T>(t, p, depth)?;
-    let span = since(p, start);
-    grown(p, T::var(t.alloc, span, VarDeclKind::Var, found))
+    let g = readers!(depth);
+    variables(&g, t, p, VarDeclKind::Var)
 }

@@ -11,12 +11,6 @@ decreases-right_operand g l = 8 * l.depth
 abbrev pub decreases-covered : goal.decreases-covered
 decreases-covered g l = 8 * l.depth
 
-abbrev pub decreases-decorated : goal.decreases-decorated
-decreases-decorated g l = 8 * l.depth
-
-abbrev pub decreases-object_alone : goal.decreases-object_alone
-decreases-object_alone g l = 8 * l.depth
-
 abbrev pub decreases-member : goal.decreases-member
 decreases-member g l = 8 * l.depth
 
@@ -53,12 +47,6 @@ abbrev pub decreases-pat : goal.decreases-pat
 decreases-pat g l = 8 * l.depth + 4
 
 -- what a declaration, a function and a list of decorators hold is read in as many levels as they have
-abbrev pub decreases-inner_declarators : goal.decreases-inner_declarators
-decreases-inner_declarators g l = 8 * l.depth + 5
-
-abbrev pub decreases-inner_declaration_end : goal.decreases-inner_declaration_end
-decreases-inner_declaration_end g l = 8 * l.depth + 5
-
 abbrev pub decreases-inner_function_with : goal.decreases-inner_function_with
 decreases-inner_function_with g l = 8 * l.depth + 5
 
