@@ -10,7 +10,7 @@ use Rattle.swc_ecma_parser_reader.specs.State.{State, Outcome, Reader, ◌>>=◌
 use Rattle.swc_ecma_parser_token.specs.declared.kind.TokenKind.TheVariants as kind
 
 module _ {A : Type 0} (view : A → Tree) (expr : Reader Tree) (s u v : State) (x : Unit {0}) (opens : expect kind.LParen s ≡ Ok (x, u)) (r : Result A Error) (gives : GivesAs view (within with_in expr u) r v) where
-  behind : Tree → Reader Tree
+  abbrev behind : Tree → Reader Tree
   behind e = expect kind.RParen >>= (λ _. pure e)
 
   is_behind : (o : Outcome Tree) → within with_in expr u ≡ o → condition expr s ≡ and_then (labelled_as o) behind
