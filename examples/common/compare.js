@@ -1,6 +1,6 @@
 // Compares a client over the trees of `ecma-check` with the same client over those of its own parser.
 'use strict';
-const { acornTree, unreadForm } = require('./acorn');
+const { acornTree } = require('./acorn');
 const { Refusal, treeOf } = require('./program');
 const { textsOf } = require('./files');
 
@@ -53,14 +53,14 @@ async function compareFile(client, sums, one) {
         return await compareAs(client, sums, one, goal);
     } catch (error) {
         if (!(error instanceof Refusal)) throw error;
-        add(sums.skipped, unreadForm(one.text, goal) ?? `a refusal: ${error.kind}`);
+        add(sums.skipped, error.kind);
         return 'skipped';
     }
 }
 
 function print(client, count, sums) {
     for (const [kind, number] of sums.classes) console.log(`  different, ${kind}: ${number}`);
-    for (const [kind, number] of sums.skipped) console.log(`  skipped for ${kind}: ${number}`);
+    for (const [kind, number] of sums.skipped) console.log(`  skipped, refused by ${kind}: ${number}`);
     console.log(`  not read by its own parser: ${count.unread}, failed with either: ${count.failed}`);
     console.log(`${client.name}: ${count.equal} equal, ${count.different} different, ${count.skipped} skipped`);
 }

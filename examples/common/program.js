@@ -19,7 +19,7 @@ function kindOf(errors) {
 // The tree of a text, with the fields that `words` ask for.
 function treeOf(text, goal, words = []) {
     const program = process.env.ECMA_CHECK || 'ecma-check';
-    const all = [`--${goal}`, '--enable', 'import-attributes', '--format', 'estree', ...words];
+    const all = [`--${goal}`, '--format', 'estree', ...words];
     const done = spawnSync(program, all, { input: text, maxBuffer: 1 << 30 });
     if (done.error) throw done.error;
     if (done.status > 1) throw new Refusal(kindOf(String(done.stderr)));
