@@ -15,6 +15,7 @@ ghost use Rattle.swc_ecma_parser_reader.specs.State as reader;
 ghost use Rattle.swc_ecma_parser_reader.specs.State.{GivesAs};
 ghost use Rattle.swc_ecma_parser_reader.specs.Entry.{unmarked, statement_entry, AnswersScript, AnswersStatement, IsRestored, IsSetBack};
 ghost use Rattle.swc_ecma_parser_reader.specs.declared.mark.Mark.TheVariants as mark;
+ghost use Rattle.swc_ecma_parser_input.specs.Kept.{IsReadOn};
 ghost use Rattle.swc_ecma_parser_state.specs.Contents.{seen, source_of};
 ghost use Rattle.swc_ecma_parser_state.specs.Keeps.{Keeps};
 ghost use Rattle.swc_ecma_parser_state.specs.Opened.{begun};
@@ -53,6 +54,7 @@ fn refused<O: Origin, I: Tokens>(
     ensures noted { result.0.found_module_item ≡ found_module_item }
     ensures leaves { Leaves (seen O.start) (seen result.0) }
     ensures keeps { Keeps (source_of O.start) (source_of result.0) }
+    ensures comments { IsReadOn O.start.buffer.kept result.0.buffer.kept }
     ensures says { Says result.0.mark (kind_of result.1.kind) }
     ensures memory { call.scope.mark ≡ Some mark.OutOfMemory → kind_of result.1.kind ≡ OutOfMemory }
 {
@@ -72,6 +74,7 @@ fn ended<O: Origin, I: Tokens, X>(
     ensures ends { Ends read call outer found_module_item (seen result.0) result.1 }
     ensures leaves { Leaves (seen O.start) (seen result.0) }
     ensures keeps { Keeps (source_of O.start) (source_of result.0) }
+    ensures comments { IsReadOn O.start.buffer.kept result.0.buffer.kept }
     ensures says { IfErr result.1 (λ e. Says result.0.mark (kind_of e.kind)) }
 {
     match read {
@@ -125,6 +128,7 @@ fn script_from<O: Origin, I: Tokens, T: BuildsStatements + BuildsScript>(
     ensures refused { OnErr result.1 (IsRestored (seen state) (seen result.0)) }
     ensures leaves { Leaves (seen O.start) (seen result.0) }
     ensures keeps { Keeps (source_of O.start) (source_of result.0) }
+    ensures comments { IsReadOn O.start.buffer.kept result.0.buffer.kept }
     ensures says { IfErr result.1 (λ e. Says result.0.mark (kind_of e.kind)) }
     ensures ahead { lacks_ahead state.buffer.place ≡ true
         → IsErrAnd result.1 (λ e. kind_of e.kind ≡ OutOfMemory) }
@@ -150,6 +154,7 @@ pub fn script<I: Tokens, T: BuildsStatements + BuildsScript>(
     ensures refused { OnErr result.1 (IsRestored (seen state) (seen result.0)) }
     ensures leaves { Leaves (seen state) (seen result.0) }
     ensures keeps { Keeps (source_of state) (source_of result.0) }
+    ensures comments { IsReadOn state.buffer.kept result.0.buffer.kept }
     ensures says { IfErr result.1 (λ e. Says result.0.mark (kind_of e.kind)) }
     ensures ahead { lacks_ahead state.buffer.place ≡ true
         → IsErrAnd result.1 (λ e. kind_of e.kind ≡ OutOfMemory) }
@@ -197,6 +202,7 @@ fn module_from<O: Origin, I: Tokens, T: BuildsStatements + BuildsExport + Builds
     ensures refused { OnErr result.1 (IsRestored (seen state) (seen result.0)) }
     ensures leaves { Leaves (seen O.start) (seen result.0) }
     ensures keeps { Keeps (source_of O.start) (source_of result.0) }
+    ensures comments { IsReadOn O.start.buffer.kept result.0.buffer.kept }
     ensures says { IfErr result.1 (λ e. Says result.0.mark (kind_of e.kind)) }
     ensures ahead { lacks_ahead state.buffer.place ≡ true
         → IsErrAnd result.1 (λ e. kind_of e.kind ≡ OutOfMemory) }
@@ -222,6 +228,7 @@ pub fn module<I: Tokens, T: BuildsStatements + BuildsExport + BuildsVarDecl>(
     ensures refused { OnErr result.1 (IsRestored (seen state) (seen result.0)) }
     ensures leaves { Leaves (seen state) (seen result.0) }
     ensures keeps { Keeps (source_of state) (source_of result.0) }
+    ensures comments { IsReadOn state.buffer.kept result.0.buffer.kept }
     ensures says { IfErr result.1 (λ e. Says result.0.mark (kind_of e.kind)) }
     ensures ahead { lacks_ahead state.buffer.place ≡ true
         → IsErrAnd result.1 (λ e. kind_of e.kind ≡ OutOfMemory) }
@@ -269,6 +276,7 @@ fn program_from<O: Origin, I: Tokens, T: BuildsStatements + BuildsExport + Build
     ensures refused { OnErr result.1 (IsRestored (seen state) (seen result.0)) }
     ensures leaves { Leaves (seen O.start) (seen result.0) }
     ensures keeps { Keeps (source_of O.start) (source_of result.0) }
+    ensures comments { IsReadOn O.start.buffer.kept result.0.buffer.kept }
     ensures says { IfErr result.1 (λ e. Says result.0.mark (kind_of e.kind)) }
     ensures ahead { lacks_ahead state.buffer.place ≡ true
         → IsErrAnd result.1 (λ e. kind_of e.kind ≡ OutOfMemory) }
@@ -294,6 +302,7 @@ pub fn program<I: Tokens, T: BuildsStatements + BuildsExport + BuildsVarDecl>(
     ensures refused { OnErr result.1 (IsRestored (seen state) (seen result.0)) }
     ensures leaves { Leaves (seen state) (seen result.0) }
     ensures keeps { Keeps (source_of state) (source_of result.0) }
+    ensures comments { IsReadOn state.buffer.kept result.0.buffer.kept }
     ensures says { IfErr result.1 (λ e. Says result.0.mark (kind_of e.kind)) }
     ensures ahead { lacks_ahead state.buffer.place ≡ true
         → IsErrAnd result.1 (λ e. kind_of e.kind ≡ OutOfMemory) }
@@ -379,6 +388,7 @@ fn item_from<O: Origin, I: Tokens, T: BuildsStatements + BuildsExport + BuildsVa
     ensures refused { OnErr result.1 (IsRestored (seen state) (seen result.0)) }
     ensures leaves { Leaves (seen O.start) (seen result.0) }
     ensures keeps { Keeps (source_of O.start) (source_of result.0) }
+    ensures comments { IsReadOn O.start.buffer.kept result.0.buffer.kept }
     ensures says { IfErr result.1 (λ e. Says result.0.mark (kind_of e.kind)) }
     ensures ahead { lacks_ahead state.buffer.place ≡ true
         → IsErrAnd result.1 (λ e. kind_of e.kind ≡ OutOfMemory) }
@@ -405,6 +415,7 @@ pub fn item<I: Tokens, T: BuildsStatements + BuildsExport + BuildsVarDecl>(
     ensures refused { OnErr result.1 (IsRestored (seen state) (seen result.0)) }
     ensures leaves { Leaves (seen state) (seen result.0) }
     ensures keeps { Keeps (source_of state) (source_of result.0) }
+    ensures comments { IsReadOn state.buffer.kept result.0.buffer.kept }
     ensures says { IfErr result.1 (λ e. Says result.0.mark (kind_of e.kind)) }
     ensures ahead { lacks_ahead state.buffer.place ≡ true
         → IsErrAnd result.1 (λ e. kind_of e.kind ≡ OutOfMemory) }
@@ -459,6 +470,7 @@ fn statement_from<O: Origin, I: Tokens, T: BuildsStatements>(
     ensures refused { OnErr result.1 (IsRestored (seen state) (seen result.0)) }
     ensures leaves { Leaves (seen O.start) (seen result.0) }
     ensures keeps { Keeps (source_of O.start) (source_of result.0) }
+    ensures comments { IsReadOn O.start.buffer.kept result.0.buffer.kept }
     ensures says { IfErr result.1 (λ e. Says result.0.mark (kind_of e.kind)) }
     ensures ahead { lacks_ahead state.buffer.place ≡ true
         → IsErrAnd result.1 (λ e. kind_of e.kind ≡ OutOfMemory) }
@@ -487,6 +499,7 @@ pub fn statement<I: Tokens, T: BuildsStatements>(
     ensures refused { OnErr result.1 (IsRestored (seen state) (seen result.0)) }
     ensures leaves { Leaves (seen state) (seen result.0) }
     ensures keeps { Keeps (source_of state) (source_of result.0) }
+    ensures comments { IsReadOn state.buffer.kept result.0.buffer.kept }
     ensures says { IfErr result.1 (λ e. Says result.0.mark (kind_of e.kind)) }
     ensures ahead { lacks_ahead state.buffer.place ≡ true
         → IsErrAnd result.1 (λ e. kind_of e.kind ≡ OutOfMemory) }

@@ -6,6 +6,7 @@ use Rattle.swc_ecma_parser_input.specs.TokenSource.{TokenSource, Draws, DrawsFro
 use Rattle.swc_ecma_parser_input.specs.Place.{Place, first, second, after, lacks_memory}
 use Rattle.swc_ecma_parser_input.specs.Buffered.{Buffered, placed}
 use Rattle.swc_ecma_parser_input.specs.Drawn.{StandsFor, Drawn}
+use Rattle.swc_ecma_parser_input.specs.Kept.{Kept}
 use Rattle.swc_ecma_parser_input.specs.Ringed.{rest}
 use Rattle.swc_ecma_parser_input.specs.View.{IsFull}
 
@@ -90,30 +91,30 @@ bumped_last last [] ended (x ∷ l0) f = let e = all_held [] ended (x ∷ l0) f 
 bumped_last last (t ∷ ts) ended l0 f = refl
 
 -- a place at which a source is, and another after a token was drawn
-pub placed_kept : (p : Place) (b : Buffered) (q : Place) (s s' : TokenSource) (drawn : Option TokenAndSpan) →
-    placed q s ≡ b → Draws s drawn s' → placed p s' ≡ record b { place = p }
-placed_kept p b q s s' drawn e d =
-    let f : placed p s' ≡ record (placed q s) { place = p } = ap (placed p) d.rest in
-    let put : Buffered → Buffered = λ x. record x { place = p } in f ∙ ap put e
+pub placed_kept : (p : Place) (b : Buffered) (q : Place) (s s' : TokenSource) (k k' : Kept) (drawn : Option TokenAndSpan) →
+    placed q s k ≡ b → Draws s drawn s' → placed p s' k' ≡ record b { place = p; kept = k' }
+placed_kept p b q s s' k k' drawn e d =
+    let f : placed p s' k' ≡ record (placed q s k) { place = p; kept = k' } = ap (λ z. placed p z k') d.rest in
+    let put : Buffered → Buffered = λ x. record x { place = p; kept = k' } in f ∙ ap put e
 
 -- what `bump` does to the value of a buffer
 pub record Bumped (old new : Buffered) : Type 0 where
-  pub kept : new ≡ record old { place = record (after old.place) { left = new.place.left } }
+  pub kept : new ≡ record old { place = record (after old.place) { left = new.place.left }; kept = new.kept }
   pub left : lacks_memory (second new.place.left) ≡ false → new.place.left ≡ (after old.place).left
   pub cur : first new.place.left ≡ second old.place.left
   pub len : length new.place.left ≡ length (after old.place).left
   pub drawn : Drawn (after old.place).left new.place.left
 
-bumped_at : (last : Span) (r : List TokenAndSpan) (ended : Bool) (drawn : Option TokenAndSpan) (s s' : TokenSource) →
+bumped_at : (last : Span) (r : List TokenAndSpan) (ended : Bool) (drawn : Option TokenAndSpan) (s s' : TokenSource) (k k' : Kept) →
     IsFull r ended s.left → Draws s drawn s' →
-    Bumped (placed (record { last = last; left = r ++ s.left }) s)
-    (placed (record { last = last_of (first r) last; left = (rest r ++ option_to_list drawn) ++ s'.left }) s')
-bumped_at last r ended drawn s s' f d = record {
+    Bumped (placed (record { last = last; left = r ++ s.left }) s k)
+    (placed (record { last = last_of (first r) last; left = (rest r ++ option_to_list drawn) ++ s'.left }) s' k')
+bumped_at last r ended drawn s s' k k' f d = record {
   kept =
       let q : Place = record { last = last; left = r ++ s.left } in
       let at : Span → Place = λ l. record { last = l; left = (rest r ++ option_to_list drawn) ++ s'.left } in
-      let put : Span → Buffered = λ l. placed (at l) s' in
-      ap put (bumped_last last r ended s.left f) ∙ placed_kept (at (after q).last) (placed q s) q s s' drawn refl d;
+      let put : Span → Buffered = λ l. placed (at l) s' k' in
+      ap put (bumped_last last r ended s.left f) ∙ placed_kept (at (after q).last) (placed q s k) q s s' k k' drawn refl d;
   left = bumped_left last r ended s.left drawn s'.left f d.draws;
   cur = bumped_first r ended s.left drawn s'.left f d.draws;
   len = bumped_length last r ended s.left drawn s'.left f d.draws;
@@ -121,14 +122,14 @@ bumped_at last r ended drawn s s' f d = record {
 }
 
 pub bumped_place : (old new : Buffered) → Bumped old new → lacks_memory (second new.place.left) ≡ false →
-    new ≡ record old { place = after old.place }
+    new ≡ record old { place = after old.place; kept = new.kept }
 bumped_place old new b h =
-    let put : List TokenAndSpan → Buffered = λ l. record old { place = record (after old.place) { left = l } } in
+    let put : List TokenAndSpan → Buffered = λ l. record old { place = record (after old.place) { left = l }; kept = new.kept } in
     b.kept ∙ ap put (b.left h)
 
-pub bumped : (last last' : Span) (r r' : List TokenAndSpan) (ended : Bool) (drawn : Option TokenAndSpan) (s s' : TokenSource) (b : Buffered) →
-    placed (record { last = last; left = r ++ s.left }) s ≡ b →
+pub bumped : (last last' : Span) (r r' : List TokenAndSpan) (ended : Bool) (drawn : Option TokenAndSpan) (s s' : TokenSource) (k k' : Kept) (b : Buffered) →
+    placed (record { last = last; left = r ++ s.left }) s k ≡ b →
     IsFull r ended s.left → Draws s drawn s' →
     last' ≡ last_of (first r) last → r' ≡ rest r ++ option_to_list drawn →
-    Bumped b (placed (record { last = last'; left = r' ++ s'.left }) s')
-bumped last last' r r' ended drawn s s' b e f d i j = rw (← e, i, j) (bumped_at last r ended drawn s s' f d)
+    Bumped b (placed (record { last = last'; left = r' ++ s'.left }) s' k')
+bumped last last' r r' ended drawn s s' k k' b e f d i j = rw (← e, i, j) (bumped_at last r ended drawn s s' k k' f d)

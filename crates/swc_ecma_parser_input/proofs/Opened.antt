@@ -5,6 +5,7 @@ use Rattle.swc_ecma_parser_token.specs.declared.token.TokenAndSpan.{TokenAndSpan
 use Rattle.swc_ecma_parser_input.specs.TokenSource.{TokenSource, Draws, DrawsFrom}
 use Rattle.swc_ecma_parser_input.specs.Place.{Place, first, second, lacks_memory, outset}
 use Rattle.swc_ecma_parser_input.specs.Buffered.{Buffered, placed, opened}
+use Rattle.swc_ecma_parser_input.specs.Kept.{Kept}
 use Rattle.swc_ecma_parser_input.specs.Ringed.{before}
 use Rattle.swc_ecma_parser_input.proofs.Bumped.{placed_kept}
 
@@ -22,15 +23,15 @@ opened_left l0 l1 l2 (Some c) None d e o h k = ap (λ l. c ∷ l) (e.1 ∙ sym e
 opened_left l0 l1 l2 None None d e o h k = (e.1 ∙ sym e.0) ∙ (d.1 ∙ sym d.0)
 opened_left l0 l1 l2 None (Some n) d e o h k = let f = o refl in absurd (cc)
 
-pub opened_place : (s0 s1 s2 : TokenSource) (start : BytePos) (cur next : Option TokenAndSpan) (ring : List TokenAndSpan) → start ≡ s0.start
+pub opened_place : (s0 s1 s2 : TokenSource) (k : Kept) (start : BytePos) (cur next : Option TokenAndSpan) (ring : List TokenAndSpan) → start ≡ s0.start
     → Draws s0 cur s1 → Draws s1 next s2 → (cur ≡ None → next ≡ None) → ring ≡ held cur next
     → lacks_memory (first (ring ++ s2.left)) ≡ false → lacks_memory (second (ring ++ s2.left)) ≡ false
-    → placed (record { last = record { lo = start; hi = start }; left = ring ++ s2.left }) s2 ≡ opened s0
-opened_place s0 s1 s2 start cur next ring i d e o r h k =
+    → placed (record { last = record { lo = start; hi = start }; left = ring ++ s2.left }) s2 k ≡ record (opened s0) { kept = k }
+opened_place s0 s1 s2 k start cur next ring i d e o r h k =
     let at : List TokenAndSpan → Place = λ l. record { last = record { lo = start; hi = start }; left = l } in
-    let put : List TokenAndSpan → Buffered = λ l. placed (at l) s0 in
-    let at_start : BytePos → Buffered = λ b. placed (outset b s0.left) s0 in
+    let put : List TokenAndSpan → Buffered = λ l. placed (at l) s0 k in
+    let at_start : BytePos → Buffered = λ b. placed (outset b s0.left) s0 k in
     let whole : held cur next ++ s2.left ≡ s0.left = opened_left s0.left s1.left s2.left cur next d.draws e.draws o (ap (λ l. lacks_memory (first (l ++ s2.left))) (sym r) ∙ h) (ap (λ l. lacks_memory (second (l ++ s2.left))) (sym r) ∙ k) in
-    let kept : placed (at (ring ++ s2.left)) s2 ≡ placed (at (ring ++ s2.left)) s0 =
-    placed_kept (at (ring ++ s2.left)) (placed (at (ring ++ s2.left)) s0) (at (ring ++ s2.left)) s1 s2 next (placed_kept (at (ring ++ s2.left)) (placed (at (ring ++ s2.left)) s0) (at (ring ++ s2.left)) s0 s1 cur refl d) e in
+    let kept : placed (at (ring ++ s2.left)) s2 k ≡ placed (at (ring ++ s2.left)) s0 k =
+    placed_kept (at (ring ++ s2.left)) (placed (at (ring ++ s2.left)) s0 k) (at (ring ++ s2.left)) s1 s2 k k next (placed_kept (at (ring ++ s2.left)) (placed (at (ring ++ s2.left)) s0 k) (at (ring ++ s2.left)) s0 s1 k k cur refl d) e in
     kept ∙ (ap put (ap (λ l. l ++ s2.left) r ∙ whole) ∙ ap at_start i)

@@ -1,9 +1,10 @@
--- A source behind its buffer: the place that it has come to, and what the source keeps.
+-- A source behind its buffer: the place that it has come to, what the source keeps, and its comments.
 use Rattle.std.specs.Prelude.{if◌then◌else◌, List, [], ◌∷◌, ◌++◌, drop}
 use Rattle.swc_ecma_parser_common.specs.declared.span.BytePos.{BytePos}
 use Rattle.swc_ecma_parser_error.specs.declared.error.Error.{Error}
 use Rattle.swc_ecma_parser_input.specs.declared.context.Context.{Context}
 use Rattle.swc_ecma_parser_input.specs.declared.syntax.Syntax.{Syntax}
+use Rattle.swc_ecma_parser_input.specs.Kept.{Kept, nothing_kept}
 use Rattle.swc_ecma_parser_input.specs.Place.{Place, outset}
 use Rattle.swc_ecma_parser_input.specs.TokenSource.{TokenSource}
 
@@ -14,21 +15,23 @@ pub record Buffered : Type 0 where
   pub start : BytePos
   pub recorded : List Error
   pub held_back : List Error
+  pub kept : Kept
 
--- a source at a place
-abbrev pub placed : Place → TokenSource → Buffered
-placed p s = record {
+-- a source at a place, with comments
+abbrev pub placed : Place → TokenSource → Kept → Buffered
+placed p s k = record {
   place = p;
   context = s.context;
   syntax = s.syntax;
   start = s.start;
   recorded = s.recorded;
   held_back = s.held_back;
+  kept = k;
 }
 
--- a source before anything was read
+-- a source of no comments before anything was read
 abbrev pub opened : TokenSource → Buffered
-opened s = placed (outset s.start s.left) s
+opened s = placed (outset s.start s.left) s nothing_kept
 
 -- the source behind the buffer, which holds the first two tokens
 abbrev pub behind : Buffered → TokenSource

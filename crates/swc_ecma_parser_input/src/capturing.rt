@@ -1,7 +1,8 @@
 //! A source of tokens that keeps copies of what it hands out.
 
-ghost use Rattle.std.specs.Prelude.{◌≡◌, [], ◌∷◌, ◌++◌, true, false, IfOk, IfErr, OnOk, OnErr, MatchResult};
+ghost use Rattle.std.specs.Prelude.{◌≡◌, [], ◌∷◌, ◌++◌, true, false, IfNone, IfOk, IfErr, OnOk, OnErr, MatchResult};
 ghost use Rattle.swc_ecma_parser_error.specs.Kind.{IsOutOfMemory};
+ghost use Rattle.swc_ecma_parser_input.specs.Kept.{IsReadOn, handed_out};
 ghost use Rattle.swc_ecma_parser_input.specs.TokenSource as source;
 ghost use Rattle.swc_ecma_parser_input.specs.Captured as captured;
 
@@ -77,8 +78,12 @@ impl<I: Tokens> Capturing<I> {
 impl<I: Tokens> Tokens for Capturing<I> {
     ghost seen = { λ c. I.seen c.input };
 
+    ghost kept = { λ c. I.kept c.input };
+
     fn next(&mut self) -> Option<TokenAndSpan>
         ensures draws { source.Draws (I.seen self.old.input) result (I.seen self.new.input) }
+        ensures comments { IsReadOn (I.kept self.old.input) (I.kept self.new.input) }
+        ensures ended { IfNone result ((I.kept self.new.input).coming ≡ []) }
         ensures copies { captured.Keeps self.old.copies result self.new.copies }
     {
         let token = self.input.next()?;
@@ -96,6 +101,7 @@ impl<I: Tokens> Tokens for Capturing<I> {
         ensures source { I.seen self.new.input
             ≡ source.with_context context (I.seen self.old.input) }
         ensures copies { self.new.copies ≡ self.old.copies }
+        ensures comments { I.kept self.new.input ≡ I.kept self.old.input }
     {
         self.input.set_ctx(context);
     }
@@ -119,6 +125,7 @@ impl<I: Tokens> Tokens for Capturing<I> {
             (λ e. IsOutOfMemory e × (I.seen self.new.input ≡ I.seen self.old.input)) }
         ensures place { IfErr result (λ e. e.span ≡ source.at_start (I.seen self.old.input)) }
         ensures copies { self.new.copies ≡ self.old.copies }
+        ensures comments { I.kept self.new.input ≡ I.kept self.old.input }
     {
         self.input.add_error(error)
     }
@@ -130,6 +137,7 @@ impl<I: Tokens> Tokens for Capturing<I> {
             (λ e. IsOutOfMemory e × (I.seen self.new.input ≡ I.seen self.old.input)) }
         ensures place { IfErr result (λ e. e.span ≡ source.at_start (I.seen self.old.input)) }
         ensures copies { self.new.copies ≡ self.old.copies }
+        ensures comments { I.kept self.new.input ≡ I.kept self.old.input }
     {
         self.input.add_module_mode_error(error)
     }
@@ -138,6 +146,7 @@ impl<I: Tokens> Tokens for Capturing<I> {
         ensures errors { result.items ≡ (I.seen self.old.input).recorded }
         ensures source { I.seen self.new.input ≡ record (I.seen self.old.input) { recorded = [] } }
         ensures copies { self.new.copies ≡ self.old.copies }
+        ensures comments { I.kept self.new.input ≡ I.kept self.old.input }
     {
         self.input.take_errors()
     }
@@ -145,6 +154,7 @@ impl<I: Tokens> Tokens for Capturing<I> {
     fn try_clone(&self) -> PResult<Capturing<I>>
         ensures ok { IfOk result (λ it. I.seen it.input ≡ I.seen self.now.input) }
         ensures copies { IfOk result (λ it. it.copies ≡ self.now.copies) }
+        ensures comments { IfOk result (λ it. I.kept it.input ≡ I.kept self.now.input) }
         ensures err { IfErr result IsOutOfMemory }
         ensures place { IfErr result (λ e. e.span ≡ source.at_start (I.seen self.now.input)) }
     {
@@ -164,20 +174,15 @@ impl<I: Tokens> Tokens for Capturing<I> {
 }
 
 impl<I: CommentSource> CommentSource for Capturing<I> {
-    ghost comments = { λ c. I.comments c.input };
-
-    ghost is_lossy = { λ c. I.is_lossy c.input };
-
     fn take_comments(&mut self) -> PResult<Vec<Comment>>
         ensures source { I.seen self.new.input ≡ I.seen self.old.input }
         ensures copies { self.new.copies ≡ self.old.copies }
         ensures err { IfErr result IsOutOfMemory }
         ensures place { IfErr result (λ e. e.span ≡ source.at_start (I.seen self.old.input)) }
-        ensures comments { IfOk result (λ found. found.items ≡ I.comments self.old.input) }
-        ensures told { MatchResult result (λ _. I.is_lossy self.old.input ≡ false)
-            (λ _. I.is_lossy self.old.input ≡ true) }
-        ensures none_left { I.comments self.new.input ≡ [] }
-        ensures fresh { I.is_lossy self.new.input ≡ false }
+        ensures comments { IfOk result (λ found. found.items ≡ (I.kept self.old.input).comments) }
+        ensures told { MatchResult result (λ _. (I.kept self.old.input).is_lossy ≡ false)
+            (λ _. (I.kept self.old.input).is_lossy ≡ true) }
+        ensures left { I.kept self.new.input ≡ handed_out (I.kept self.old.input) }
     {
         self.input.take_comments()
     }

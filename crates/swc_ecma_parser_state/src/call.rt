@@ -4,6 +4,7 @@ ghost use Rattle.std.specs.Prelude.{◌≡◌, ◌≢◌, ◌++◌, false, List,
 ghost use Rattle.swc_ecma_parser_error.specs.Kind.{Fault, OutOfMemory, fault_of, kind_of, IsOutOfMemory};
 ghost use Rattle.swc_ecma_parser_grammar.specs.Notes.{as_note};
 ghost use Rattle.swc_ecma_parser_grammar.specs.language.Contexts.{in_module, script_code};
+ghost use Rattle.swc_ecma_parser_input.specs.Kept.{IsReadOn};
 ghost use Rattle.swc_ecma_parser_grammar.specs.language.Programs.{entry_code, «module», program};
 ghost use Rattle.swc_ecma_parser_reader.specs.Calls.{Leaves, Says, marks_memory};
 ghost use Rattle.swc_ecma_parser_reader.specs.Entry.{IsLater};
@@ -31,6 +32,7 @@ impl<O: Origin, I: Tokens> Call<O, I> {
         ensures state { seen result ≡ self }
         ensures leaves { Leaves (seen O.start) (seen result) }
         ensures keeps { Keeps (source_of O.start) (source_of result) }
+        ensures comments { IsReadOn O.start.buffer.kept result.buffer.kept }
     {
         let Call {
             buffer,
