@@ -86,6 +86,9 @@ int32_t ecma_parse(const uint8_t *text, size_t length, const EcmaOptions *option
 /* Only the tree, as ESTree; nothing if there is none. */
 int32_t ecma_parse_tree(const uint8_t *text, size_t length, const EcmaOptions *options, uint8_t *out, size_t room, size_t *needed);
 
+/* The tree and the faults of a text in the binary form, which docs/BINARY.md describes. */
+int32_t ecma_parse_binary(const uint8_t *text, size_t length, const EcmaOptions *options, uint8_t *out, size_t room, size_t *needed);
+
 /* A position in a text. */
 typedef struct EcmaPoint {
     uint64_t byte;   /* bytes of UTF-8 before it */

@@ -1,6 +1,8 @@
 'use strict';
 // What every host of the parser shares: options as numbers, and what the parser answered as a tree and faults, or as an error.
 
+const decode = typeof require === 'undefined' ? null : require('./decode.js');
+
 const GOALS = { script: 0, module: 1, program: 2, auto: 3 };
 
 const FLAGS = {
@@ -169,6 +171,21 @@ function resultOf(status, json) {
   return more ? { tree, faults, more } : { tree, faults };
 }
 
+/** How many bytes stand before a tree in the binary form. */
+const HEADER = 20;
+
+/** The tree and the faults of an answer in the binary form. Throws where there is no tree, or no answer. */
+function resultOfWords(status, bytes, source, { locations = false, ranges = false } = {}) {
+  const failure = failureOf(status);
+  if (failure) throw failure;
+  const [, , treeSize, faultsSize, more] = new Uint32Array(bytes.buffer, bytes.byteOffset, HEADER / 4);
+  const told = bytes.subarray(HEADER + treeSize, HEADER + treeSize + faultsSize);
+  const faults = told.length === 2 ? [] : JSON.parse(new TextDecoder().decode(told)).map(faultOf);
+  if (treeSize === 0) throw errorOf(faults.pop(), faults);
+  const tree = decode(new Uint32Array(bytes.buffer, bytes.byteOffset + HEADER, treeSize / 4), source, Boolean(locations), Boolean(ranges));
+  return more ? { tree, faults, more } : { tree, faults };
+}
+
 /** The kinds that acorn's options leave out. */
 function leftOut({ allowSuperOutsideMethod, checkPrivateFields }) {
   return [...(allowSuperOutsideMethod ? ['MisplacedSuper', 'MisplacedSuperCall'] : []), ...(checkPrivateFields === false ? ['PrivateUndeclared'] : [])];
@@ -199,6 +216,6 @@ function hand(tree, name, sink, options, wordsOf) {
   if (!options[name]) delete tree[name];
 }
 
-const answers = { FLAGS, numbersOf, guessOf, faultOf, failureOf, restore, resultOf, finished };
+const answers = { FLAGS, numbersOf, guessOf, faultOf, failureOf, restore, resultOf, resultOfWords, finished };
 
 if (typeof module !== 'undefined') module.exports = answers;

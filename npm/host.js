@@ -19,7 +19,8 @@ class StackOverflowError extends RangeError {
 }
 
 /**
- * A function that answers the status of a text, and its tree and faults as JSON, in bytes and as text: both are to be read before the next call.
+ * A function that answers the status of a text, and its tree and faults by the named call of the module: as JSON, in bytes and as text, or in the
+ * binary form (`ecma_parse_binary`), in bytes. They are to be read before the next call.
  *
  * @param {WebAssembly.Module} module
  * @param {(length: number, bits: number) => number} guessOf how many bytes of answer are guessed
@@ -40,7 +41,7 @@ function host(module, guessOf, memory, decode = bytes => new TextDecoder().decod
   const room = (it, bytes) => Number(BigInt.asUintN(32, it.ecma_room(BigInt(bytes))));
 
   /** One call, in a buffer of so many bytes. */
-  function called(it, text, { goal, limit, bits, most = 0 }, bytes) {
+  function called(it, call, text, { goal, limit, bits, most = 0 }, bytes) {
     it.ecma_reset();
     const at = room(it, OPTIONS + 8);
     const from = room(it, text.length + 1);
@@ -50,28 +51,28 @@ function host(module, guessOf, memory, decode = bytes => new TextDecoder().decod
     new BigUint64Array(it.memory.buffer, at, 1)[0] = BigInt(OPTIONS);
     new Uint32Array(it.memory.buffer, at + 8, 4).set([goal, limit, bits, most]);
     const addresses = [from, text.length, at, to, bytes, at + OPTIONS].map(BigInt);
-    const status = it.ecma_parse(...addresses);
+    const status = it[call](...addresses);
     const needed = Number(new BigUint64Array(it.memory.buffer, at + OPTIONS, 1)[0]);
     return { status, needed, bytes: new Uint8Array(it.memory.buffer, to, status < 0 ? 0 : needed) };
   }
 
   /** The same, with an error of its own where a stack ends. */
-  function guarded(it, text, numbers, bytes) {
+  function guarded(...given) {
     try {
-      return called(it, text, numbers, bytes);
+      return called(...given);
     } catch (error) {
       if (error instanceof WebAssembly.RuntimeError || /stack|recursion/i.test(error?.message)) throw new StackOverflowError(error);
       throw error;
     }
   }
 
-  return function answer(source, numbers) {
+  return function answer(source, numbers, call = 'ecma_parse') {
     const text = encoder.encode(source);
     const it = instance ?? started();
     // A trap, as by a stack that overflows, leaves no instance behind.
     instance = null;
-    let found = guarded(it, text, numbers, guessOf(text.length, numbers.bits));
-    if (found.status === STATUS_TOO_SHORT) found = guarded(it, text, numbers, found.needed);
+    let found = guarded(it, call, text, numbers, guessOf(text.length, numbers.bits));
+    if (found.status === STATUS_TOO_SHORT) found = guarded(it, call, text, numbers, found.needed);
     if (it.memory.buffer.byteLength <= KEPT_BYTES) instance = it;
     return { status: found.status, bytes: found.bytes, get json() { return decode(found.bytes); } };
   };

@@ -12,19 +12,24 @@ const { visitorKeys, walk } = require('./walk.js');
 function parserOf(moduleOf, decode) {
   let caller;
 
-  /** The status of a text, and its tree and faults as JSON. */
-  function answer(text, options) {
+  /** The status of a text, and its tree and faults by a call of the module. */
+  function called(text, options, call) {
     if (typeof text !== 'string') throw new TypeError(`the text is a string, not ${text === null ? 'null' : typeof text}`);
     const numbers = answers.numbersOf(options);
     if (options?.allowHashBang === false && text.startsWith('#!')) throw hashBang();
     caller ??= host(moduleOf(), answers.guessOf, undefined, decode);
-    const { status, json } = caller(text, numbers);
+    return caller(text, numbers, call);
+  }
+
+  /** The status of a text, and its tree and faults as JSON. */
+  function answer(text, options) {
+    const { status, json } = called(text, options, 'ecma_parse');
     return { status, json };
   }
 
   function parse(text, options) {
-    const { status, json } = answer(text, options);
-    return answers.finished(answers.resultOf(status, json), options);
+    const { status, bytes } = called(text, options, 'ecma_parse_binary');
+    return answers.finished(answers.resultOfWords(status, bytes, text, options), options);
   }
 
   return { answer, parse, visitorKeys, walk, StackOverflowError: host.StackOverflowError };

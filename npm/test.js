@@ -3,7 +3,7 @@ const test = require('node:test');
 const assert = require('node:assert');
 const fs = require('node:fs');
 const path = require('node:path');
-const { numbersOf, guessOf, resultOf } = require('./answer.js');
+const { numbersOf, guessOf, resultOf, resultOfWords } = require('./answer.js');
 const host = require('./host.js');
 const { parse } = require('./index.js');
 
@@ -234,6 +234,31 @@ test('a stack that ends is an error of its own', () => {
 test('a text of ASCII can have values that are not', () => {
   const { tree } = parse("'\\u00e4\\u{1f600}'", { sourceType: 'script' });
   assert.strictEqual(tree.body[0].expression.value, '\u00e4\u{1f600}');
+});
+
+test('a tree in the binary form is that in JSON, with its keys in the same order', () => {
+  const module = new WebAssembly.Module(fs.readFileSync(path.join(__dirname, 'ecma.wasm')));
+  const answer = host(module, guessOf);
+  const shown = it => JSON.stringify(it, (_, value) => (typeof value === 'bigint' || value instanceof RegExp ? String(value) : value));
+  const texts = [
+    'a', '\ufeff// \u00e4\u{1f600}\r\nlet \u{1d4d0} = "\u{1f600}", b = \'\\ud83d\\u{1f600}\\n\\\n\';', '\'use strict\'; "\\x41"; ({ __proto__: null, a, b() {}, get c() { return 1 }, set [d](e) {} })',
+    '0x10; 1e3; .5; 5.; 1_000; 0b11; 017; 089; 0; 1n; 0x1fn; 123456789012345678901234567890n', '/a[/]\\/+/giu; `a\r\n${b}\\u{41}${`c`}`; t`\\u`; \\u0061.b\\u{63}',
+    'class A extends (B) { static #a = 1; static { this.#a } async *[b]() { yield* c } get #d() {} constructor() { super(); } } new.target',
+    'for await (const [a = 1, ...b] of c) d?.[e]?.(...f)?.g; label: for (;;) break label; switch (a) { case 1: default: } try {} catch {} finally {}',
+    'import a, { b as c, "d" as e } from "f" with { type: "json" }; import * as g from "h"; export * as i from "j"; export { k as "l" }; export default class {} import.meta; import("m", {})',
+    '/* a */ // b\n#!c', '#!/usr/bin/env node\n/**/ if (a) ; else b', 'async (a) => { await a }; (b, c) => d; var e; function f({ g, h: [i], ...j } = {}) { return }', '@a class B { @c d; accessor e } using f = g;', 'break; a b', '',
+  ];
+  const flags = ['decorators', 'autoAccessors', 'explicitResourceManagement'];
+  for (const text of texts) {
+    for (const extras of [{}, { locations: true }, { ranges: true }, { locations: true, ranges: true, comments: true, tokens: true }, { tokens: true }]) {
+      const numbers = numbersOf({ flags, ...extras });
+      const read = (call, result) => { try { const { status, json, bytes } = answer(text, numbers, call); return result(status, json, bytes); } catch (error) { return error.message; } };
+      const json = read('ecma_parse', (status, json) => resultOf(status, json));
+      const binary = read('ecma_parse_binary', (status, _, bytes) => resultOfWords(status, bytes, text, extras));
+      assert.deepStrictEqual(binary, json, text);
+      assert.strictEqual(shown(binary), shown(json), text);
+    }
+  }
 });
 
 test('the command reports faults, trees and what it cannot read, each with its status', () => {

@@ -4,14 +4,14 @@
 // usage: ecma.js [script | module | program | auto] < FILE
 
 const path = require('node:path');
-const { numbersOf, resultOf } = require('../../npm/answer.js');
+const { numbersOf, resultOfWords } = require('../../npm/answer.js');
 
 const addon = require(process.env.ECMA_ADDON ?? path.join(__dirname, 'ecma.node'));
 
 function parse(text, options) {
   const { goal, limit, bits } = numbersOf(options);
-  const [status, json] = addon.answer(text, goal, limit, bits);
-  return resultOf(status, json);
+  const [status, buffer] = addon.answerBinary(text, goal, limit, bits);
+  return resultOfWords(status, new Uint8Array(buffer), text, options);
 }
 
 module.exports = { parse };

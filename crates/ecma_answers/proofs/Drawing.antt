@@ -21,6 +21,8 @@ use Rattle.ecma_answers.specs.declared.options.Language.{Language}
 use Rattle.ecma_answers.specs.declared.options.Language.TheVariants as language
 use Rattle.ecma_answers.specs.declared.options.Options.{Options}
 use Rattle.ecma_answers.specs.Languages.{source_of, with_attributes}
+use Rattle.ecma_estree_text.specs.Binary.{absent_word}
+use Rattle.ecma_estree_lists.specs.Comments.{comments_field, comments_words}
 use Rattle.ecma_answers.specs.Written.{AreComments, AreFields, AreFieldsIn, code_goal, comments_of, fields, placed, tokens_of}
 
 -- from one place to a second, and on to a third
@@ -96,39 +98,34 @@ pub whole_begins : (l : Language) (g : Goal) (syntax asked : Syntax) (start : By
     → asked ≡ with_attributes syntax → start ≡ record { 0 = 0 } → given ≡ text → s ≡ source_of l g syntax text
 whole_begins l g syntax asked start given text s k h i e f = rw (k, h, i, e, f) refl
 
-pub fields_drawn : {X E : Type 0} (items : X → List ℕ) (r : Result X E) (l : Language) (o : Options) (text : List ℕ) (x : Tree) (p : Placed) (comments : List Comment)
+pub fields_drawn : {X E : Type 0} (b : Bool) (items : X → List ℕ) (r : Result X E) (l : Language) (o : Options) (text : List ℕ) (x : Tree) (p : Placed) (comments : List Comment)
     → (tokens : List TokenAndSpan) → p ≡ placed o text → tokens ≡ tokens_of l o text x → AreComments l o text x comments
-    → IfOk r (λ y. items y ≡ fields o p comments tokens) → IfOk r (λ y. AreFieldsIn l o text x (items y))
-fields_drawn items (Ok y) l o text x p comments tokens e f are h =
-    (comments, are, h ∙ (ap (λ (q : Placed). fields o q comments tokens) e ∙ ap (λ (ts : List TokenAndSpan). fields o (placed o text) comments ts) f))
-fields_drawn items (Err d) l o text x p comments tokens e f are h = h
+    → IfOk r (λ y. items y ≡ fields b o p comments tokens) → IfOk r (λ y. AreFieldsIn b l o text x (items y))
+fields_drawn b items (Ok y) l o text x p comments tokens e f are h =
+    (comments, are, h ∙ (ap (λ (q : Placed). fields b o q comments tokens) e ∙ ap (λ (ts : List TokenAndSpan). fields b o (placed o text) comments ts) f))
+fields_drawn b items (Err d) l o text x p comments tokens e f are h = h
 
 -- of the plain language, whatever the tree is
-pub plain_drawn : {X E : Type 0} (items : X → List ℕ) (r : Result X E) (o : Options) (text : List ℕ) (p : Placed) (comments : List Comment) (tokens : List TokenAndSpan)
+pub plain_drawn : {X E : Type 0} (b : Bool) (items : X → List ℕ) (r : Result X E) (o : Options) (text : List ℕ) (p : Placed) (comments : List Comment) (tokens : List TokenAndSpan)
     → p ≡ placed o text → tokens ≡ (outset o.syntax (record { 0 = 0 }) (chars text)).left → ((x : Tree) → AreComments language.Plain o text x comments)
-    → IfOk r (λ y. items y ≡ fields o p comments tokens) → IfOk r (λ y. (x : Tree) → AreFieldsIn language.Plain o text x (items y))
-plain_drawn items (Ok y) o text p comments tokens e f are h =
-    λ x. (comments, are x, h ∙ (ap (λ (q : Placed). fields o q comments tokens) e ∙ ap (λ (ts : List TokenAndSpan). fields o (placed o text) comments ts) f))
-plain_drawn items (Err d) o text p comments tokens e f are h = h
+    → IfOk r (λ y. items y ≡ fields b o p comments tokens) → IfOk r (λ y. (x : Tree) → AreFieldsIn b language.Plain o text x (items y))
+plain_drawn b items (Ok y) o text p comments tokens e f are h =
+    λ x. (comments, are x, h ∙ (ap (λ (q : Placed). fields b o q comments tokens) e ∙ ap (λ (ts : List TokenAndSpan). fields b o (placed o text) comments ts) f))
+plain_drawn b items (Err d) o text p comments tokens e f are h = h
 
-pub of_plain : {X E : Type 0} (items : X → List ℕ) (r : Result X E) (l : Language) (o : Options) (text : List ℕ) (x : Tree) → l ≡ language.Plain
-    → IfOk r (λ y. (z : Tree) → AreFieldsIn language.Plain o text z (items y)) → IfOk r (λ y. AreFieldsIn l o text x (items y))
-of_plain items (Ok y) l o text x e h = subst (λ (z : Language). AreFieldsIn z o text x (items y)) (sym e) (h x)
-of_plain items (Err d) l o text x e h = h
+pub of_plain : {X E : Type 0} (b : Bool) (items : X → List ℕ) (r : Result X E) (l : Language) (o : Options) (text : List ℕ) (x : Tree) → l ≡ language.Plain
+    → IfOk r (λ y. (z : Tree) → AreFieldsIn b language.Plain o text z (items y)) → IfOk r (λ y. AreFieldsIn b l o text x (items y))
+of_plain b items (Ok y) l o text x e h = subst (λ (z : Language). AreFieldsIn b z o text x (items y)) (sym e) (h x)
+of_plain b items (Err d) l o text x e h = h
 
 -- the tokens of a source of the whole language
 pub whole_tokens : (o : Options) (text : List ℕ) (x : Tree) (g : Goal) (s : TokenSource) (tokens : List TokenAndSpan) → s ≡ source_of language.Whole g o.syntax text → g ≡ code_goal x
     → tokens ≡ s.left → tokens ≡ tokens_of language.Whole o text x
 whole_tokens o text x g s tokens e f h = rw (h, e, f) refl
 
-pub in_language : {X E : Type 0} (items : X → List ℕ) (r : Result X E) (l k : Language) (o : Options) (text : List ℕ) (x : Tree) → l ≡ k
-    → IfOk r (λ y. AreFieldsIn k o text x (items y)) → IfOk r (λ y. AreFieldsIn l o text x (items y))
-in_language items r l k o text x e h = subst (λ (z : Language). IfOk r (λ y. AreFieldsIn z o text x (items y))) (sym e) h
-
-neither : (a b : Bool) (x y : List ℕ) → not a ≡ true → not b ≡ true → cond a x [] ++ cond b y [] ≡ []
-neither false false x y e f = refl
-neither true b x y e f = absurd (true≢false (sym e))
-neither false true x y e f = absurd (true≢false (sym f))
+pub in_language : {X E : Type 0} (b : Bool) (items : X → List ℕ) (r : Result X E) (l k : Language) (o : Options) (text : List ℕ) (x : Tree) → l ≡ k
+    → IfOk r (λ y. AreFieldsIn b k o text x (items y)) → IfOk r (λ y. AreFieldsIn b l o text x (items y))
+in_language b items r l k o text x e h = subst (λ (z : Language). IfOk r (λ y. AreFieldsIn b z o text x (items y))) (sym e) h
 
 none_asked : (wanted : Bool) (all : List Comment) → not wanted ≡ true → [] ≡ cond wanted all []
 none_asked false all e = refl
@@ -138,5 +135,16 @@ none_asked true all e = absurd (true≢false (sym e))
 no_comments : (l : Language) (o : Options) (text : List ℕ) (x : Tree) → not o.comments ≡ true → AreComments l o text x []
 no_comments l o text x e = none_asked o.comments (comments_of l text x) e
 
-pub fields_none : (o : Options) (text : List ℕ) (x : Tree) → not o.comments ≡ true → not o.tokens ≡ true → (out : List ℕ) → out ≡ [] → AreFields o text x out
-fields_none o text x e f out h = ([], no_comments o.language o text x e, h ∙ sym (neither o.comments o.tokens _ _ e f))
+neither : (a : Bool) (x y z : List ℕ) → not a ≡ true → cond a x z ≡ cond a y z
+neither false x y z e = refl
+neither true x y z e = absurd (true≢false (sym e))
+
+any_tokens : (b : Bool) (o : Options) (p : Placed) (ts us : List TokenAndSpan) → not o.tokens ≡ true → fields b o p [] ts ≡ fields b o p [] us
+any_tokens false o p ts us e = ap (λ r. cond o.comments (comments_field p []) [] ++ r) (neither o.tokens _ _ [] e)
+any_tokens true o p ts us e = ap (λ r. cond o.comments (comments_words p []) absent_word ++ r) (neither o.tokens _ _ absent_word e)
+
+pub fields_none : {X E : Type 0} (b : Bool) (items : X → List ℕ) (r : Result X E) (o : Options) (text : List ℕ) (x : Tree) (p : Placed) → not o.comments ≡ true → not o.tokens ≡ true
+    → p ≡ placed o text → IfOk r (λ y. items y ≡ fields b o p [] []) → IfOk r (λ y. AreFields b o text x (items y))
+fields_none b items (Ok y) o text x p e f g h =
+    ([], no_comments o.language o text x e, h ∙ ap (λ (q : Placed). fields b o q [] []) g ∙ any_tokens b o (placed o text) [] (tokens_of o.language o text x) f)
+fields_none b items (Err d) o text x p e f g h = h

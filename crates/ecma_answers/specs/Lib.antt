@@ -1,3 +1,4 @@
+pub mod Binary
 pub mod Chosen
 pub mod Languages
 pub mod Spelled

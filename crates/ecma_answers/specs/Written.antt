@@ -1,5 +1,5 @@
 -- What is written of a text: its tree as ESTree, with its comments and its tokens where they are asked for.
-use Rattle.std.specs.Prelude.{◌≡◌, ℕ, cond, List, [], ◌++◌}
+use Rattle.std.specs.Prelude.{◌≡◌, ℕ, Bool, true, false, cond, List, [], ◌++◌}
 use Rattle.std.specs.Str.{chars}
 use Rattle.swc_ecma_parser_common.specs.declared.comment.Comment.{Comment}
 use Rattle.swc_ecma_parser_token.specs.declared.token.TokenAndSpan.{TokenAndSpan}
@@ -9,9 +9,10 @@ use Rattle.swc_ecma_parser_whole_lexer.specs.declared.form.Goal.{Goal}
 use Rattle.swc_ecma_parser_whole_lexer.specs.declared.form.Goal.TheVariants as code
 use Rattle.swc_ecma_parser_whole_lexer.specs.Comments as whole
 use Rattle.ecma_estree_text.specs.Places.{Placed}
-use Rattle.ecma_estree_lists.specs.Comments.{comments_field}
-use Rattle.ecma_estree_lists.specs.Tokens.{tokens_field}
-use Rattle.ecma_estree_writer.specs.Estree.{json, plain}
+use Rattle.ecma_estree_text.specs.Binary.{absent_word}
+use Rattle.ecma_estree_lists.specs.Comments.{comments_field, comments_words}
+use Rattle.ecma_estree_lists.specs.Tokens.{tokens_field, tokens_words}
+use Rattle.ecma_estree_writer.specs.Estree.{written, plain}
 use Rattle.ecma_estree_writer.specs.Source.{source_of}
 use Rattle.ecma_answers.specs.declared.options.Language.{Language}
 use Rattle.ecma_answers.specs.declared.options.Language.TheVariants as language
@@ -41,16 +42,20 @@ abbrev pub AreComments : Language → Options → List ℕ → Tree → List Com
 AreComments l o text x comments = comments ≡ cond o.comments (comments_of l text x) []
 
 -- the fields of comments and of tokens, where they are asked for
-abbrev pub fields : Options → Placed → List Comment → List TokenAndSpan → List ℕ
-fields o p comments tokens = cond o.comments (comments_field p comments) [] ++ cond o.tokens (tokens_field p tokens) []
+abbrev pub fields : (binary : Bool) → Options → Placed → List Comment → List TokenAndSpan → List ℕ
+fields false o p comments tokens = cond o.comments (comments_field p comments) [] ++ cond o.tokens (tokens_field p tokens) []
+fields true o p comments tokens = cond o.comments (comments_words p comments) absent_word ++ cond o.tokens (tokens_words p tokens) absent_word
 
 -- those fields of a text and its tree
-abbrev pub AreFieldsIn : Language → Options → List ℕ → Tree → List ℕ → Type 0
-AreFieldsIn l o text x out = (comments : List Comment) × AreComments l o text x comments × (out ≡ fields o (placed o text) comments (tokens_of l o text x))
+abbrev pub AreFieldsIn : (binary : Bool) → Language → Options → List ℕ → Tree → List ℕ → Type 0
+AreFieldsIn b l o text x out = (comments : List Comment) × AreComments l o text x comments × (out ≡ fields b o (placed o text) comments (tokens_of l o text x))
 
-abbrev pub AreFields : Options → List ℕ → Tree → List ℕ → Type 0
-AreFields o text x out = AreFieldsIn o.language o text x out
+abbrev pub AreFields : (binary : Bool) → Options → List ℕ → Tree → List ℕ → Type 0
+AreFields b o text x out = AreFieldsIn b o.language o text x out
 
--- a tree of a text as ESTree
+-- a tree of a text as ESTree, in JSON or in the binary form
+abbrev pub IsEstreeIn : (binary : Bool) → Options → List ℕ → Tree → List ℕ → Type 0
+IsEstreeIn b o text x out = (behind : List ℕ) × AreFields b o text x behind × (out ≡ written b (source_of (placed o text) behind) plain x)
+
 abbrev pub IsEstree : Options → List ℕ → Tree → List ℕ → Type 0
-IsEstree o text x out = (behind : List ℕ) × AreFields o text x behind × (out ≡ json (source_of (placed o text) behind) plain x)
+IsEstree o text x out = IsEstreeIn false o text x out

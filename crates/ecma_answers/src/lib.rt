@@ -1,6 +1,7 @@
 //! What a text is answered with: a tree, faults, or both as JSON.
 #![tactic(auto)]
 
+mod binary;
 mod cap;
 mod choice;
 mod faults;
@@ -15,6 +16,7 @@ mod source;
 mod told;
 mod tree;
 
+pub use binary::binary_answer;
 pub use cap::{MAX_FAULTS, early_front, front, left_out};
 pub use findings::{Findings, find};
 pub use goals::read;

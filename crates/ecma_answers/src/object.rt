@@ -47,7 +47,7 @@ fn push_more(out: &mut Vec<u8>, more: usize) -> Result<(), AllocError>
 }
 
 /// Writes what is told of a text, as much as is asked for.
-fn push_all_faults(
+pub(crate) fn push_all_faults(
     alloc: Global,
     out: &mut Vec<u8>,
     options: Options,

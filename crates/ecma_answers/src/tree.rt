@@ -16,8 +16,8 @@ use crate::options::{Language, Options};
 use crate::parsing::Tree;
 use crate::source::{input_of, with_attributes};
 use ecma_estree::{write_module, write_program, write_script};
-use ecma_estree_lists::{push_comments, push_tokens};
-use ecma_estree_text::Places;
+use ecma_estree_lists::{push_comment_words, push_comments, push_token_words, push_tokens};
+use ecma_estree_text::{ABSENT, Places, push_word};
 use std::alloc::{AllocError, Global};
 use swc_ecma_parser::common::Comment;
 use swc_ecma_parser::input::{CommentSource, Tokens, is_out_of_memory};
@@ -54,15 +54,15 @@ fn comments_of(lexer: &mut Lexer<'_>) -> Result<Vec<Comment>, AllocError>
     }
 }
 
-/// Comments and tokens as the fields that are asked for.
-fn written_fields(
+/// Comments and tokens as the fields that are asked for, in JSON.
+fn json_fields(
     alloc: Global,
     options: Options,
     places: &Places<'_>,
     comments: &[Comment],
     tokens: &[TokenAndSpan],
 ) -> Result<Vec<u8>, AllocError>
-    ensures { IfOk result (λ out. out.items ≡ fields options places.now comments.now tokens.now) }
+    ensures { IfOk result (λ out. out.items ≡ fields false options places.now comments.now tokens.now) }
 {
     let mut out = Vec::new(alloc);
     if options.comments {
@@ -74,18 +74,62 @@ fn written_fields(
     Ok(out)
 }
 
+/// The same in the binary form, where a field that is not asked for has a word too.
+fn field_words(
+    alloc: Global,
+    options: Options,
+    places: &Places<'_>,
+    comments: &[Comment],
+    tokens: &[TokenAndSpan],
+) -> Result<Vec<u8>, AllocError>
+    ensures { IfOk result (λ out. out.items ≡ fields true options places.now comments.now tokens.now) }
+{
+    let mut out = Vec::new(alloc);
+    if !options.comments {
+        push_word(&mut out, ABSENT)?;
+    } else {
+        push_comment_words(&mut out, places, comments)?;
+    }
+    if !options.tokens {
+        push_word(&mut out, ABSENT)?;
+    } else {
+        push_token_words(&mut out, places, tokens)?;
+    }
+    Ok(out)
+}
+
+/// Comments and tokens as the fields that are asked for.
+fn written_fields<const BINARY: bool>(
+    alloc: Global,
+    options: Options,
+    places: &Places<'_>,
+    comments: &[Comment],
+    tokens: &[TokenAndSpan],
+) -> Result<Vec<u8>, AllocError>
+    ensures { IfOk result (λ out. out.items ≡ fields BINARY options places.now comments.now tokens.now) }
+{
+    if BINARY {
+        return field_words(alloc, options, places, comments, tokens);
+    }
+    json_fields(alloc, options, places, comments, tokens)
+}
+
 /// The comments and tokens of a text in the plain language, as fields that are asked for.
-fn plain_fields(alloc: Global, options: Options, places: &Places<'_>) -> Result<Vec<u8>, AllocError>
+fn plain_fields<const BINARY: bool>(
+    alloc: Global,
+    options: Options,
+    places: &Places<'_>,
+) -> Result<Vec<u8>, AllocError>
     requires bound { length places.now.text < 2 ^ 32 }
     requires places { places.now ≡ placed options places.now.text }
     ensures { IfOk result
-        (λ fields. (x : Model) → AreFieldsIn language.Plain options places.now.text x fields.items) }
+        (λ fields. (x : Model) → AreFieldsIn BINARY language.Plain options places.now.text x fields.items) }
 {
     let input = input_of(places.text());
     let mut lexer = Lexer::new(alloc, options.syntax, input, options.comments);
     let tokens = tokens_of(alloc, &mut lexer)?;
     let comments = comments_of(&mut lexer)?;
-    written_fields(
+    written_fields::<BINARY>(
         alloc,
         options,
         places,
@@ -145,7 +189,7 @@ fn code_goal(tree: &Tree) -> CodeGoal
 }
 
 /// The comments and tokens of a text in the whole language, as fields that are asked for.
-fn whole_fields(
+fn whole_fields<const BINARY: bool>(
     alloc: Global,
     options: Options,
     places: &Places<'_>,
@@ -154,14 +198,14 @@ fn whole_fields(
     requires bound { length places.now.text < 2 ^ 32 }
     requires places { places.now ≡ placed options places.now.text }
     ensures { IfOk result
-        (λ fields. AreFieldsIn language.Whole options places.now.text (view_tree tree.now) fields.items) }
+        (λ fields. AreFieldsIn BINARY language.Whole options places.now.text (view_tree tree.now) fields.items) }
 {
     let input = input_of(places.text());
     let syntax = with_attributes(options.syntax);
     let mut lexer = WholeLexer::new(alloc, syntax, input, options.comments, code_goal(tree));
     let tokens = whole_tokens_of(alloc, &mut lexer)?;
     let comments = whole_comments_of(&mut lexer)?;
-    written_fields(
+    written_fields::<BINARY>(
         alloc,
         options,
         places,
@@ -171,7 +215,7 @@ fn whole_fields(
 }
 
 /// The comments and tokens of a text, as fields that are asked for.
-fn fields_of(
+fn fields_of<const BINARY: bool>(
     alloc: Global,
     options: Options,
     places: &Places<'_>,
@@ -180,18 +224,37 @@ fn fields_of(
     requires bound { length places.now.text < 2 ^ 32 }
     requires places { places.now ≡ placed options places.now.text }
     ensures { IfOk result
-        (λ fields. AreFields options places.now.text (view_tree tree.now) fields.items) }
+        (λ fields. AreFields BINARY options places.now.text (view_tree tree.now) fields.items) }
 {
     if !options.comments && !options.tokens {
-        return Ok(Vec::new(alloc));
+        return written_fields::<BINARY>(alloc, options, places, &[], &[]);
     }
     match options.language {
-        Language::Plain => plain_fields(alloc, options, places),
-        Language::Whole => whole_fields(alloc, options, places, tree),
+        Language::Plain => plain_fields::<BINARY>(alloc, options, places),
+        Language::Whole => whole_fields::<BINARY>(alloc, options, places, tree),
     }
 }
 
-/// A tree as ESTree, with the places of the text that it was read from. It fails only where memory runs out.
+/// A tree as ESTree, in JSON or in the binary form, with the places of the text that it was read from. It fails only where memory runs out.
+pub(crate) fn write_in<const BINARY: bool>(
+    alloc: Global,
+    options: Options,
+    text: &str,
+    tree: &Tree,
+) -> Result<Vec<u8>, AllocError>
+    requires { length text.now < 2 ^ 32 }
+    ensures { IfOk result (λ out. IsEstreeIn BINARY options text.now (view_tree tree.now) out.items) }
+{
+    let places = Places::new(alloc, text, options.extras)?;
+    let fields = fields_of::<BINARY>(alloc, options, &places, tree)?;
+    match tree {
+        Tree::Script(tree) => write_script::<BINARY>(alloc, &places, fields.as_slice(), tree),
+        Tree::Module(tree) => write_module::<BINARY>(alloc, &places, fields.as_slice(), tree),
+        Tree::Program(tree) => write_program::<BINARY>(alloc, &places, fields.as_slice(), tree),
+    }
+}
+
+/// A tree as ESTree in JSON, with the places of the text that it was read from. It fails only where memory runs out.
 pub fn write(
     alloc: Global,
     options: Options,
@@ -201,11 +264,5 @@ pub fn write(
     requires { length text.now < 2 ^ 32 }
     ensures { IfOk result (λ out. IsEstree options text.now (view_tree tree.now) out.items) }
 {
-    let places = Places::new(alloc, text, options.extras)?;
-    let fields = fields_of(alloc, options, &places, tree)?;
-    match tree {
-        Tree::Script(tree) => write_script(alloc, &places, fields.as_slice(), tree),
-        Tree::Module(tree) => write_module(alloc, &places, fields.as_slice(), tree),
-        Tree::Program(tree) => write_program(alloc, &places, fields.as_slice(), tree),
-    }
+    write_in::<false>(alloc, options, text, tree)
 }

@@ -2,7 +2,7 @@
 
 ghost use Rattle.std.specs.Prelude.{◌≡◌, ◌++◌, codes, false, map, MatchOption, OnOk};
 ghost use Rattle.ecma_estree_writer.specs.Parts.{node, key, end, open_list, end_list, is_namespace_alone};
-ghost use Rattle.ecma_estree_writer.specs.Estree.{json, plain, declared, directives, attributes, next, first_or};
+ghost use Rattle.ecma_estree_writer.specs.Estree.{written, plain, declared, directives, attributes, next, first_or};
 ghost use Rattle.ecma_estree_writer.specs.Writing.{Appends, Pushes, Writes};
 ghost use Rattle.swc_ecma_parser_ast.specs.Parts.{view_option};
 ghost use Rattle.swc_ecma_parser_ast.specs.View.{view_default_decl, view_export_all, view_export_decl, view_export_default_decl, view_export_default_expr, view_export_default_specifier, view_export_named_specifier, view_export_namespace_specifier, view_export_specifier, view_module_decl, view_module_export_name, view_module_item, view_named_export, view_object_lit, view_str};
@@ -21,9 +21,12 @@ use swc_ecma_parser_ast::{
 
 /// Writes an item.
 #[tactic(auto, using(ecma_estree_writer::proofs::Written::appended_on_ok, ecma_estree_writer::proofs::Written::pushed_on_ok))]
-pub(crate) fn write_item<'a>(w: &mut Writer<'a>, item: &'a ModuleItem) -> Result<(), AllocError>
+pub(crate) fn write_item<'a, const BINARY: bool>(
+    w: &mut Writer<'a, BINARY>,
+    item: &'a ModuleItem,
+) -> Result<(), AllocError>
     ensures { OnOk result
-        (Writes w.old w.new (json w.old.source plain (view_module_item item.now))) }
+        (Writes w.old w.new (written BINARY w.old.source plain (view_module_item item.now))) }
 {
     match item {
         ModuleItem::ModuleDecl(x) => write_module_decl(w, x),
@@ -33,13 +36,13 @@ pub(crate) fn write_item<'a>(w: &mut Writer<'a>, item: &'a ModuleItem) -> Result
 
 /// Writes an item that is a directive where it is a string; else as it is.
 #[tactic(auto, using(crate::proofs::Directives::declaration_as_it_is))]
-pub(crate) fn write_directive_item<'a>(
-    w: &mut Writer<'a>,
+pub(crate) fn write_directive_item<'a, const BINARY: bool>(
+    w: &mut Writer<'a, BINARY>,
     item: &'a ModuleItem,
 ) -> Result<(), AllocError>
     ensures { OnOk result
         (Writes w.old w.new
-        (json w.old.source (next directives (view_module_item item.now))
+        (written BINARY w.old.source (next directives (view_module_item item.now))
         (view_module_item item.now))) }
 {
     match item {
@@ -50,9 +53,12 @@ pub(crate) fn write_directive_item<'a>(
 
 /// Writes an import or an export.
 #[tactic(auto, using(ecma_estree_writer::proofs::Written::appended_on_ok, ecma_estree_writer::proofs::Written::pushed_on_ok))]
-fn write_module_decl<'a>(w: &mut Writer<'a>, decl: &'a ModuleDecl) -> Result<(), AllocError>
+fn write_module_decl<'a, const BINARY: bool>(
+    w: &mut Writer<'a, BINARY>,
+    decl: &'a ModuleDecl,
+) -> Result<(), AllocError>
     ensures { OnOk result
-        (Writes w.old w.new (json w.old.source plain (view_module_decl decl.now))) }
+        (Writes w.old w.new (written BINARY w.old.source plain (view_module_decl decl.now))) }
 {
     match decl {
         ModuleDecl::Import(x) => write_import(w, x),
@@ -65,8 +71,11 @@ fn write_module_decl<'a>(w: &mut Writer<'a>, decl: &'a ModuleDecl) -> Result<(),
 }
 
 /// Has a field written that is a list of nothing.
-fn push_empty_list(w: &mut Writer<'_>, name: &'static str) -> Result<(), AllocError>
-    ensures { OnOk result (Pushes w.old w.new (key name.now ++ (open_list ++ end_list))) }
+fn push_empty_list<const BINARY: bool>(
+    w: &mut Writer<'_, BINARY>,
+    name: &'static str,
+) -> Result<(), AllocError>
+    ensures { OnOk result (Pushes w.old w.new (key BINARY name.now ++ (open_list BINARY ++ end_list BINARY))) }
 {
     w.push(Work::EndList)?;
     w.push(Work::OpenList)?;
@@ -74,8 +83,11 @@ fn push_empty_list(w: &mut Writer<'_>, name: &'static str) -> Result<(), AllocEr
 }
 
 /// Writes an exported declaration.
-fn write_export_decl<'a>(w: &mut Writer<'a>, x: &'a ExportDecl) -> Result<(), AllocError>
-    ensures { OnOk result (Writes w.old w.new (json w.old.source plain (view_export_decl x.now))) }
+fn write_export_decl<'a, const BINARY: bool>(
+    w: &mut Writer<'a, BINARY>,
+    x: &'a ExportDecl,
+) -> Result<(), AllocError>
+    ensures { OnOk result (Writes w.old w.new (written BINARY w.old.source plain (view_export_decl x.now))) }
 {
     w.open("ExportNamedDeclaration", x.span)?;
     w.key("declaration")?;
@@ -88,9 +100,12 @@ fn write_export_decl<'a>(w: &mut Writer<'a>, x: &'a ExportDecl) -> Result<(), Al
 }
 
 /// Has written what an export takes names from, or `null`.
-fn push_source<'a>(w: &mut Writer<'a>, src: &'a Option<Str>) -> Result<(), AllocError>
+fn push_source<'a, const BINARY: bool>(
+    w: &mut Writer<'a, BINARY>,
+    src: &'a Option<Str>,
+) -> Result<(), AllocError>
     ensures { OnOk result
-        (Pushes w.old w.new (json w.old.source plain (view_option view_str src.now))) }
+        (Pushes w.old w.new (written BINARY w.old.source plain (view_option view_str src.now))) }
 {
     match src {
         Some(x) => w.push(Work::Str(x)),
@@ -99,15 +114,18 @@ fn push_source<'a>(w: &mut Writer<'a>, src: &'a Option<Str>) -> Result<(), Alloc
 }
 
 /// Has the rest of an export written: what it takes names from, and attributes.
-fn push_origin<'a>(w: &mut Writer<'a>, x: &'a NamedExport) -> Result<(), AllocError>
+fn push_origin<'a, const BINARY: bool>(
+    w: &mut Writer<'a, BINARY>,
+    x: &'a NamedExport,
+) -> Result<(), AllocError>
     ensures { OnOk result
         (Pushes w.old w.new
-        (key (codes "source")
-        ++ (json w.old.source plain (view_option view_str x.now.src)
-        ++ (key (codes "attributes")
-        ++ (open_list
-        ++ (json w.old.source attributes (view_option view_object_lit x.now.with)
-        ++ (end_list ++ end))))))) }
+        (key BINARY (codes "source")
+        ++ (written BINARY w.old.source plain (view_option view_str x.now.src)
+        ++ (key BINARY (codes "attributes")
+        ++ (open_list BINARY
+        ++ (written BINARY w.old.source attributes (view_option view_object_lit x.now.with)
+        ++ (end_list BINARY ++ end BINARY))))))) }
 {
     w.push(Work::End)?;
     push_attributes(w, &x.with)?;
@@ -137,8 +155,11 @@ fn namespace_alone(specifiers: &[ExportSpecifier]) -> Option<&ExportNamespaceSpe
 
 /// Writes exported names, of this module or of another.
 #[tactic(auto, using(crate::proofs::Exported::written_alone, crate::proofs::Exported::written_in_braces))]
-fn write_named_export<'a>(w: &mut Writer<'a>, x: &'a NamedExport) -> Result<(), AllocError>
-    ensures { OnOk result (Writes w.old w.new (json w.old.source plain (view_named_export x.now))) }
+fn write_named_export<'a, const BINARY: bool>(
+    w: &mut Writer<'a, BINARY>,
+    x: &'a NamedExport,
+) -> Result<(), AllocError>
+    ensures { OnOk result (Writes w.old w.new (written BINARY w.old.source plain (view_named_export x.now))) }
 {
     if let Some(namespace) = namespace_alone(x.specifiers.as_slice()) {
         return write_namespace_export(w, x, &namespace.name);
@@ -153,22 +174,22 @@ fn write_named_export<'a>(w: &mut Writer<'a>, x: &'a NamedExport) -> Result<(), 
 }
 
 /// Writes a name for all that another module exports.
-fn write_namespace_export<'a>(
-    w: &mut Writer<'a>,
+fn write_namespace_export<'a, const BINARY: bool>(
+    w: &mut Writer<'a, BINARY>,
     x: &'a NamedExport,
     name: &ModuleExportName,
 ) -> Result<(), AllocError>
     ensures { OnOk result
         (Writes w.old w.new
-        (node w.old.source (codes "ExportAllDeclaration") x.now.span
-        ++ (key (codes "exported")
-        ++ (json w.old.source plain (view_module_export_name name.now)
-        ++ (key (codes "source")
-        ++ (json w.old.source plain (view_option view_str x.now.src)
-        ++ (key (codes "attributes")
-        ++ (open_list
-        ++ (json w.old.source attributes (view_option view_object_lit x.now.with)
-        ++ (end_list ++ end)))))))))) }
+        (node BINARY w.old.source (codes "ExportAllDeclaration") x.now.span
+        ++ (key BINARY (codes "exported")
+        ++ (written BINARY w.old.source plain (view_module_export_name name.now)
+        ++ (key BINARY (codes "source")
+        ++ (written BINARY w.old.source plain (view_option view_str x.now.src)
+        ++ (key BINARY (codes "attributes")
+        ++ (open_list BINARY
+        ++ (written BINARY w.old.source attributes (view_option view_object_lit x.now.with)
+        ++ (end_list BINARY ++ end BINARY)))))))))) }
 {
     w.open("ExportAllDeclaration", x.span)?;
     w.key("exported")?;
@@ -177,9 +198,12 @@ fn write_namespace_export<'a>(
 }
 
 /// Writes a function or class as a declaration, which may have no name.
-fn write_default<'a>(w: &mut Writer<'a>, decl: &'a DefaultDecl) -> Result<(), AllocError>
+fn write_default<'a, const BINARY: bool>(
+    w: &mut Writer<'a, BINARY>,
+    decl: &'a DefaultDecl,
+) -> Result<(), AllocError>
     ensures { OnOk result
-        (Writes w.old w.new (json w.old.source declared (view_default_decl decl.now))) }
+        (Writes w.old w.new (written BINARY w.old.source declared (view_default_decl decl.now))) }
 {
     match decl {
         DefaultDecl::Class(class) => write_class(w, "ClassDeclaration", &class.ident, &class.class),
@@ -188,9 +212,12 @@ fn write_default<'a>(w: &mut Writer<'a>, decl: &'a DefaultDecl) -> Result<(), Al
 }
 
 /// Writes a function or class that is exported by default.
-fn write_default_decl<'a>(w: &mut Writer<'a>, x: &'a ExportDefaultDecl) -> Result<(), AllocError>
+fn write_default_decl<'a, const BINARY: bool>(
+    w: &mut Writer<'a, BINARY>,
+    x: &'a ExportDefaultDecl,
+) -> Result<(), AllocError>
     ensures { OnOk result
-        (Writes w.old w.new (json w.old.source plain (view_export_default_decl x.now))) }
+        (Writes w.old w.new (written BINARY w.old.source plain (view_export_default_decl x.now))) }
 {
     w.open("ExportDefaultDeclaration", x.span)?;
     w.key("declaration")?;
@@ -199,9 +226,12 @@ fn write_default_decl<'a>(w: &mut Writer<'a>, x: &'a ExportDefaultDecl) -> Resul
 }
 
 /// Writes an expression that is exported by default.
-fn write_default_expr<'a>(w: &mut Writer<'a>, x: &'a ExportDefaultExpr) -> Result<(), AllocError>
+fn write_default_expr<'a, const BINARY: bool>(
+    w: &mut Writer<'a, BINARY>,
+    x: &'a ExportDefaultExpr,
+) -> Result<(), AllocError>
     ensures { OnOk result
-        (Writes w.old w.new (json w.old.source plain (view_export_default_expr x.now))) }
+        (Writes w.old w.new (written BINARY w.old.source plain (view_export_default_expr x.now))) }
 {
     w.open("ExportDefaultDeclaration", x.span)?;
     w.key("declaration")?;
@@ -210,8 +240,11 @@ fn write_default_expr<'a>(w: &mut Writer<'a>, x: &'a ExportDefaultExpr) -> Resul
 }
 
 /// Writes an export of all names of another module.
-fn write_export_all<'a>(w: &mut Writer<'a>, x: &'a ExportAll) -> Result<(), AllocError>
-    ensures { OnOk result (Writes w.old w.new (json w.old.source plain (view_export_all x.now))) }
+fn write_export_all<'a, const BINARY: bool>(
+    w: &mut Writer<'a, BINARY>,
+    x: &'a ExportAll,
+) -> Result<(), AllocError>
+    ensures { OnOk result (Writes w.old w.new (written BINARY w.old.source plain (view_export_all x.now))) }
 {
     w.open("ExportAllDeclaration", x.span)?;
     w.key("exported")?;
@@ -223,12 +256,12 @@ fn write_export_all<'a>(w: &mut Writer<'a>, x: &'a ExportAll) -> Result<(), Allo
 }
 
 /// Writes a name that is exported.
-pub(crate) fn write_export_specifier(
-    w: &mut Writer<'_>,
+pub(crate) fn write_export_specifier<const BINARY: bool>(
+    w: &mut Writer<'_, BINARY>,
     specifier: &ExportSpecifier,
 ) -> Result<(), AllocError>
     ensures { OnOk result
-        (Appends w.old w.new (json w.old.source plain (view_export_specifier specifier.now))) }
+        (Appends w.old w.new (written BINARY w.old.source plain (view_export_specifier specifier.now))) }
 {
     match specifier {
         ExportSpecifier::Named(x) => write_named(w, x),
@@ -243,9 +276,12 @@ pub(crate) fn write_export_specifier(
 }
 
 /// Writes a name that is exported as it stands before `from`.
-fn write_default_specifier(w: &mut Writer<'_>, x: &ExportDefaultSpecifier) -> Result<(), AllocError>
+fn write_default_specifier<const BINARY: bool>(
+    w: &mut Writer<'_, BINARY>,
+    x: &ExportDefaultSpecifier,
+) -> Result<(), AllocError>
     ensures { OnOk result
-        (Appends w.old w.new (json w.old.source plain (view_export_default_specifier x.now))) }
+        (Appends w.old w.new (written BINARY w.old.source plain (view_export_default_specifier x.now))) }
 {
     w.open("ExportDefaultSpecifier", x.exported.span)?;
     w.key("exported")?;
@@ -254,17 +290,17 @@ fn write_default_specifier(w: &mut Writer<'_>, x: &ExportDefaultSpecifier) -> Re
 }
 
 /// Writes what has a name that it is exported by, a node of the given kind.
-fn write_exported(
-    w: &mut Writer<'_>,
+fn write_exported<const BINARY: bool>(
+    w: &mut Writer<'_, BINARY>,
     kind: &str,
     span: Span,
     name: &ModuleExportName,
 ) -> Result<(), AllocError>
     ensures { OnOk result
         (Appends w.old w.new
-        (node w.old.source kind.now span
-        ++ (key (codes "exported")
-        ++ (json w.old.source plain (view_module_export_name name.now) ++ end)))) }
+        (node BINARY w.old.source kind.now span
+        ++ (key BINARY (codes "exported")
+        ++ (written BINARY w.old.source plain (view_module_export_name name.now) ++ end BINARY)))) }
 {
     w.open(kind, span)?;
     w.key("exported")?;
@@ -274,10 +310,13 @@ fn write_exported(
 
 /// Writes the name that something is exported by: its own, where there is no other.
 #[tactic(auto, using(crate::proofs::Exported::first_name))]
-fn write_exported_name(w: &mut Writer<'_>, x: &ExportNamedSpecifier) -> Result<(), AllocError>
+fn write_exported_name<const BINARY: bool>(
+    w: &mut Writer<'_, BINARY>,
+    x: &ExportNamedSpecifier,
+) -> Result<(), AllocError>
     ensures { OnOk result
         (Appends w.old w.new
-        (first_or w.old.source (view_option view_module_export_name x.now.exported)
+        (first_or BINARY w.old.source (view_option view_module_export_name x.now.exported)
         (view_module_export_name x.now.orig))) }
 {
     match &x.exported {
@@ -287,9 +326,12 @@ fn write_exported_name(w: &mut Writer<'_>, x: &ExportNamedSpecifier) -> Result<(
 }
 
 /// Writes a name, with the one that it is exported by.
-fn write_named(w: &mut Writer<'_>, x: &ExportNamedSpecifier) -> Result<(), AllocError>
+fn write_named<const BINARY: bool>(
+    w: &mut Writer<'_, BINARY>,
+    x: &ExportNamedSpecifier,
+) -> Result<(), AllocError>
     ensures { OnOk result
-        (Appends w.old w.new (json w.old.source plain (view_export_named_specifier x.now))) }
+        (Appends w.old w.new (written BINARY w.old.source plain (view_export_named_specifier x.now))) }
 {
     w.open("ExportSpecifier", x.span)?;
     w.key("local")?;

@@ -2,7 +2,7 @@
 
 ghost use Rattle.std.specs.Prelude.{◌++◌, codes, OnOk};
 ghost use Rattle.ecma_estree_writer.specs.Parts.{node, key, end, open_list, end_list, phase_field};
-ghost use Rattle.ecma_estree_writer.specs.Estree.{json, plain, attributes, first_or};
+ghost use Rattle.ecma_estree_writer.specs.Estree.{written, plain, attributes, first_or};
 ghost use Rattle.ecma_estree_writer.specs.Writing.{Appends, Pushes, Writes};
 ghost use Rattle.swc_ecma_parser_ast.specs.Parts.{view_option};
 ghost use Rattle.swc_ecma_parser_ast.specs.View.{view_ident, view_import_decl, view_import_named_specifier, view_import_specifier, view_module_export_name, view_object_lit};
@@ -15,12 +15,12 @@ use swc_ecma_parser_ast::{
 };
 
 /// Writes the name of an export.
-pub(crate) fn write_export_name(
-    w: &mut Writer<'_>,
+pub(crate) fn write_export_name<const BINARY: bool>(
+    w: &mut Writer<'_, BINARY>,
     name: &ModuleExportName,
 ) -> Result<(), AllocError>
     ensures { OnOk result
-        (Appends w.old w.new (json w.old.source plain (view_module_export_name name.now))) }
+        (Appends w.old w.new (written BINARY w.old.source plain (view_module_export_name name.now))) }
 {
     match name {
         ModuleExportName::Ident(x) => write_name(w, x),
@@ -29,9 +29,12 @@ pub(crate) fn write_export_name(
 }
 
 /// Has attributes written, if there are any.
-fn push_parts<'a>(w: &mut Writer<'a>, with: &'a Option<ObjectLit>) -> Result<(), AllocError>
+fn push_parts<'a, const BINARY: bool>(
+    w: &mut Writer<'a, BINARY>,
+    with: &'a Option<ObjectLit>,
+) -> Result<(), AllocError>
     ensures { OnOk result
-        (Pushes w.old w.new (json w.old.source attributes (view_option view_object_lit with.now))) }
+        (Pushes w.old w.new (written BINARY w.old.source attributes (view_option view_object_lit with.now))) }
 {
     match with {
         Some(x) => w.push(Work::Attributes(x.props.as_slice(), true)),
@@ -40,15 +43,15 @@ fn push_parts<'a>(w: &mut Writer<'a>, with: &'a Option<ObjectLit>) -> Result<(),
 }
 
 /// Has attributes written as a field.
-pub(crate) fn push_attributes<'a>(
-    w: &mut Writer<'a>,
+pub(crate) fn push_attributes<'a, const BINARY: bool>(
+    w: &mut Writer<'a, BINARY>,
     with: &'a Option<ObjectLit>,
 ) -> Result<(), AllocError>
     ensures { OnOk result
         (Pushes w.old w.new
-        (key (codes "attributes")
-        ++ (open_list
-        ++ (json w.old.source attributes (view_option view_object_lit with.now) ++ end_list)))) }
+        (key BINARY (codes "attributes")
+        ++ (open_list BINARY
+        ++ (written BINARY w.old.source attributes (view_option view_object_lit with.now) ++ end_list BINARY)))) }
 {
     w.push(Work::EndList)?;
     push_parts(w, with)?;
@@ -58,8 +61,11 @@ pub(crate) fn push_attributes<'a>(
 
 /// Has the phase of an import written, where a word says one.
 #[tactic(auto, unfolding(ecma_estree_writer::specs::Parts::phase_field))]
-fn push_phase(w: &mut Writer<'_>, phase: ImportPhase) -> Result<(), AllocError>
-    ensures { OnOk result (Pushes w.old w.new (phase_field phase)) }
+fn push_phase<const BINARY: bool>(
+    w: &mut Writer<'_, BINARY>,
+    phase: ImportPhase,
+) -> Result<(), AllocError>
+    ensures { OnOk result (Pushes w.old w.new (phase_field BINARY phase)) }
 {
     match phase {
         ImportPhase::Evaluation => Ok(()),
@@ -69,8 +75,11 @@ fn push_phase(w: &mut Writer<'_>, phase: ImportPhase) -> Result<(), AllocError>
 }
 
 /// Writes an import.
-pub(crate) fn write_import<'a>(w: &mut Writer<'a>, x: &'a ImportDecl) -> Result<(), AllocError>
-    ensures { OnOk result (Writes w.old w.new (json w.old.source plain (view_import_decl x.now))) }
+pub(crate) fn write_import<'a, const BINARY: bool>(
+    w: &mut Writer<'a, BINARY>,
+    x: &'a ImportDecl,
+) -> Result<(), AllocError>
+    ensures { OnOk result (Writes w.old w.new (written BINARY w.old.source plain (view_import_decl x.now))) }
 {
     w.open("ImportDeclaration", x.span)?;
     w.list_key("specifiers")?;
@@ -84,12 +93,12 @@ pub(crate) fn write_import<'a>(w: &mut Writer<'a>, x: &'a ImportDecl) -> Result<
 }
 
 /// Writes a name that is imported.
-pub(crate) fn write_import_specifier(
-    w: &mut Writer<'_>,
+pub(crate) fn write_import_specifier<const BINARY: bool>(
+    w: &mut Writer<'_, BINARY>,
     specifier: &ImportSpecifier,
 ) -> Result<(), AllocError>
     ensures { OnOk result
-        (Appends w.old w.new (json w.old.source plain (view_import_specifier specifier.now))) }
+        (Appends w.old w.new (written BINARY w.old.source plain (view_import_specifier specifier.now))) }
 {
     match specifier {
         ImportSpecifier::Named(x) => write_named(w, x),
@@ -101,11 +110,16 @@ pub(crate) fn write_import_specifier(
 }
 
 /// Writes what has a name of its own alone, a node of the given kind.
-fn write_local(w: &mut Writer<'_>, kind: &str, span: Span, local: &Ident) -> Result<(), AllocError>
+fn write_local<const BINARY: bool>(
+    w: &mut Writer<'_, BINARY>,
+    kind: &str,
+    span: Span,
+    local: &Ident,
+) -> Result<(), AllocError>
     ensures { OnOk result
         (Appends w.old w.new
-        (node w.old.source kind.now span
-        ++ (key (codes "local") ++ (json w.old.source plain (view_ident local.now) ++ end)))) }
+        (node BINARY w.old.source kind.now span
+        ++ (key BINARY (codes "local") ++ (written BINARY w.old.source plain (view_ident local.now) ++ end BINARY)))) }
 {
     w.open(kind, span)?;
     w.key("local")?;
@@ -115,10 +129,13 @@ fn write_local(w: &mut Writer<'_>, kind: &str, span: Span, local: &Ident) -> Res
 
 /// Writes the name that something is exported by: its own, where there is no other.
 #[tactic(auto, using(crate::proofs::Exported::first_name))]
-fn write_imported(w: &mut Writer<'_>, x: &ImportNamedSpecifier) -> Result<(), AllocError>
+fn write_imported<const BINARY: bool>(
+    w: &mut Writer<'_, BINARY>,
+    x: &ImportNamedSpecifier,
+) -> Result<(), AllocError>
     ensures { OnOk result
         (Appends w.old w.new
-        (first_or w.old.source (view_option view_module_export_name x.now.imported)
+        (first_or BINARY w.old.source (view_option view_module_export_name x.now.imported)
         (view_ident x.now.local))) }
 {
     match &x.imported {
@@ -128,9 +145,12 @@ fn write_imported(w: &mut Writer<'_>, x: &ImportNamedSpecifier) -> Result<(), Al
 }
 
 /// Writes a name in braces.
-fn write_named(w: &mut Writer<'_>, x: &ImportNamedSpecifier) -> Result<(), AllocError>
+fn write_named<const BINARY: bool>(
+    w: &mut Writer<'_, BINARY>,
+    x: &ImportNamedSpecifier,
+) -> Result<(), AllocError>
     ensures { OnOk result
-        (Appends w.old w.new (json w.old.source plain (view_import_named_specifier x.now))) }
+        (Appends w.old w.new (written BINARY w.old.source plain (view_import_named_specifier x.now))) }
 {
     w.open("ImportSpecifier", x.span)?;
     w.key("imported")?;

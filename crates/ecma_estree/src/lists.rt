@@ -22,16 +22,16 @@ use swc_ecma_parser_ast::{
 };
 
 /// Has the first part of what is left of a list written, behind a comma where another stands before it, and then the rest.
-fn write_next<'a>(
-    w: &mut Writer<'a>,
+fn write_next<'a, const BINARY: bool>(
+    w: &mut Writer<'a, BINARY>,
     is_first: bool,
     part: Work<'a>,
     rest: Work<'a>,
 ) -> Result<(), AllocError>
     ensures { OnOk result
         (Writes w.old w.new
-        (parts.comma is_first
-        ++ (work_text w.old.source part.entry ++ work_text w.old.source rest.entry))) }
+        (parts.comma BINARY is_first
+        ++ (work_text BINARY w.old.source part.entry ++ work_text BINARY w.old.source rest.entry))) }
 {
     w.comma(is_first)?;
     w.push(rest)?;
@@ -39,14 +39,14 @@ fn write_next<'a>(
 }
 
 /// Writes expressions.
-pub(crate) fn write_exprs<'a>(
-    w: &mut Writer<'a>,
+pub(crate) fn write_exprs<'a, const BINARY: bool>(
+    w: &mut Writer<'a, BINARY>,
     parts: &'a [ExprBox],
     is_first: bool,
 ) -> Result<(), AllocError>
     ensures { OnOk result
         (Writes w.old w.new
-        (jsons w.old.source plain is_first (trees (map (λ b. b.node.tree) parts.now)))) }
+        (jsons BINARY w.old.source plain is_first (trees (map (λ b. b.node.tree) parts.now)))) }
 {
     match parts.split_first() {
         Some((x, rest)) => write_next(w, is_first, Work::Expr(x), Work::Exprs(rest, false)),
@@ -55,14 +55,14 @@ pub(crate) fn write_exprs<'a>(
 }
 
 /// Writes the texts of a template.
-pub(crate) fn write_quasis<'a>(
-    w: &mut Writer<'a>,
+pub(crate) fn write_quasis<'a, const BINARY: bool>(
+    w: &mut Writer<'a, BINARY>,
     parts: &'a [TplElement],
     is_first: bool,
 ) -> Result<(), AllocError>
     ensures { OnOk result
         (Writes w.old w.new
-        (jsons w.old.source plain is_first (trees (map view_tpl_element parts.now)))) }
+        (jsons BINARY w.old.source plain is_first (trees (map view_tpl_element parts.now)))) }
 {
     match parts.split_first() {
         Some((x, rest)) => write_next(w, is_first, Work::Quasi(x), Work::Quasis(rest, false)),
@@ -71,14 +71,14 @@ pub(crate) fn write_quasis<'a>(
 }
 
 /// Writes arguments.
-pub(crate) fn write_arguments<'a>(
-    w: &mut Writer<'a>,
+pub(crate) fn write_arguments<'a, const BINARY: bool>(
+    w: &mut Writer<'a, BINARY>,
     parts: &'a [ExprOrSpread],
     is_first: bool,
 ) -> Result<(), AllocError>
     ensures { OnOk result
         (Writes w.old w.new
-        (jsons w.old.source plain is_first (trees (map view_expr_or_spread parts.now)))) }
+        (jsons BINARY w.old.source plain is_first (trees (map view_expr_or_spread parts.now)))) }
 {
     match parts.split_first() {
         Some((x, rest)) => write_next(w, is_first, Work::Argument(x), Work::Arguments(rest, false)),
@@ -87,14 +87,14 @@ pub(crate) fn write_arguments<'a>(
 }
 
 /// Writes parts of an object.
-pub(crate) fn write_properties<'a>(
-    w: &mut Writer<'a>,
+pub(crate) fn write_properties<'a, const BINARY: bool>(
+    w: &mut Writer<'a, BINARY>,
     parts: &'a [PropOrSpread],
     is_first: bool,
 ) -> Result<(), AllocError>
     ensures { OnOk result
         (Writes w.old w.new
-        (jsons w.old.source plain is_first (trees (map view_prop_or_spread parts.now)))) }
+        (jsons BINARY w.old.source plain is_first (trees (map view_prop_or_spread parts.now)))) }
 {
     match parts.split_first() {
         Some((x, rest)) => {
@@ -110,14 +110,14 @@ pub(crate) fn write_properties<'a>(
 }
 
 /// Writes attributes.
-pub(crate) fn write_attributes<'a>(
-    w: &mut Writer<'a>,
+pub(crate) fn write_attributes<'a, const BINARY: bool>(
+    w: &mut Writer<'a, BINARY>,
     parts: &'a [PropOrSpread],
     is_first: bool,
 ) -> Result<(), AllocError>
     ensures { OnOk result
         (Writes w.old w.new
-        (jsons w.old.source attributes is_first (trees (map view_prop_or_spread parts.now)))) }
+        (jsons BINARY w.old.source attributes is_first (trees (map view_prop_or_spread parts.now)))) }
 {
     match parts.split_first() {
         Some((x, rest)) => {
@@ -133,13 +133,13 @@ pub(crate) fn write_attributes<'a>(
 }
 
 /// Writes patterns.
-pub(crate) fn write_patterns<'a>(
-    w: &mut Writer<'a>,
+pub(crate) fn write_patterns<'a, const BINARY: bool>(
+    w: &mut Writer<'a, BINARY>,
     parts: &'a [Pat],
     is_first: bool,
 ) -> Result<(), AllocError>
     ensures { OnOk result
-        (Writes w.old w.new (jsons w.old.source plain is_first (trees (map view_pat parts.now)))) }
+        (Writes w.old w.new (jsons BINARY w.old.source plain is_first (trees (map view_pat parts.now)))) }
 {
     match parts.split_first() {
         Some((x, rest)) => write_next(w, is_first, Work::Pattern(x), Work::Patterns(rest, false)),
@@ -148,14 +148,14 @@ pub(crate) fn write_patterns<'a>(
 }
 
 /// Writes parts of an object pattern.
-pub(crate) fn write_pat_properties<'a>(
-    w: &mut Writer<'a>,
+pub(crate) fn write_pat_properties<'a, const BINARY: bool>(
+    w: &mut Writer<'a, BINARY>,
     parts: &'a [ObjectPatProp],
     is_first: bool,
 ) -> Result<(), AllocError>
     ensures { OnOk result
         (Writes w.old w.new
-        (jsons w.old.source plain is_first (trees (map view_object_pat_prop parts.now)))) }
+        (jsons BINARY w.old.source plain is_first (trees (map view_object_pat_prop parts.now)))) }
 {
     match parts.split_first() {
         Some((x, rest)) => {
@@ -171,14 +171,14 @@ pub(crate) fn write_pat_properties<'a>(
 }
 
 /// Writes parameters.
-pub(crate) fn write_params<'a>(
-    w: &mut Writer<'a>,
+pub(crate) fn write_params<'a, const BINARY: bool>(
+    w: &mut Writer<'a, BINARY>,
     parts: &'a [Param],
     is_first: bool,
 ) -> Result<(), AllocError>
     ensures { OnOk result
         (Writes w.old w.new
-        (jsons w.old.source plain is_first (trees (map view_param parts.now)))) }
+        (jsons BINARY w.old.source plain is_first (trees (map view_param parts.now)))) }
 {
     match parts.split_first() {
         Some((x, rest)) => {
@@ -194,14 +194,14 @@ pub(crate) fn write_params<'a>(
 }
 
 /// Writes decorators.
-pub(crate) fn write_decorators<'a>(
-    w: &mut Writer<'a>,
+pub(crate) fn write_decorators<'a, const BINARY: bool>(
+    w: &mut Writer<'a, BINARY>,
     parts: &'a [Decorator],
     is_first: bool,
 ) -> Result<(), AllocError>
     ensures { OnOk result
         (Writes w.old w.new
-        (jsons w.old.source plain is_first (trees (map view_decorator parts.now)))) }
+        (jsons BINARY w.old.source plain is_first (trees (map view_decorator parts.now)))) }
 {
     match parts.split_first() {
         Some((x, rest)) => {
@@ -217,13 +217,13 @@ pub(crate) fn write_decorators<'a>(
 }
 
 /// Writes statements.
-pub(crate) fn write_statements<'a>(
-    w: &mut Writer<'a>,
+pub(crate) fn write_statements<'a, const BINARY: bool>(
+    w: &mut Writer<'a, BINARY>,
     parts: &'a [Stmt],
     is_first: bool,
 ) -> Result<(), AllocError>
     ensures { OnOk result
-        (Writes w.old w.new (jsons w.old.source plain is_first (trees (map view_stmt parts.now)))) }
+        (Writes w.old w.new (jsons BINARY w.old.source plain is_first (trees (map view_stmt parts.now)))) }
 {
     match parts.split_first() {
         Some((x, rest)) => {
@@ -239,14 +239,14 @@ pub(crate) fn write_statements<'a>(
 }
 
 /// Writes cases.
-pub(crate) fn write_cases<'a>(
-    w: &mut Writer<'a>,
+pub(crate) fn write_cases<'a, const BINARY: bool>(
+    w: &mut Writer<'a, BINARY>,
     parts: &'a [SwitchCase],
     is_first: bool,
 ) -> Result<(), AllocError>
     ensures { OnOk result
         (Writes w.old w.new
-        (jsons w.old.source plain is_first (trees (map view_switch_case parts.now)))) }
+        (jsons BINARY w.old.source plain is_first (trees (map view_switch_case parts.now)))) }
 {
     match parts.split_first() {
         Some((x, rest)) => write_next(w, is_first, Work::Case(x), Work::Cases(rest, false)),
@@ -255,14 +255,14 @@ pub(crate) fn write_cases<'a>(
 }
 
 /// Writes variables.
-pub(crate) fn write_declarators<'a>(
-    w: &mut Writer<'a>,
+pub(crate) fn write_declarators<'a, const BINARY: bool>(
+    w: &mut Writer<'a, BINARY>,
     parts: &'a [VarDeclarator],
     is_first: bool,
 ) -> Result<(), AllocError>
     ensures { OnOk result
         (Writes w.old w.new
-        (jsons w.old.source plain is_first (trees (map view_declarator parts.now)))) }
+        (jsons BINARY w.old.source plain is_first (trees (map view_declarator parts.now)))) }
 {
     match parts.split_first() {
         Some((x, rest)) => {
@@ -278,14 +278,14 @@ pub(crate) fn write_declarators<'a>(
 }
 
 /// Writes items.
-pub(crate) fn write_items<'a>(
-    w: &mut Writer<'a>,
+pub(crate) fn write_items<'a, const BINARY: bool>(
+    w: &mut Writer<'a, BINARY>,
     parts: &'a [ModuleItem],
     is_first: bool,
 ) -> Result<(), AllocError>
     ensures { OnOk result
         (Writes w.old w.new
-        (jsons w.old.source plain is_first (trees (map view_module_item parts.now)))) }
+        (jsons BINARY w.old.source plain is_first (trees (map view_module_item parts.now)))) }
 {
     match parts.split_first() {
         Some((x, rest)) => write_next(w, is_first, Work::Item(x), Work::Items(rest, false)),
@@ -294,14 +294,14 @@ pub(crate) fn write_items<'a>(
 }
 
 /// Writes elements, a hole as `null`.
-pub(crate) fn write_elements<'a>(
-    w: &mut Writer<'a>,
+pub(crate) fn write_elements<'a, const BINARY: bool>(
+    w: &mut Writer<'a, BINARY>,
     parts: &'a [Option<ExprOrSpread>],
     is_first: bool,
 ) -> Result<(), AllocError>
     ensures { OnOk result
         (Writes w.old w.new
-        (jsons w.old.source plain is_first
+        (jsons BINARY w.old.source plain is_first
         (trees (map (view_option view_expr_or_spread) parts.now)))) }
 {
     let Some((x, rest)) = parts.split_first() else {
@@ -315,14 +315,14 @@ pub(crate) fn write_elements<'a>(
 }
 
 /// Writes elements of a pattern, a hole as `null`.
-pub(crate) fn write_pat_elements<'a>(
-    w: &mut Writer<'a>,
+pub(crate) fn write_pat_elements<'a, const BINARY: bool>(
+    w: &mut Writer<'a, BINARY>,
     parts: &'a [Option<PatBox>],
     is_first: bool,
 ) -> Result<(), AllocError>
     ensures { OnOk result
         (Writes w.old w.new
-        (jsons w.old.source plain is_first
+        (jsons BINARY w.old.source plain is_first
         (trees (map (view_option (λ b. b.node.tree)) parts.now)))) }
 {
     let Some((x, rest)) = parts.split_first() else {
@@ -336,14 +336,14 @@ pub(crate) fn write_pat_elements<'a>(
 }
 
 /// Writes the parameters of a constructor.
-pub(crate) fn write_constructor_params<'a>(
-    w: &mut Writer<'a>,
+pub(crate) fn write_constructor_params<'a, const BINARY: bool>(
+    w: &mut Writer<'a, BINARY>,
     parts: &'a [ParamOrTsParamProp],
     is_first: bool,
 ) -> Result<(), AllocError>
     ensures { OnOk result
         (Writes w.old w.new
-        (jsons w.old.source plain is_first (trees (map view_param_or_ts_param_prop parts.now)))) }
+        (jsons BINARY w.old.source plain is_first (trees (map view_param_or_ts_param_prop parts.now)))) }
 {
     let Some((x, rest)) = parts.split_first() else {
         return Ok(());
@@ -369,14 +369,14 @@ fn is_empty_member(member: &ClassMember) -> bool
 
 /// Writes the members of a class, but for those that are a `;` alone.
 #[tactic(auto, using(crate::proofs::Listed::member_left_out, crate::proofs::Listed::member_listed))]
-pub(crate) fn write_members<'a>(
-    w: &mut Writer<'a>,
+pub(crate) fn write_members<'a, const BINARY: bool>(
+    w: &mut Writer<'a, BINARY>,
     parts: &'a [ClassMember],
     is_first: bool,
 ) -> Result<(), AllocError>
     ensures { OnOk result
         (Writes w.old w.new
-        (jsons w.old.source members is_first (trees (map view_class_member parts.now)))) }
+        (jsons BINARY w.old.source members is_first (trees (map view_class_member parts.now)))) }
 {
     let Some((x, rest)) = parts.split_first() else {
         return Ok(());
@@ -389,14 +389,14 @@ pub(crate) fn write_members<'a>(
 
 /// Writes statements, the first ones as directives as long as they are strings.
 #[tactic(auto, using(crate::proofs::Listed::directive_listed, crate::proofs::Listed::statement_listed))]
-pub(crate) fn write_directives<'a>(
-    w: &mut Writer<'a>,
+pub(crate) fn write_directives<'a, const BINARY: bool>(
+    w: &mut Writer<'a, BINARY>,
     parts: &'a [Stmt],
     is_first: bool,
 ) -> Result<(), AllocError>
     ensures { OnOk result
         (Writes w.old w.new
-        (jsons w.old.source directives is_first (trees (map view_stmt parts.now)))) }
+        (jsons BINARY w.old.source directives is_first (trees (map view_stmt parts.now)))) }
 {
     let Some((x, rest)) = parts.split_first() else {
         return Ok(());
@@ -417,14 +417,14 @@ pub(crate) fn write_directives<'a>(
 
 /// Writes items, the first ones as directives as long as they are strings.
 #[tactic(auto, using(crate::proofs::Listed::directive_listed, crate::proofs::Listed::statement_listed))]
-pub(crate) fn write_directive_items<'a>(
-    w: &mut Writer<'a>,
+pub(crate) fn write_directive_items<'a, const BINARY: bool>(
+    w: &mut Writer<'a, BINARY>,
     parts: &'a [ModuleItem],
     is_first: bool,
 ) -> Result<(), AllocError>
     ensures { OnOk result
         (Writes w.old w.new
-        (jsons w.old.source directives is_first (trees (map view_module_item parts.now)))) }
+        (jsons BINARY w.old.source directives is_first (trees (map view_module_item parts.now)))) }
 {
     let Some((x, rest)) = parts.split_first() else {
         return Ok(());
@@ -450,14 +450,14 @@ fn can_precede_directive(item: &ModuleItem) -> bool
 }
 
 /// Writes names that are imported.
-pub(crate) fn write_imports<'a>(
-    w: &mut Writer<'a>,
+pub(crate) fn write_imports<'a, const BINARY: bool>(
+    w: &mut Writer<'a, BINARY>,
     parts: &'a [ImportSpecifier],
     is_first: bool,
 ) -> Result<(), AllocError>
     ensures { OnOk result
         (Writes w.old w.new
-        (jsons w.old.source plain is_first (trees (map view_import_specifier parts.now)))) }
+        (jsons BINARY w.old.source plain is_first (trees (map view_import_specifier parts.now)))) }
 {
     let Some((x, rest)) = parts.split_first() else {
         return Ok(());
@@ -468,14 +468,14 @@ pub(crate) fn write_imports<'a>(
 }
 
 /// Writes names that are exported.
-pub(crate) fn write_exports<'a>(
-    w: &mut Writer<'a>,
+pub(crate) fn write_exports<'a, const BINARY: bool>(
+    w: &mut Writer<'a, BINARY>,
     parts: &'a [ExportSpecifier],
     is_first: bool,
 ) -> Result<(), AllocError>
     ensures { OnOk result
         (Writes w.old w.new
-        (jsons w.old.source plain is_first (trees (map view_export_specifier parts.now)))) }
+        (jsons BINARY w.old.source plain is_first (trees (map view_export_specifier parts.now)))) }
 {
     let Some((x, rest)) = parts.split_first() else {
         return Ok(());

@@ -1,7 +1,7 @@
 //! Loops.
 
 ghost use Rattle.std.specs.Prelude.{OnOk};
-ghost use Rattle.ecma_estree_writer.specs.Estree.{json, plain};
+ghost use Rattle.ecma_estree_writer.specs.Estree.{written, plain};
 ghost use Rattle.ecma_estree_writer.specs.Writing.{Writes};
 ghost use Rattle.swc_ecma_parser_ast.specs.Parts.{view_option};
 ghost use Rattle.swc_ecma_parser_ast.specs.View.{view_do_while_stmt, view_for_head, view_for_in_stmt, view_for_of_stmt, view_for_stmt, view_var_decl_or_expr, view_while_stmt};
@@ -15,8 +15,11 @@ use swc_ecma_parser_ast::{
 };
 
 /// Writes `while`.
-pub(crate) fn write_while<'a>(w: &mut Writer<'a>, x: &'a WhileStmt) -> Result<(), AllocError>
-    ensures { OnOk result (Writes w.old w.new (json w.old.source plain (view_while_stmt x.now))) }
+pub(crate) fn write_while<'a, const BINARY: bool>(
+    w: &mut Writer<'a, BINARY>,
+    x: &'a WhileStmt,
+) -> Result<(), AllocError>
+    ensures { OnOk result (Writes w.old w.new (written BINARY w.old.source plain (view_while_stmt x.now))) }
 {
     w.open("WhileStatement", x.span)?;
     w.key("test")?;
@@ -27,9 +30,12 @@ pub(crate) fn write_while<'a>(w: &mut Writer<'a>, x: &'a WhileStmt) -> Result<()
 }
 
 /// Writes `do`.
-pub(crate) fn write_do_while<'a>(w: &mut Writer<'a>, x: &'a DoWhileStmt) -> Result<(), AllocError>
+pub(crate) fn write_do_while<'a, const BINARY: bool>(
+    w: &mut Writer<'a, BINARY>,
+    x: &'a DoWhileStmt,
+) -> Result<(), AllocError>
     ensures { OnOk result
-        (Writes w.old w.new (json w.old.source plain (view_do_while_stmt x.now))) }
+        (Writes w.old w.new (written BINARY w.old.source plain (view_do_while_stmt x.now))) }
 {
     w.open("DoWhileStatement", x.span)?;
     w.key("body")?;
@@ -40,9 +46,12 @@ pub(crate) fn write_do_while<'a>(w: &mut Writer<'a>, x: &'a DoWhileStmt) -> Resu
 }
 
 /// Writes the first part of a `for`.
-fn write_init<'a>(w: &mut Writer<'a>, init: &'a VarDeclOrExpr) -> Result<(), AllocError>
+fn write_init<'a, const BINARY: bool>(
+    w: &mut Writer<'a, BINARY>,
+    init: &'a VarDeclOrExpr,
+) -> Result<(), AllocError>
     ensures { OnOk result
-        (Writes w.old w.new (json w.old.source plain (view_var_decl_or_expr init.now))) }
+        (Writes w.old w.new (written BINARY w.old.source plain (view_var_decl_or_expr init.now))) }
 {
     match init {
         VarDeclOrExpr::VarDecl(x) => write_var(w, x),
@@ -52,13 +61,13 @@ fn write_init<'a>(w: &mut Writer<'a>, init: &'a VarDeclOrExpr) -> Result<(), All
 
 /// Writes the first part of a `for`, or `null`.
 #[tactic(auto, using(ecma_estree_writer::proofs::Written::appended_on_ok))]
-fn write_optional_init<'a>(
-    w: &mut Writer<'a>,
+fn write_optional_init<'a, const BINARY: bool>(
+    w: &mut Writer<'a, BINARY>,
     init: &'a Option<VarDeclOrExpr>,
 ) -> Result<(), AllocError>
     ensures { OnOk result
         (Writes w.old w.new
-        (json w.old.source plain (view_option view_var_decl_or_expr init.now))) }
+        (written BINARY w.old.source plain (view_option view_var_decl_or_expr init.now))) }
 {
     match init {
         Some(x) => write_init(w, x),
@@ -67,8 +76,11 @@ fn write_optional_init<'a>(
 }
 
 /// Writes `for` with three parts.
-pub(crate) fn write_for<'a>(w: &mut Writer<'a>, x: &'a ForStmt) -> Result<(), AllocError>
-    ensures { OnOk result (Writes w.old w.new (json w.old.source plain (view_for_stmt x.now))) }
+pub(crate) fn write_for<'a, const BINARY: bool>(
+    w: &mut Writer<'a, BINARY>,
+    x: &'a ForStmt,
+) -> Result<(), AllocError>
+    ensures { OnOk result (Writes w.old w.new (written BINARY w.old.source plain (view_for_stmt x.now))) }
 {
     w.open("ForStatement", x.span)?;
     w.key("init")?;
@@ -84,8 +96,11 @@ pub(crate) fn write_for<'a>(w: &mut Writer<'a>, x: &'a ForStmt) -> Result<(), Al
 
 /// Writes what a loop over values binds or assigns to.
 #[tactic(auto, using(ecma_estree_writer::proofs::Written::appended_on_ok, ecma_estree_writer::proofs::Written::pushed_on_ok))]
-fn write_head<'a>(w: &mut Writer<'a>, head: &'a ForHead) -> Result<(), AllocError>
-    ensures { OnOk result (Writes w.old w.new (json w.old.source plain (view_for_head head.now))) }
+fn write_head<'a, const BINARY: bool>(
+    w: &mut Writer<'a, BINARY>,
+    head: &'a ForHead,
+) -> Result<(), AllocError>
+    ensures { OnOk result (Writes w.old w.new (written BINARY w.old.source plain (view_for_head head.now))) }
 {
     match head {
         ForHead::VarDecl(x) => write_var(w, x),
@@ -95,8 +110,11 @@ fn write_head<'a>(w: &mut Writer<'a>, head: &'a ForHead) -> Result<(), AllocErro
 }
 
 /// Writes `for` with `in`.
-pub(crate) fn write_for_in<'a>(w: &mut Writer<'a>, x: &'a ForInStmt) -> Result<(), AllocError>
-    ensures { OnOk result (Writes w.old w.new (json w.old.source plain (view_for_in_stmt x.now))) }
+pub(crate) fn write_for_in<'a, const BINARY: bool>(
+    w: &mut Writer<'a, BINARY>,
+    x: &'a ForInStmt,
+) -> Result<(), AllocError>
+    ensures { OnOk result (Writes w.old w.new (written BINARY w.old.source plain (view_for_in_stmt x.now))) }
 {
     w.open("ForInStatement", x.span)?;
     w.key("left")?;
@@ -109,8 +127,11 @@ pub(crate) fn write_for_in<'a>(w: &mut Writer<'a>, x: &'a ForInStmt) -> Result<(
 }
 
 /// Writes `for` with `of`.
-pub(crate) fn write_for_of<'a>(w: &mut Writer<'a>, x: &'a ForOfStmt) -> Result<(), AllocError>
-    ensures { OnOk result (Writes w.old w.new (json w.old.source plain (view_for_of_stmt x.now))) }
+pub(crate) fn write_for_of<'a, const BINARY: bool>(
+    w: &mut Writer<'a, BINARY>,
+    x: &'a ForOfStmt,
+) -> Result<(), AllocError>
+    ensures { OnOk result (Writes w.old w.new (written BINARY w.old.source plain (view_for_of_stmt x.now))) }
 {
     w.open("ForOfStatement", x.span)?;
     w.flag("await", x.is_await)?;

@@ -2,7 +2,7 @@
 
 ghost use Rattle.std.specs.Prelude.{◌≡◌, ◌++◌, OnOk};
 ghost use Rattle.ecma_estree_writer.specs.Parts.{directive};
-ghost use Rattle.ecma_estree_writer.specs.Estree.{json, plain};
+ghost use Rattle.ecma_estree_writer.specs.Estree.{written, plain};
 ghost use Rattle.ecma_estree_writer.specs.Writing.{Appends, Writes};
 ghost use Rattle.ecma_estree_writer.specs.Work.{work_text};
 ghost use Rattle.swc_ecma_parser_ast.specs.View.{view_str};
@@ -24,8 +24,11 @@ use std::alloc::AllocError;
 use swc_ecma_parser_ast::{ExprBox, PatBox, StmtBox, Str};
 
 /// Writes an expression.
-fn write_boxed_expr<'a>(w: &mut Writer<'a>, expr: &'a ExprBox) -> Result<(), AllocError>
-    ensures { OnOk result (Writes w.old w.new (json w.old.source plain (expr.now.node.tree))) }
+fn write_boxed_expr<'a, const BINARY: bool>(
+    w: &mut Writer<'a, BINARY>,
+    expr: &'a ExprBox,
+) -> Result<(), AllocError>
+    ensures { OnOk result (Writes w.old w.new (written BINARY w.old.source plain (expr.now.node.tree))) }
 {
     match expr.get() {
         Some(x) => write_expr(w, x),
@@ -34,8 +37,11 @@ fn write_boxed_expr<'a>(w: &mut Writer<'a>, expr: &'a ExprBox) -> Result<(), All
 }
 
 /// Writes a pattern.
-fn write_boxed_pat<'a>(w: &mut Writer<'a>, pat: &'a PatBox) -> Result<(), AllocError>
-    ensures { OnOk result (Writes w.old w.new (json w.old.source plain (pat.now.node.tree))) }
+fn write_boxed_pat<'a, const BINARY: bool>(
+    w: &mut Writer<'a, BINARY>,
+    pat: &'a PatBox,
+) -> Result<(), AllocError>
+    ensures { OnOk result (Writes w.old w.new (written BINARY w.old.source plain (pat.now.node.tree))) }
 {
     match pat.get() {
         Some(x) => write_pat(w, x),
@@ -44,8 +50,11 @@ fn write_boxed_pat<'a>(w: &mut Writer<'a>, pat: &'a PatBox) -> Result<(), AllocE
 }
 
 /// Writes a statement.
-fn write_boxed_stmt<'a>(w: &mut Writer<'a>, stmt: &'a StmtBox) -> Result<(), AllocError>
-    ensures { OnOk result (Writes w.old w.new (json w.old.source plain (stmt.now.node.tree))) }
+fn write_boxed_stmt<'a, const BINARY: bool>(
+    w: &mut Writer<'a, BINARY>,
+    stmt: &'a StmtBox,
+) -> Result<(), AllocError>
+    ensures { OnOk result (Writes w.old w.new (written BINARY w.old.source plain (stmt.now.node.tree))) }
 {
     match stmt.get() {
         Some(x) => write_stmt(w, x),
@@ -54,17 +63,23 @@ fn write_boxed_stmt<'a>(w: &mut Writer<'a>, stmt: &'a StmtBox) -> Result<(), All
 }
 
 /// Writes the field that a string has as a directive: what stands between its quotes.
-fn write_directive_field(w: &mut Writer<'_>, literal: &Str) -> Result<(), AllocError>
-    ensures { OnOk result (Appends w.old w.new (directive (view_str literal.now))) }
+fn write_directive_field<const BINARY: bool>(
+    w: &mut Writer<'_, BINARY>,
+    literal: &Str,
+) -> Result<(), AllocError>
+    ensures { OnOk result (Appends w.old w.new (directive BINARY w.old.source (view_str literal.now))) }
 {
     w.key("directive")?;
-    w.inner(literal.raw.as_str())
+    w.inner(literal.raw.as_str(), literal.span)
 }
 
 /// Does one piece of work.
 #[tactic(auto, using(ecma_estree_writer::proofs::Written::appended_on_ok, ecma_estree_writer::proofs::Written::pushed_on_ok))]
-fn step<'a>(w: &mut Writer<'a>, work: Work<'a>) -> Result<(), AllocError>
-    ensures { OnOk result (Writes w.old w.new (work_text w.old.source work.entry)) }
+fn step<'a, const BINARY: bool>(
+    w: &mut Writer<'a, BINARY>,
+    work: Work<'a>,
+) -> Result<(), AllocError>
+    ensures { OnOk result (Writes w.old w.new (work_text BINARY w.old.source work.entry)) }
 {
     match work {
         Work::End => w.end(),
@@ -128,7 +143,7 @@ fn step<'a>(w: &mut Writer<'a>, work: Work<'a>) -> Result<(), AllocError>
 }
 
 /// Does all work.
-pub(crate) fn finish(w: &mut Writer<'_>) -> Result<(), AllocError>
+pub(crate) fn finish<const BINARY: bool>(w: &mut Writer<'_, BINARY>) -> Result<(), AllocError>
     ensures { OnOk result (w.new.written ≡ w.old.written ++ w.old.pending) }
 {
     for _ in 0..u64::MAX {

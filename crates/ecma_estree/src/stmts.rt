@@ -2,7 +2,7 @@
 
 ghost use Rattle.std.specs.Prelude.{◌≡◌, ◌++◌, codes, false, MatchOption, OnOk};
 ghost use Rattle.ecma_estree_writer.specs.Parts.{node, key, end};
-ghost use Rattle.ecma_estree_writer.specs.Estree.{json, plain, directives, next};
+ghost use Rattle.ecma_estree_writer.specs.Estree.{written, plain, directives, next};
 ghost use Rattle.ecma_estree_writer.specs.Writing.{Appends, Pushes, Writes};
 ghost use Rattle.swc_ecma_parser_ast.specs.Parts.{view_option};
 ghost use Rattle.swc_ecma_parser_ast.specs.View.{view_block_stmt, view_catch_clause, view_decl, view_declarator, view_expr_stmt, view_ident, view_if_stmt, view_labeled_stmt, view_pat, view_return_stmt, view_stmt, view_str, view_switch_case, view_switch_stmt, view_throw_stmt, view_try_stmt, view_using_decl, view_var_decl, view_with_stmt};
@@ -21,8 +21,11 @@ use swc_ecma_parser_ast::{
 
 /// Writes a statement, or a declaration in its place.
 #[tactic(auto, using(ecma_estree_writer::proofs::Written::appended_on_ok, ecma_estree_writer::proofs::Written::pushed_on_ok))]
-pub(crate) fn write_stmt<'a>(w: &mut Writer<'a>, stmt: &'a Stmt) -> Result<(), AllocError>
-    ensures { OnOk result (Writes w.old w.new (json w.old.source plain (view_stmt stmt.now))) }
+pub(crate) fn write_stmt<'a, const BINARY: bool>(
+    w: &mut Writer<'a, BINARY>,
+    stmt: &'a Stmt,
+) -> Result<(), AllocError>
+    ensures { OnOk result (Writes w.old w.new (written BINARY w.old.source plain (view_stmt stmt.now))) }
 {
     match stmt {
         Stmt::Block(x) => write_block(w, x),
@@ -49,8 +52,11 @@ pub(crate) fn write_stmt<'a>(w: &mut Writer<'a>, stmt: &'a Stmt) -> Result<(), A
 
 /// Writes a declaration.
 #[tactic(auto, using(ecma_estree_writer::proofs::Written::appended_on_ok, ecma_estree_writer::proofs::Written::pushed_on_ok))]
-pub(crate) fn write_decl<'a>(w: &mut Writer<'a>, decl: &'a Decl) -> Result<(), AllocError>
-    ensures { OnOk result (Writes w.old w.new (json w.old.source plain (view_decl decl.now))) }
+pub(crate) fn write_decl<'a, const BINARY: bool>(
+    w: &mut Writer<'a, BINARY>,
+    decl: &'a Decl,
+) -> Result<(), AllocError>
+    ensures { OnOk result (Writes w.old w.new (written BINARY w.old.source plain (view_decl decl.now))) }
 {
     match decl {
         Decl::Class(x) => write_class_decl(w, &x.ident, &x.class),
@@ -61,8 +67,11 @@ pub(crate) fn write_decl<'a>(w: &mut Writer<'a>, decl: &'a Decl) -> Result<(), A
 }
 
 /// Writes statements in braces.
-pub(crate) fn write_block<'a>(w: &mut Writer<'a>, x: &'a BlockStmt) -> Result<(), AllocError>
-    ensures { OnOk result (Writes w.old w.new (json w.old.source plain (view_block_stmt x.now))) }
+pub(crate) fn write_block<'a, const BINARY: bool>(
+    w: &mut Writer<'a, BINARY>,
+    x: &'a BlockStmt,
+) -> Result<(), AllocError>
+    ensures { OnOk result (Writes w.old w.new (written BINARY w.old.source plain (view_block_stmt x.now))) }
 {
     w.open("BlockStatement", x.span)?;
     w.list_key("body")?;
@@ -75,9 +84,12 @@ pub(crate) fn write_block<'a>(w: &mut Writer<'a>, x: &'a BlockStmt) -> Result<()
 }
 
 /// Writes the body of a function.
-pub(crate) fn write_body<'a>(w: &mut Writer<'a>, x: &'a BlockStmt) -> Result<(), AllocError>
+pub(crate) fn write_body<'a, const BINARY: bool>(
+    w: &mut Writer<'a, BINARY>,
+    x: &'a BlockStmt,
+) -> Result<(), AllocError>
     ensures { OnOk result
-        (Writes w.old w.new (json w.old.source directives (view_block_stmt x.now))) }
+        (Writes w.old w.new (written BINARY w.old.source directives (view_block_stmt x.now))) }
 {
     w.open("BlockStatement", x.span)?;
     w.list_key("body")?;
@@ -90,8 +102,11 @@ pub(crate) fn write_body<'a>(w: &mut Writer<'a>, x: &'a BlockStmt) -> Result<(),
 }
 
 /// Writes an expression as a statement.
-fn write_expr_stmt<'a>(w: &mut Writer<'a>, x: &'a ExprStmt) -> Result<(), AllocError>
-    ensures { OnOk result (Writes w.old w.new (json w.old.source plain (view_expr_stmt x.now))) }
+fn write_expr_stmt<'a, const BINARY: bool>(
+    w: &mut Writer<'a, BINARY>,
+    x: &'a ExprStmt,
+) -> Result<(), AllocError>
+    ensures { OnOk result (Writes w.old w.new (written BINARY w.old.source plain (view_expr_stmt x.now))) }
 {
     w.open("ExpressionStatement", x.span)?;
     w.key("expression")?;
@@ -116,10 +131,13 @@ fn string_statement(stmt: &Stmt) -> Option<(Span, &Str)>
 
 /// Writes a statement that is a directive where it is a string; else as it is.
 #[tactic(auto, using(crate::proofs::Directives::as_it_is))]
-pub(crate) fn write_directive<'a>(w: &mut Writer<'a>, stmt: &'a Stmt) -> Result<(), AllocError>
+pub(crate) fn write_directive<'a, const BINARY: bool>(
+    w: &mut Writer<'a, BINARY>,
+    stmt: &'a Stmt,
+) -> Result<(), AllocError>
     ensures { OnOk result
         (Writes w.old w.new
-        (json w.old.source (next directives (view_stmt stmt.now)) (view_stmt stmt.now))) }
+        (written BINARY w.old.source (next directives (view_stmt stmt.now)) (view_stmt stmt.now))) }
 {
     let Some((span, literal)) = string_statement(stmt) else {
         return write_stmt(w, stmt);
@@ -132,8 +150,11 @@ pub(crate) fn write_directive<'a>(w: &mut Writer<'a>, stmt: &'a Stmt) -> Result<
 }
 
 /// Writes `with`.
-fn write_with<'a>(w: &mut Writer<'a>, x: &'a WithStmt) -> Result<(), AllocError>
-    ensures { OnOk result (Writes w.old w.new (json w.old.source plain (view_with_stmt x.now))) }
+fn write_with<'a, const BINARY: bool>(
+    w: &mut Writer<'a, BINARY>,
+    x: &'a WithStmt,
+) -> Result<(), AllocError>
+    ensures { OnOk result (Writes w.old w.new (written BINARY w.old.source plain (view_with_stmt x.now))) }
 {
     w.open("WithStatement", x.span)?;
     w.key("object")?;
@@ -144,8 +165,11 @@ fn write_with<'a>(w: &mut Writer<'a>, x: &'a WithStmt) -> Result<(), AllocError>
 }
 
 /// Writes `return`.
-fn write_return<'a>(w: &mut Writer<'a>, x: &'a ReturnStmt) -> Result<(), AllocError>
-    ensures { OnOk result (Writes w.old w.new (json w.old.source plain (view_return_stmt x.now))) }
+fn write_return<'a, const BINARY: bool>(
+    w: &mut Writer<'a, BINARY>,
+    x: &'a ReturnStmt,
+) -> Result<(), AllocError>
+    ensures { OnOk result (Writes w.old w.new (written BINARY w.old.source plain (view_return_stmt x.now))) }
 {
     w.open("ReturnStatement", x.span)?;
     w.key("argument")?;
@@ -154,8 +178,11 @@ fn write_return<'a>(w: &mut Writer<'a>, x: &'a ReturnStmt) -> Result<(), AllocEr
 }
 
 /// Writes a statement with a label.
-fn write_labeled<'a>(w: &mut Writer<'a>, x: &'a LabeledStmt) -> Result<(), AllocError>
-    ensures { OnOk result (Writes w.old w.new (json w.old.source plain (view_labeled_stmt x.now))) }
+fn write_labeled<'a, const BINARY: bool>(
+    w: &mut Writer<'a, BINARY>,
+    x: &'a LabeledStmt,
+) -> Result<(), AllocError>
+    ensures { OnOk result (Writes w.old w.new (written BINARY w.old.source plain (view_labeled_stmt x.now))) }
 {
     w.open("LabeledStatement", x.span)?;
     w.key("body")?;
@@ -166,17 +193,17 @@ fn write_labeled<'a>(w: &mut Writer<'a>, x: &'a LabeledStmt) -> Result<(), Alloc
 }
 
 /// Writes `break` or `continue`, a node of the given kind.
-fn write_jump(
-    w: &mut Writer<'_>,
+fn write_jump<const BINARY: bool>(
+    w: &mut Writer<'_, BINARY>,
     kind: &str,
     span: Span,
     label: &Option<Ident>,
 ) -> Result<(), AllocError>
     ensures { OnOk result
         (Appends w.old w.new
-        (node w.old.source kind.now span
-        ++ (key (codes "label")
-        ++ (json w.old.source plain (view_option view_ident label.now) ++ end)))) }
+        (node BINARY w.old.source kind.now span
+        ++ (key BINARY (codes "label")
+        ++ (written BINARY w.old.source plain (view_option view_ident label.now) ++ end BINARY)))) }
 {
     w.open(kind, span)?;
     w.key("label")?;
@@ -185,9 +212,12 @@ fn write_jump(
 }
 
 /// Has a statement written, or `null`.
-fn push_optional_stmt<'a>(w: &mut Writer<'a>, stmt: &'a Option<StmtBox>) -> Result<(), AllocError>
+fn push_optional_stmt<'a, const BINARY: bool>(
+    w: &mut Writer<'a, BINARY>,
+    stmt: &'a Option<StmtBox>,
+) -> Result<(), AllocError>
     ensures { OnOk result
-        (Pushes w.old w.new (json w.old.source plain (view_option (λ b. b.node.tree) stmt.now))) }
+        (Pushes w.old w.new (written BINARY w.old.source plain (view_option (λ b. b.node.tree) stmt.now))) }
 {
     match stmt {
         Some(x) => w.push(Work::Stmt(x)),
@@ -196,12 +226,12 @@ fn push_optional_stmt<'a>(w: &mut Writer<'a>, stmt: &'a Option<StmtBox>) -> Resu
 }
 
 /// Has a block written, or `null`.
-fn push_optional_block<'a>(
-    w: &mut Writer<'a>,
+fn push_optional_block<'a, const BINARY: bool>(
+    w: &mut Writer<'a, BINARY>,
     block: &'a Option<BlockStmt>,
 ) -> Result<(), AllocError>
     ensures { OnOk result
-        (Pushes w.old w.new (json w.old.source plain (view_option view_block_stmt block.now))) }
+        (Pushes w.old w.new (written BINARY w.old.source plain (view_option view_block_stmt block.now))) }
 {
     match block {
         Some(x) => w.push(Work::Block(x)),
@@ -210,12 +240,12 @@ fn push_optional_block<'a>(
 }
 
 /// Has the clause written that catches what was thrown, or `null`.
-fn push_optional_catch<'a>(
-    w: &mut Writer<'a>,
+fn push_optional_catch<'a, const BINARY: bool>(
+    w: &mut Writer<'a, BINARY>,
     handler: &'a Option<CatchClause>,
 ) -> Result<(), AllocError>
     ensures { OnOk result
-        (Pushes w.old w.new (json w.old.source plain (view_option view_catch_clause handler.now))) }
+        (Pushes w.old w.new (written BINARY w.old.source plain (view_option view_catch_clause handler.now))) }
 {
     match handler {
         Some(x) => w.push(Work::Catch(x)),
@@ -224,8 +254,11 @@ fn push_optional_catch<'a>(
 }
 
 /// Writes `if`.
-fn write_if<'a>(w: &mut Writer<'a>, x: &'a IfStmt) -> Result<(), AllocError>
-    ensures { OnOk result (Writes w.old w.new (json w.old.source plain (view_if_stmt x.now))) }
+fn write_if<'a, const BINARY: bool>(
+    w: &mut Writer<'a, BINARY>,
+    x: &'a IfStmt,
+) -> Result<(), AllocError>
+    ensures { OnOk result (Writes w.old w.new (written BINARY w.old.source plain (view_if_stmt x.now))) }
 {
     w.open("IfStatement", x.span)?;
     w.key("test")?;
@@ -238,8 +271,11 @@ fn write_if<'a>(w: &mut Writer<'a>, x: &'a IfStmt) -> Result<(), AllocError>
 }
 
 /// Writes `switch`.
-fn write_switch<'a>(w: &mut Writer<'a>, x: &'a SwitchStmt) -> Result<(), AllocError>
-    ensures { OnOk result (Writes w.old w.new (json w.old.source plain (view_switch_stmt x.now))) }
+fn write_switch<'a, const BINARY: bool>(
+    w: &mut Writer<'a, BINARY>,
+    x: &'a SwitchStmt,
+) -> Result<(), AllocError>
+    ensures { OnOk result (Writes w.old w.new (written BINARY w.old.source plain (view_switch_stmt x.now))) }
 {
     w.open("SwitchStatement", x.span)?;
     w.key("discriminant")?;
@@ -252,8 +288,11 @@ fn write_switch<'a>(w: &mut Writer<'a>, x: &'a SwitchStmt) -> Result<(), AllocEr
 }
 
 /// Writes a case of a `switch`.
-pub(crate) fn write_case<'a>(w: &mut Writer<'a>, x: &'a SwitchCase) -> Result<(), AllocError>
-    ensures { OnOk result (Writes w.old w.new (json w.old.source plain (view_switch_case x.now))) }
+pub(crate) fn write_case<'a, const BINARY: bool>(
+    w: &mut Writer<'a, BINARY>,
+    x: &'a SwitchCase,
+) -> Result<(), AllocError>
+    ensures { OnOk result (Writes w.old w.new (written BINARY w.old.source plain (view_switch_case x.now))) }
 {
     w.open("SwitchCase", x.span)?;
     w.list_key("consequent")?;
@@ -268,8 +307,11 @@ pub(crate) fn write_case<'a>(w: &mut Writer<'a>, x: &'a SwitchCase) -> Result<()
 }
 
 /// Writes `throw`.
-fn write_throw<'a>(w: &mut Writer<'a>, x: &'a ThrowStmt) -> Result<(), AllocError>
-    ensures { OnOk result (Writes w.old w.new (json w.old.source plain (view_throw_stmt x.now))) }
+fn write_throw<'a, const BINARY: bool>(
+    w: &mut Writer<'a, BINARY>,
+    x: &'a ThrowStmt,
+) -> Result<(), AllocError>
+    ensures { OnOk result (Writes w.old w.new (written BINARY w.old.source plain (view_throw_stmt x.now))) }
 {
     w.open("ThrowStatement", x.span)?;
     w.key("argument")?;
@@ -278,8 +320,11 @@ fn write_throw<'a>(w: &mut Writer<'a>, x: &'a ThrowStmt) -> Result<(), AllocErro
 }
 
 /// Writes `try`.
-fn write_try<'a>(w: &mut Writer<'a>, x: &'a TryStmt) -> Result<(), AllocError>
-    ensures { OnOk result (Writes w.old w.new (json w.old.source plain (view_try_stmt x.now))) }
+fn write_try<'a, const BINARY: bool>(
+    w: &mut Writer<'a, BINARY>,
+    x: &'a TryStmt,
+) -> Result<(), AllocError>
+    ensures { OnOk result (Writes w.old w.new (written BINARY w.old.source plain (view_try_stmt x.now))) }
 {
     w.open("TryStatement", x.span)?;
     w.key("block")?;
@@ -292,9 +337,12 @@ fn write_try<'a>(w: &mut Writer<'a>, x: &'a TryStmt) -> Result<(), AllocError>
 }
 
 /// Has the pattern written that a `catch` binds, or `null`.
-fn push_optional_pattern<'a>(w: &mut Writer<'a>, pattern: &'a Option<Pat>) -> Result<(), AllocError>
+fn push_optional_pattern<'a, const BINARY: bool>(
+    w: &mut Writer<'a, BINARY>,
+    pattern: &'a Option<Pat>,
+) -> Result<(), AllocError>
     ensures { OnOk result
-        (Pushes w.old w.new (json w.old.source plain (view_option view_pat pattern.now))) }
+        (Pushes w.old w.new (written BINARY w.old.source plain (view_option view_pat pattern.now))) }
 {
     match pattern {
         Some(x) => w.push(Work::Pattern(x)),
@@ -303,8 +351,11 @@ fn push_optional_pattern<'a>(w: &mut Writer<'a>, pattern: &'a Option<Pat>) -> Re
 }
 
 /// Writes what catches what was thrown.
-pub(crate) fn write_catch<'a>(w: &mut Writer<'a>, x: &'a CatchClause) -> Result<(), AllocError>
-    ensures { OnOk result (Writes w.old w.new (json w.old.source plain (view_catch_clause x.now))) }
+pub(crate) fn write_catch<'a, const BINARY: bool>(
+    w: &mut Writer<'a, BINARY>,
+    x: &'a CatchClause,
+) -> Result<(), AllocError>
+    ensures { OnOk result (Writes w.old w.new (written BINARY w.old.source plain (view_catch_clause x.now))) }
 {
     w.open("CatchClause", x.span)?;
     w.key("param")?;
@@ -315,8 +366,11 @@ pub(crate) fn write_catch<'a>(w: &mut Writer<'a>, x: &'a CatchClause) -> Result<
 }
 
 /// Writes a declaration of variables.
-pub(crate) fn write_var<'a>(w: &mut Writer<'a>, x: &'a VarDecl) -> Result<(), AllocError>
-    ensures { OnOk result (Writes w.old w.new (json w.old.source plain (view_var_decl x.now))) }
+pub(crate) fn write_var<'a, const BINARY: bool>(
+    w: &mut Writer<'a, BINARY>,
+    x: &'a VarDecl,
+) -> Result<(), AllocError>
+    ensures { OnOk result (Writes w.old w.new (written BINARY w.old.source plain (view_var_decl x.now))) }
 {
     w.open("VariableDeclaration", x.span)?;
     w.list_key("declarations")?;
@@ -327,8 +381,11 @@ pub(crate) fn write_var<'a>(w: &mut Writer<'a>, x: &'a VarDecl) -> Result<(), Al
 }
 
 /// Writes a declaration of resources.
-pub(crate) fn write_using<'a>(w: &mut Writer<'a>, x: &'a UsingDecl) -> Result<(), AllocError>
-    ensures { OnOk result (Writes w.old w.new (json w.old.source plain (view_using_decl x.now))) }
+pub(crate) fn write_using<'a, const BINARY: bool>(
+    w: &mut Writer<'a, BINARY>,
+    x: &'a UsingDecl,
+) -> Result<(), AllocError>
+    ensures { OnOk result (Writes w.old w.new (written BINARY w.old.source plain (view_using_decl x.now))) }
 {
     w.open("VariableDeclaration", x.span)?;
     w.list_key("declarations")?;
@@ -339,11 +396,11 @@ pub(crate) fn write_using<'a>(w: &mut Writer<'a>, x: &'a UsingDecl) -> Result<()
 }
 
 /// Writes one variable of a declaration.
-pub(crate) fn write_declarator<'a>(
-    w: &mut Writer<'a>,
+pub(crate) fn write_declarator<'a, const BINARY: bool>(
+    w: &mut Writer<'a, BINARY>,
     x: &'a VarDeclarator,
 ) -> Result<(), AllocError>
-    ensures { OnOk result (Writes w.old w.new (json w.old.source plain (view_declarator x.now))) }
+    ensures { OnOk result (Writes w.old w.new (written BINARY w.old.source plain (view_declarator x.now))) }
 {
     w.open("VariableDeclarator", x.span)?;
     w.key("id")?;

@@ -2,7 +2,7 @@
 
 ghost use Rattle.std.specs.Prelude.{◌≡◌, ◌++◌, codes, false, map, OnOk};
 ghost use Rattle.ecma_estree_writer.specs.Parts.{key, bool_field, end, open_list, end_list};
-ghost use Rattle.ecma_estree_writer.specs.Estree.{json, plain, argument, arguments_text};
+ghost use Rattle.ecma_estree_writer.specs.Estree.{written, plain, argument, arguments_text};
 ghost use Rattle.ecma_estree_writer.specs.Writing.{Pushes, Writes};
 ghost use Rattle.swc_ecma_parser_ast.specs.Parts.{view_option};
 ghost use Rattle.swc_ecma_parser_ast.specs.View.{view_call_expr, view_expr_or_spread, view_member_expr, view_member_prop, view_new_expr, view_super_prop_expr};
@@ -17,12 +17,12 @@ use swc_ecma_parser_ast::{
 };
 
 /// Has the name of a member written.
-pub(crate) fn push_member_prop<'a>(
-    w: &mut Writer<'a>,
+pub(crate) fn push_member_prop<'a, const BINARY: bool>(
+    w: &mut Writer<'a, BINARY>,
     prop: &'a MemberProp,
 ) -> Result<(), AllocError>
     ensures { OnOk result
-        (Pushes w.old w.new (json w.old.source plain (view_member_prop prop.now))) }
+        (Pushes w.old w.new (written BINARY w.old.source plain (view_member_prop prop.now))) }
 {
     match prop {
         MemberProp::Ident(x) => w.push(Work::Name(x)),
@@ -42,8 +42,11 @@ pub(crate) fn is_computed(prop: &MemberProp) -> bool
 }
 
 /// Writes a member of an object.
-pub fn write_member<'a>(w: &mut Writer<'a>, x: &'a MemberExpr) -> Result<(), AllocError>
-    ensures { OnOk result (Writes w.old w.new (json w.old.source plain (view_member_expr x.now))) }
+pub fn write_member<'a, const BINARY: bool>(
+    w: &mut Writer<'a, BINARY>,
+    x: &'a MemberExpr,
+) -> Result<(), AllocError>
+    ensures { OnOk result (Writes w.old w.new (written BINARY w.old.source plain (view_member_expr x.now))) }
 {
     w.open("MemberExpression", x.span)?;
     w.key("object")?;
@@ -56,9 +59,12 @@ pub fn write_member<'a>(w: &mut Writer<'a>, x: &'a MemberExpr) -> Result<(), All
 }
 
 /// Writes a member of `super`.
-pub fn write_super_member<'a>(w: &mut Writer<'a>, x: &'a SuperPropExpr) -> Result<(), AllocError>
+pub fn write_super_member<'a, const BINARY: bool>(
+    w: &mut Writer<'a, BINARY>,
+    x: &'a SuperPropExpr,
+) -> Result<(), AllocError>
     ensures { OnOk result
-        (Writes w.old w.new (json w.old.source plain (view_super_prop_expr x.now))) }
+        (Writes w.old w.new (written BINARY w.old.source plain (view_super_prop_expr x.now))) }
 {
     w.open("MemberExpression", x.span)?;
     w.key("object")?;
@@ -79,13 +85,16 @@ pub fn write_super_member<'a>(w: &mut Writer<'a>, x: &'a SuperPropExpr) -> Resul
 }
 
 /// Has the arguments of a call written, with what stands around them behind what is called.
-fn push_arguments<'a>(w: &mut Writer<'a>, args: &'a [ExprOrSpread]) -> Result<(), AllocError>
+fn push_arguments<'a, const BINARY: bool>(
+    w: &mut Writer<'a, BINARY>,
+    args: &'a [ExprOrSpread],
+) -> Result<(), AllocError>
     ensures { OnOk result
         (Pushes w.old w.new
-        (key (codes "arguments")
-        ++ (open_list
-        ++ (json w.old.source plain (listed (map view_expr_or_spread args.now))
-        ++ (end_list ++ (bool_field (codes "optional") false ++ end)))))) }
+        (key BINARY (codes "arguments")
+        ++ (open_list BINARY
+        ++ (written BINARY w.old.source plain (listed (map view_expr_or_spread args.now))
+        ++ (end_list BINARY ++ (bool_field BINARY (codes "optional") false ++ end BINARY)))))) }
 {
     w.push(Work::End)?;
     w.push(Work::Bool("optional", false))?;
@@ -97,8 +106,11 @@ fn push_arguments<'a>(w: &mut Writer<'a>, args: &'a [ExprOrSpread]) -> Result<()
 
 /// Writes a call.
 #[tactic(auto, using(crate::proofs::AsExpr::call_of_expr, ecma_estree_writer::proofs::Written::appended_on_ok))]
-pub fn write_call<'a>(w: &mut Writer<'a>, x: &'a CallExpr) -> Result<(), AllocError>
-    ensures { OnOk result (Writes w.old w.new (json w.old.source plain (view_call_expr x.now))) }
+pub fn write_call<'a, const BINARY: bool>(
+    w: &mut Writer<'a, BINARY>,
+    x: &'a CallExpr,
+) -> Result<(), AllocError>
+    ensures { OnOk result (Writes w.old w.new (written BINARY w.old.source plain (view_call_expr x.now))) }
 {
     if let Callee::Import(_) = &x.callee {
         return write_import_call(w, x);
@@ -114,10 +126,13 @@ pub fn write_call<'a>(w: &mut Writer<'a>, x: &'a CallExpr) -> Result<(), AllocEr
 }
 
 /// Has the first argument of `import` written, or `null`.
-fn push_source<'a>(w: &mut Writer<'a>, args: &'a [ExprOrSpread]) -> Result<(), AllocError>
+fn push_source<'a, const BINARY: bool>(
+    w: &mut Writer<'a, BINARY>,
+    args: &'a [ExprOrSpread],
+) -> Result<(), AllocError>
     ensures { OnOk result
         (Pushes w.old w.new
-        (json w.old.source (argument 0) (listed (map view_expr_or_spread args.now)))) }
+        (written BINARY w.old.source (argument 0) (listed (map view_expr_or_spread args.now)))) }
 {
     match args {
         [source, ..] => w.push(Work::Argument(source)),
@@ -126,10 +141,13 @@ fn push_source<'a>(w: &mut Writer<'a>, args: &'a [ExprOrSpread]) -> Result<(), A
 }
 
 /// Has the second argument of `import` written, or `null`.
-fn push_options<'a>(w: &mut Writer<'a>, args: &'a [ExprOrSpread]) -> Result<(), AllocError>
+fn push_options<'a, const BINARY: bool>(
+    w: &mut Writer<'a, BINARY>,
+    args: &'a [ExprOrSpread],
+) -> Result<(), AllocError>
     ensures { OnOk result
         (Pushes w.old w.new
-        (json w.old.source (argument 1) (listed (map view_expr_or_spread args.now)))) }
+        (written BINARY w.old.source (argument 1) (listed (map view_expr_or_spread args.now)))) }
 {
     match args {
         [_, options, ..] => w.push(Work::Argument(options)),
@@ -138,10 +156,13 @@ fn push_options<'a>(w: &mut Writer<'a>, args: &'a [ExprOrSpread]) -> Result<(), 
 }
 
 /// Writes `import` that is called.
-fn write_import_call<'a>(w: &mut Writer<'a>, x: &'a CallExpr) -> Result<(), AllocError>
+fn write_import_call<'a, const BINARY: bool>(
+    w: &mut Writer<'a, BINARY>,
+    x: &'a CallExpr,
+) -> Result<(), AllocError>
     ensures { OnOk result
         (Writes w.old w.new
-        (json w.old.source plain
+        (written BINARY w.old.source plain
         (call x.now.span (import_callee x.now.span)
         (listed (map view_expr_or_spread x.now.args.items))))) }
 {
@@ -154,13 +175,13 @@ fn write_import_call<'a>(w: &mut Writer<'a>, x: &'a CallExpr) -> Result<(), Allo
 }
 
 /// Has arguments written, or nothing.
-fn push_optional_arguments<'a>(
-    w: &mut Writer<'a>,
+fn push_optional_arguments<'a, const BINARY: bool>(
+    w: &mut Writer<'a, BINARY>,
     args: &'a Option<Vec<ExprOrSpread>>,
 ) -> Result<(), AllocError>
     ensures { OnOk result
         (Pushes w.old w.new
-        (arguments_text w.old.source
+        (arguments_text BINARY w.old.source
         (view_option (λ v. listed (map view_expr_or_spread v.items)) args.now))) }
 {
     match args {
@@ -170,8 +191,11 @@ fn push_optional_arguments<'a>(
 }
 
 /// Writes `new`.
-pub fn write_new<'a>(w: &mut Writer<'a>, x: &'a NewExpr) -> Result<(), AllocError>
-    ensures { OnOk result (Writes w.old w.new (json w.old.source plain (view_new_expr x.now))) }
+pub fn write_new<'a, const BINARY: bool>(
+    w: &mut Writer<'a, BINARY>,
+    x: &'a NewExpr,
+) -> Result<(), AllocError>
+    ensures { OnOk result (Writes w.old w.new (written BINARY w.old.source plain (view_new_expr x.now))) }
 {
     w.open("NewExpression", x.span)?;
     w.key("callee")?;
@@ -185,9 +209,12 @@ pub fn write_new<'a>(w: &mut Writer<'a>, x: &'a NewExpr) -> Result<(), AllocErro
 
 /// Writes an element or an argument.
 #[tactic(auto, using(ecma_estree_writer::proofs::Written::appended_on_ok, ecma_estree_writer::proofs::Written::pushed_on_ok))]
-pub fn write_argument<'a>(w: &mut Writer<'a>, x: &'a ExprOrSpread) -> Result<(), AllocError>
+pub fn write_argument<'a, const BINARY: bool>(
+    w: &mut Writer<'a, BINARY>,
+    x: &'a ExprOrSpread,
+) -> Result<(), AllocError>
     ensures { OnOk result
-        (Writes w.old w.new (json w.old.source plain (view_expr_or_spread x.now))) }
+        (Writes w.old w.new (written BINARY w.old.source plain (view_expr_or_spread x.now))) }
 {
     let Some(dots) = x.spread else {
         return w.push(Work::Expr(&x.expr));

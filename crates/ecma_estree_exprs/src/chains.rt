@@ -2,7 +2,7 @@
 //! before it.
 
 ghost use Rattle.std.specs.Prelude.{◌≡◌, false, MatchOption, OnOk};
-ghost use Rattle.ecma_estree_writer.specs.Estree.{json, link, link_role, linked, plain};
+ghost use Rattle.ecma_estree_writer.specs.Estree.{written, link, link_role, linked, plain};
 ghost use Rattle.ecma_estree_writer.specs.Writing.{Writes};
 ghost use Rattle.swc_ecma_parser_ast.specs.View.{view_expr, view_member_expr, view_opt_call, view_opt_chain_expr};
 ghost use Rattle.swc_ecma_parser_model.specs.Forms.{is_chain};
@@ -14,9 +14,12 @@ use std::alloc::AllocError;
 use swc_ecma_parser_ast::{Expr, ExprBox, MemberExpr, OptCall, OptChainBase, OptChainExpr};
 
 /// Writes an optional chain.
-pub fn write_chain<'a>(w: &mut Writer<'a>, x: &'a OptChainExpr) -> Result<(), AllocError>
+pub fn write_chain<'a, const BINARY: bool>(
+    w: &mut Writer<'a, BINARY>,
+    x: &'a OptChainExpr,
+) -> Result<(), AllocError>
     ensures { OnOk result
-        (Writes w.old w.new (json w.old.source plain (view_opt_chain_expr x.now))) }
+        (Writes w.old w.new (written BINARY w.old.source plain (view_opt_chain_expr x.now))) }
 {
     w.open("ChainExpression", x.span)?;
     w.key("expression")?;
@@ -25,8 +28,11 @@ pub fn write_chain<'a>(w: &mut Writer<'a>, x: &'a OptChainExpr) -> Result<(), Al
 }
 
 /// Writes a link of an optional chain.
-fn write_link<'a>(w: &mut Writer<'a>, x: &'a OptChainExpr) -> Result<(), AllocError>
-    ensures { OnOk result (Writes w.old w.new (json w.old.source link (view_opt_chain_expr x.now))) }
+fn write_link<'a, const BINARY: bool>(
+    w: &mut Writer<'a, BINARY>,
+    x: &'a OptChainExpr,
+) -> Result<(), AllocError>
+    ensures { OnOk result (Writes w.old w.new (written BINARY w.old.source link (view_opt_chain_expr x.now))) }
 {
     match &*x.base {
         OptChainBase::Member(member) => write_linked_member(w, x.optional, member),
@@ -35,13 +41,13 @@ fn write_link<'a>(w: &mut Writer<'a>, x: &'a OptChainExpr) -> Result<(), AllocEr
 }
 
 /// Writes a member that is a link of an optional chain.
-fn write_linked_member<'a>(
-    w: &mut Writer<'a>,
+fn write_linked_member<'a, const BINARY: bool>(
+    w: &mut Writer<'a, BINARY>,
     optional: bool,
     x: &'a MemberExpr,
 ) -> Result<(), AllocError>
     ensures { OnOk result
-        (Writes w.old w.new (json w.old.source (linked optional) (view_member_expr x.now))) }
+        (Writes w.old w.new (written BINARY w.old.source (linked optional) (view_member_expr x.now))) }
 {
     w.open("MemberExpression", x.span)?;
     w.key("object")?;
@@ -54,13 +60,13 @@ fn write_linked_member<'a>(
 }
 
 /// Writes a call that is a link of an optional chain.
-fn write_linked_call<'a>(
-    w: &mut Writer<'a>,
+fn write_linked_call<'a, const BINARY: bool>(
+    w: &mut Writer<'a, BINARY>,
     optional: bool,
     x: &'a OptCall,
 ) -> Result<(), AllocError>
     ensures { OnOk result
-        (Writes w.old w.new (json w.old.source (linked optional) (view_opt_call x.now))) }
+        (Writes w.old w.new (written BINARY w.old.source (linked optional) (view_opt_call x.now))) }
 {
     w.open("CallExpression", x.span)?;
     w.key("callee")?;
@@ -85,10 +91,13 @@ fn link_of(expr: &Expr) -> Option<&OptChainExpr>
 }
 
 /// Writes an expression that a link of an optional chain is a link of.
-fn write_linked_expr<'a>(w: &mut Writer<'a>, expr: &'a Expr) -> Result<(), AllocError>
+fn write_linked_expr<'a, const BINARY: bool>(
+    w: &mut Writer<'a, BINARY>,
+    expr: &'a Expr,
+) -> Result<(), AllocError>
     ensures { OnOk result
         (Writes w.old w.new
-        (json w.old.source (link_role (view_expr expr.now)) (view_expr expr.now))) }
+        (written BINARY w.old.source (link_role (view_expr expr.now)) (view_expr expr.now))) }
 {
     match link_of(expr) {
         Some(x) => write_link(w, x),
@@ -97,9 +106,12 @@ fn write_linked_expr<'a>(w: &mut Writer<'a>, expr: &'a Expr) -> Result<(), Alloc
 }
 
 /// Writes what a link of an optional chain is a link of.
-pub fn write_linked<'a>(w: &mut Writer<'a>, x: &'a ExprBox) -> Result<(), AllocError>
+pub fn write_linked<'a, const BINARY: bool>(
+    w: &mut Writer<'a, BINARY>,
+    x: &'a ExprBox,
+) -> Result<(), AllocError>
     ensures { OnOk result
-        (Writes w.old w.new (json w.old.source (link_role x.now.node.tree) x.now.node.tree)) }
+        (Writes w.old w.new (written BINARY w.old.source (link_role x.now.node.tree) x.now.node.tree)) }
 {
     match x.get() {
         Some(expr) => write_linked_expr(w, expr),

@@ -2,7 +2,7 @@
 
 ghost use Rattle.std.specs.Prelude.{◌≡◌, ◌++◌, codes, map, OnOk};
 ghost use Rattle.ecma_estree_writer.specs.Parts.{node_at, key, end, open_list, end_list};
-ghost use Rattle.ecma_estree_writer.specs.Estree.{json, plain, members, class, end_of, end_of_optional, class_rest};
+ghost use Rattle.ecma_estree_writer.specs.Estree.{written, plain, members, class, end_of, end_of_optional, class_rest};
 ghost use Rattle.ecma_estree_writer.specs.Writing.{Appends, Pushes, Writes};
 ghost use Rattle.swc_ecma_parser_ast.specs.Parts.{view_option};
 ghost use Rattle.swc_ecma_parser_ast.specs.View.{view_class, view_class_member, view_decorator, view_ident};
@@ -49,7 +49,7 @@ fn expr_end(expr: &Option<ExprBox>) -> usize
 }
 
 /// Where the braces of a class begin, in bytes: behind its decorators, its name and what it extends.
-fn brace(w: &Writer<'_>, x: &Class, name_end: usize) -> usize
+fn brace<const BINARY: bool>(w: &Writer<'_, BINARY>, x: &Class, name_end: usize) -> usize
     ensures { result
         ≡ estree.brace w.now.source x.now.span (listed (map view_decorator x.now.decorators.items))
         (view_option (λ b. b.node.tree) x.now.super_class) name_end }
@@ -59,15 +59,19 @@ fn brace(w: &Writer<'_>, x: &Class, name_end: usize) -> usize
 }
 
 /// Has the body of a class written, from its brace on.
-fn push_class_body<'a>(w: &mut Writer<'a>, x: &'a Class, start: usize) -> Result<(), AllocError>
+fn push_class_body<'a, const BINARY: bool>(
+    w: &mut Writer<'a, BINARY>,
+    x: &'a Class,
+    start: usize,
+) -> Result<(), AllocError>
     ensures { OnOk result
         (Pushes w.old w.new
-        (key (codes "body")
-        ++ (node_at w.old.source (codes "ClassBody") start x.now.span.hi.0
-        ++ (key (codes "body")
-        ++ (open_list
-        ++ (json w.old.source members (listed (map view_class_member x.now.body.items))
-        ++ (end_list ++ end))))))) }
+        (key BINARY (codes "body")
+        ++ (node_at BINARY w.old.source (codes "ClassBody") start x.now.span.hi.0
+        ++ (key BINARY (codes "body")
+        ++ (open_list BINARY
+        ++ (written BINARY w.old.source members (listed (map view_class_member x.now.body.items))
+        ++ (end_list BINARY ++ end BINARY))))))) }
 {
     w.push(Work::End)?;
     w.push(Work::EndList)?;
@@ -77,9 +81,13 @@ fn push_class_body<'a>(w: &mut Writer<'a>, x: &'a Class, start: usize) -> Result
 }
 
 /// Has what a class has behind its name written.
-fn write_rest<'a>(w: &mut Writer<'a>, x: &'a Class, name_end: usize) -> Result<(), AllocError>
+fn write_rest<'a, const BINARY: bool>(
+    w: &mut Writer<'a, BINARY>,
+    x: &'a Class,
+    name_end: usize,
+) -> Result<(), AllocError>
     ensures { OnOk result
-        (Writes w.old w.new (class_rest w.old.source name_end (view_class x.now))) }
+        (Writes w.old w.new (class_rest BINARY w.old.source name_end (view_class x.now))) }
 {
     let start = brace(w, x, name_end);
     w.key("superClass")?;
@@ -90,26 +98,30 @@ fn write_rest<'a>(w: &mut Writer<'a>, x: &'a Class, name_end: usize) -> Result<(
 }
 
 /// Writes how the body of a class begins.
-pub fn write_class_body(w: &mut Writer<'_>, start: usize, end: usize) -> Result<(), AllocError>
+pub fn write_class_body<const BINARY: bool>(
+    w: &mut Writer<'_, BINARY>,
+    start: usize,
+    end: usize,
+) -> Result<(), AllocError>
     ensures { OnOk result
         (Appends w.old w.new
-        (node_at w.old.source (codes "ClassBody") start end ++ (key (codes "body") ++ open_list))) }
+        (node_at BINARY w.old.source (codes "ClassBody") start end ++ (key BINARY (codes "body") ++ open_list BINARY))) }
 {
     w.open_at("ClassBody", start, end)?;
     w.list_key("body")
 }
 
 /// Writes a class with or without a name, as a node of the given kind.
-pub fn write_class<'a>(
-    w: &mut Writer<'a>,
+pub fn write_class<'a, const BINARY: bool>(
+    w: &mut Writer<'a, BINARY>,
     kind: &str,
     name: &Option<Ident>,
     x: &'a Class,
 ) -> Result<(), AllocError>
     ensures { OnOk result
         (Writes w.old w.new
-        (json w.old.source
-        (class kind.now (json w.old.source plain (view_option view_ident name.now))
+        (written BINARY w.old.source
+        (class kind.now (written BINARY w.old.source plain (view_option view_ident name.now))
         (end_of (view_option view_ident name.now))) (view_class x.now))) }
 {
     w.open(kind, x.span)?;
@@ -119,15 +131,15 @@ pub fn write_class<'a>(
 }
 
 /// Writes a class that is a declaration.
-pub fn write_class_decl<'a>(
-    w: &mut Writer<'a>,
+pub fn write_class_decl<'a, const BINARY: bool>(
+    w: &mut Writer<'a, BINARY>,
     name: &Ident,
     x: &'a Class,
 ) -> Result<(), AllocError>
     ensures { OnOk result
         (Writes w.old w.new
-        (json w.old.source
-        (class (codes "ClassDeclaration") (json w.old.source plain (view_ident name.now))
+        (written BINARY w.old.source
+        (class (codes "ClassDeclaration") (written BINARY w.old.source plain (view_ident name.now))
         name.now.span.hi.0) (view_class x.now))) }
 {
     w.open("ClassDeclaration", x.span)?;

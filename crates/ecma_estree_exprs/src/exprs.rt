@@ -1,7 +1,7 @@
 //! Expressions.
 
 ghost use Rattle.std.specs.Prelude.{OnOk};
-ghost use Rattle.ecma_estree_writer.specs.Estree.{json, plain};
+ghost use Rattle.ecma_estree_writer.specs.Estree.{written, plain};
 ghost use Rattle.ecma_estree_writer.specs.Writing.{Writes};
 ghost use Rattle.swc_ecma_parser_ast.specs.View.{view_expr};
 
@@ -21,8 +21,11 @@ use swc_ecma_parser_ast::Expr;
 
 /// Writes an expression.
 #[tactic(auto, using(ecma_estree_writer::proofs::Written::appended_on_ok, ecma_estree_writer::proofs::Written::pushed_on_ok))]
-pub fn write_expr<'a>(w: &mut Writer<'a>, expr: &'a Expr) -> Result<(), AllocError>
-    ensures { OnOk result (Writes w.old w.new (json w.old.source plain (view_expr expr.now))) }
+pub fn write_expr<'a, const BINARY: bool>(
+    w: &mut Writer<'a, BINARY>,
+    expr: &'a Expr,
+) -> Result<(), AllocError>
+    ensures { OnOk result (Writes w.old w.new (written BINARY w.old.source plain (view_expr expr.now))) }
 {
     match expr {
         Expr::This(x) => w.leaf("ThisExpression", x.span),

@@ -2,7 +2,7 @@
 
 ghost use Rattle.std.specs.Prelude.{◌≡◌, ◌++◌, codes, map, false, OnOk};
 ghost use Rattle.ecma_estree_writer.specs.Parts.{node, node_at, key, end, open_list, end_list, nothing};
-ghost use Rattle.ecma_estree_writer.specs.Estree.{json, plain, directives, function, accessor, function_fields, function_rest, decorator_field};
+ghost use Rattle.ecma_estree_writer.specs.Estree.{written, plain, directives, function, accessor, function_fields, function_rest, decorator_field};
 ghost use Rattle.ecma_estree_writer.specs.Writing.{Appends, Pushes, Writes};
 ghost use Rattle.ecma_estree_writer.specs.Work.{work_text};
 ghost use Rattle.ecma_estree_text.specs.Bracket.{bracket};
@@ -20,16 +20,19 @@ use swc_ecma_parser_ast::{
 };
 
 /// Where the parentheses of a method begin, in bytes.
-pub fn method_start(w: &Writer<'_>, key: &PropName) -> usize
+pub fn method_start<const BINARY: bool>(w: &Writer<'_, BINARY>, key: &PropName) -> usize
     ensures { result ≡ bracket w.now.source.places.text 40 (span_of (view_prop_name key.now)).hi.0 }
 {
     w.find(b'(', key.span().hi.0 as usize)
 }
 
 /// Has the body of a function written, or `null`.
-pub fn push_body<'a>(w: &mut Writer<'a>, body: &'a Option<BlockStmt>) -> Result<(), AllocError>
+pub fn push_body<'a, const BINARY: bool>(
+    w: &mut Writer<'a, BINARY>,
+    body: &'a Option<BlockStmt>,
+) -> Result<(), AllocError>
     ensures { OnOk result
-        (Pushes w.old w.new (json w.old.source directives (view_option view_block_stmt body.now))) }
+        (Pushes w.old w.new (written BINARY w.old.source directives (view_option view_block_stmt body.now))) }
 {
     match body {
         Some(x) => w.push(Work::Body(x)),
@@ -38,16 +41,16 @@ pub fn push_body<'a>(w: &mut Writer<'a>, body: &'a Option<BlockStmt>) -> Result<
 }
 
 /// Has the start written of a method's value that has no parameters of its own, up to those.
-pub fn push_accessor<'a>(
-    w: &mut Writer<'a>,
+pub fn push_accessor<'a, const BINARY: bool>(
+    w: &mut Writer<'a, BINARY>,
     key: &'a PropName,
     span: Span,
 ) -> Result<(), AllocError>
     ensures { OnOk result
         (Pushes w.old w.new
-        (parts.key (codes "value")
-        ++ (accessor w.old.source (view_prop_name key.now) span
-        ++ (parts.key (codes "params") ++ open_list)))) }
+        (parts.key BINARY (codes "value")
+        ++ (accessor BINARY w.old.source (view_prop_name key.now) span
+        ++ (parts.key BINARY (codes "params") ++ open_list BINARY)))) }
 {
     let start = method_start(w, key);
     w.push(Work::Accessor(start, span.hi.0 as usize))?;
@@ -55,11 +58,15 @@ pub fn push_accessor<'a>(
 }
 
 /// Writes the start of a method's value that has no parameters of its own, up to those.
-pub fn write_accessor(w: &mut Writer<'_>, start: usize, end: usize) -> Result<(), AllocError>
+pub fn write_accessor<const BINARY: bool>(
+    w: &mut Writer<'_, BINARY>,
+    start: usize,
+    end: usize,
+) -> Result<(), AllocError>
     ensures { OnOk result
         (Appends w.old w.new
-        (node_at w.old.source (codes "FunctionExpression") start end
-        ++ (function_fields nothing false false false ++ (key (codes "params") ++ open_list)))) }
+        (node_at BINARY w.old.source (codes "FunctionExpression") start end
+        ++ (function_fields BINARY (nothing BINARY) false false false ++ (key BINARY (codes "params") ++ open_list BINARY)))) }
 {
     w.open_at("FunctionExpression", start, end)?;
     w.key("id")?;
@@ -71,14 +78,14 @@ pub fn write_accessor(w: &mut Writer<'_>, start: usize, end: usize) -> Result<()
 }
 
 /// Has the body of a function written, with what stands around it behind the parameters.
-pub fn push_rest_of_function<'a>(
-    w: &mut Writer<'a>,
+pub fn push_rest_of_function<'a, const BINARY: bool>(
+    w: &mut Writer<'a, BINARY>,
     body: &'a Option<BlockStmt>,
 ) -> Result<(), AllocError>
     ensures { OnOk result
         (Pushes w.old w.new
-        (end_list ++ (key (codes "body")
-        ++ (json w.old.source directives (view_option view_block_stmt body.now) ++ end)))) }
+        (end_list BINARY ++ (key BINARY (codes "body")
+        ++ (written BINARY w.old.source directives (view_option view_block_stmt body.now) ++ end BINARY)))) }
 {
     w.push(Work::End)?;
     push_body(w, body)?;
@@ -87,8 +94,11 @@ pub fn push_rest_of_function<'a>(
 }
 
 /// Writes what a function has behind its name.
-fn write_rest<'a>(w: &mut Writer<'a>, x: &'a Function) -> Result<(), AllocError>
-    ensures { OnOk result (Writes w.old w.new (function_rest w.old.source (view_function x.now))) }
+fn write_rest<'a, const BINARY: bool>(
+    w: &mut Writer<'a, BINARY>,
+    x: &'a Function,
+) -> Result<(), AllocError>
+    ensures { OnOk result (Writes w.old w.new (function_rest BINARY w.old.source (view_function x.now))) }
 {
     w.flag("expression", false)?;
     w.flag("generator", x.is_generator)?;
@@ -99,14 +109,14 @@ fn write_rest<'a>(w: &mut Writer<'a>, x: &'a Function) -> Result<(), AllocError>
 }
 
 /// Writes a function without a name, from an offset on.
-pub fn write_method_value<'a>(
-    w: &mut Writer<'a>,
+pub fn write_method_value<'a, const BINARY: bool>(
+    w: &mut Writer<'a, BINARY>,
     x: &'a Function,
     start: usize,
 ) -> Result<(), AllocError>
     ensures { OnOk result
         (Writes w.old w.new
-        (json w.old.source (function (codes "FunctionExpression") nothing start)
+        (written BINARY w.old.source (function (codes "FunctionExpression") (nothing BINARY) start)
         (view_function x.now))) }
 {
     w.open_at("FunctionExpression", start, x.span.hi.0 as usize)?;
@@ -116,15 +126,15 @@ pub fn write_method_value<'a>(
 }
 
 /// Writes a function that is an expression, or is exported by default, as a node of the given kind.
-pub fn write_function_expr<'a>(
-    w: &mut Writer<'a>,
+pub fn write_function_expr<'a, const BINARY: bool>(
+    w: &mut Writer<'a, BINARY>,
     kind: &str,
     x: &'a FnExpr,
 ) -> Result<(), AllocError>
     ensures { OnOk result
         (Writes w.old w.new
-        (json w.old.source
-        (function kind.now (json w.old.source plain (view_option view_ident x.now.ident))
+        (written BINARY w.old.source
+        (function kind.now (written BINARY w.old.source plain (view_option view_ident x.now.ident))
         x.now.span.lo.0) (view_function x.now.function.value))) }
 {
     w.open_at(kind, x.span.lo.0 as usize, x.function.span.hi.0 as usize)?;
@@ -134,8 +144,11 @@ pub fn write_function_expr<'a>(
 }
 
 /// Writes a function that is a declaration.
-pub fn write_function_decl<'a>(w: &mut Writer<'a>, x: &'a FnDecl) -> Result<(), AllocError>
-    ensures { OnOk result (Writes w.old w.new (json w.old.source plain (view_fn_decl x.now))) }
+pub fn write_function_decl<'a, const BINARY: bool>(
+    w: &mut Writer<'a, BINARY>,
+    x: &'a FnDecl,
+) -> Result<(), AllocError>
+    ensures { OnOk result (Writes w.old w.new (written BINARY w.old.source plain (view_fn_decl x.now))) }
 {
     w.open("FunctionDeclaration", x.function.span)?;
     w.key("id")?;
@@ -144,12 +157,16 @@ pub fn write_function_decl<'a>(w: &mut Writer<'a>, x: &'a FnDecl) -> Result<(), 
 }
 
 /// Writes how an arrow function begins, up to its parameters.
-fn open_arrow(w: &mut Writer<'_>, x: &ArrowExpr, is_expression: bool) -> Result<(), AllocError>
+fn open_arrow<const BINARY: bool>(
+    w: &mut Writer<'_, BINARY>,
+    x: &ArrowExpr,
+    is_expression: bool,
+) -> Result<(), AllocError>
     ensures { OnOk result
         (Appends w.old w.new
-        (node w.old.source (codes "ArrowFunctionExpression") x.now.span
-        ++ (function_fields nothing is_expression false x.now.is_async
-        ++ (key (codes "params") ++ open_list)))) }
+        (node BINARY w.old.source (codes "ArrowFunctionExpression") x.now.span
+        ++ (function_fields BINARY (nothing BINARY) is_expression false x.now.is_async
+        ++ (key BINARY (codes "params") ++ open_list BINARY)))) }
 {
     w.open("ArrowFunctionExpression", x.span)?;
     w.key("id")?;
@@ -161,17 +178,17 @@ fn open_arrow(w: &mut Writer<'_>, x: &ArrowExpr, is_expression: bool) -> Result<
 }
 
 /// Writes an arrow function with its body.
-fn write_arrow_with<'a>(
-    w: &mut Writer<'a>,
+fn write_arrow_with<'a, const BINARY: bool>(
+    w: &mut Writer<'a, BINARY>,
     x: &'a ArrowExpr,
     is_expression: bool,
     body: Work<'a>,
 ) -> Result<(), AllocError>
     ensures { OnOk result
         (Writes w.old w.new
-        (node w.old.source (codes "ArrowFunctionExpression") x.now.span
-        ++ (function_fields nothing is_expression false x.now.is_async
-        ++ (key (codes "params") ++ (open_list ++ (json w.old.source plain (listed (map view_pat x.now.params.items)) ++ (end_list ++ (key (codes "body") ++ (work_text w.old.source body.entry ++ end))))))))) }
+        (node BINARY w.old.source (codes "ArrowFunctionExpression") x.now.span
+        ++ (function_fields BINARY (nothing BINARY) is_expression false x.now.is_async
+        ++ (key BINARY (codes "params") ++ (open_list BINARY ++ (written BINARY w.old.source plain (listed (map view_pat x.now.params.items)) ++ (end_list BINARY ++ (key BINARY (codes "body") ++ (work_text BINARY w.old.source body.entry ++ end BINARY))))))))) }
 {
     open_arrow(w, x, is_expression)?;
     w.push(Work::End)?;
@@ -183,8 +200,11 @@ fn write_arrow_with<'a>(
 
 /// Writes an arrow function.
 #[tactic(auto, using(crate::proofs::AsExpr::arrow_of_expr))]
-pub fn write_arrow<'a>(w: &mut Writer<'a>, x: &'a ArrowExpr) -> Result<(), AllocError>
-    ensures { OnOk result (Writes w.old w.new (json w.old.source plain (view_arrow_expr x.now))) }
+pub fn write_arrow<'a, const BINARY: bool>(
+    w: &mut Writer<'a, BINARY>,
+    x: &'a ArrowExpr,
+) -> Result<(), AllocError>
+    ensures { OnOk result (Writes w.old w.new (written BINARY w.old.source plain (view_arrow_expr x.now))) }
 {
     match &x.body {
         BlockStmtOrExpr::BlockStmt(body) => write_arrow_with(w, x, false, Work::Body(body)),
@@ -193,13 +213,13 @@ pub fn write_arrow<'a>(w: &mut Writer<'a>, x: &'a ArrowExpr) -> Result<(), Alloc
 }
 
 /// Has decorators written as a field, where there are some.
-pub fn push_decorators<'a>(
-    w: &mut Writer<'a>,
+pub fn push_decorators<'a, const BINARY: bool>(
+    w: &mut Writer<'a, BINARY>,
     decorators: &'a [Decorator],
 ) -> Result<(), AllocError>
     ensures { OnOk result
         (Pushes w.old w.new
-        (decorator_field w.old.source (listed (map view_decorator decorators.now)))) }
+        (decorator_field BINARY w.old.source (listed (map view_decorator decorators.now)))) }
 {
     if decorators.is_empty() {
         return Ok(());
@@ -211,8 +231,11 @@ pub fn push_decorators<'a>(
 }
 
 /// Writes a decorator.
-pub fn write_decorator<'a>(w: &mut Writer<'a>, x: &'a Decorator) -> Result<(), AllocError>
-    ensures { OnOk result (Writes w.old w.new (json w.old.source plain (view_decorator x.now))) }
+pub fn write_decorator<'a, const BINARY: bool>(
+    w: &mut Writer<'a, BINARY>,
+    x: &'a Decorator,
+) -> Result<(), AllocError>
+    ensures { OnOk result (Writes w.old w.new (written BINARY w.old.source plain (view_decorator x.now))) }
 {
     w.open("Decorator", x.span)?;
     w.key("expression")?;

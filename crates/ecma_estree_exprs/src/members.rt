@@ -2,7 +2,7 @@
 
 ghost use Rattle.std.specs.Prelude.{◌++◌, codes, map, OnOk};
 ghost use Rattle.ecma_estree_writer.specs.Parts.{key, end};
-ghost use Rattle.ecma_estree_writer.specs.Estree.{json, plain, members, member_head, decorator_field};
+ghost use Rattle.ecma_estree_writer.specs.Estree.{written, plain, members, member_head, decorator_field};
 ghost use Rattle.ecma_estree_writer.specs.Writing.{Appends, Pushes, Writes};
 ghost use Rattle.swc_ecma_parser_ast.specs.Parts.{view_option};
 ghost use Rattle.swc_ecma_parser_ast.specs.View.{view_auto_accessor, view_class_member, view_class_method, view_class_prop, view_constructor, view_decorator, view_private_method, view_private_prop, view_static_block};
@@ -20,9 +20,12 @@ use swc_ecma_parser_ast::{
 
 /// Writes a member.
 #[tactic(auto, using(ecma_estree_writer::proofs::Written::appended_on_ok, ecma_estree_writer::proofs::Written::pushed_on_ok))]
-pub fn write_class_member<'a>(w: &mut Writer<'a>, member: &'a ClassMember) -> Result<(), AllocError>
+pub fn write_class_member<'a, const BINARY: bool>(
+    w: &mut Writer<'a, BINARY>,
+    member: &'a ClassMember,
+) -> Result<(), AllocError>
     ensures { OnOk result
-        (Writes w.old w.new (json w.old.source members (view_class_member member.now))) }
+        (Writes w.old w.new (written BINARY w.old.source members (view_class_member member.now))) }
 {
     match member {
         ClassMember::Constructor(x) => write_constructor(w, x),
@@ -37,15 +40,15 @@ pub fn write_class_member<'a>(w: &mut Writer<'a>, member: &'a ClassMember) -> Re
 }
 
 /// Writes how a member begins, up to its key.
-fn open_member(
-    w: &mut Writer<'_>,
+fn open_member<const BINARY: bool>(
+    w: &mut Writer<'_, BINARY>,
     kind: &str,
     span: Span,
     is_static: bool,
     is_computed: bool,
 ) -> Result<(), AllocError>
     ensures { OnOk result
-        (Appends w.old w.new (member_head w.old.source kind.now span is_static is_computed)) }
+        (Appends w.old w.new (member_head BINARY w.old.source kind.now span is_static is_computed)) }
 {
     w.open(kind, span)?;
     w.flag("static", is_static)?;
@@ -54,8 +57,11 @@ fn open_member(
 }
 
 /// Writes a constructor.
-fn write_constructor<'a>(w: &mut Writer<'a>, x: &'a Constructor) -> Result<(), AllocError>
-    ensures { OnOk result (Writes w.old w.new (json w.old.source plain (view_constructor x.now))) }
+fn write_constructor<'a, const BINARY: bool>(
+    w: &mut Writer<'a, BINARY>,
+    x: &'a Constructor,
+) -> Result<(), AllocError>
+    ensures { OnOk result (Writes w.old w.new (written BINARY w.old.source plain (view_constructor x.now))) }
 {
     open_member(w, "MethodDefinition", x.span, false, is_computed(&x.key))?;
     w.push(Work::End)?;
@@ -67,8 +73,11 @@ fn write_constructor<'a>(w: &mut Writer<'a>, x: &'a Constructor) -> Result<(), A
 }
 
 /// Writes a method, getter or setter.
-fn write_method<'a>(w: &mut Writer<'a>, x: &'a ClassMethod) -> Result<(), AllocError>
-    ensures { OnOk result (Writes w.old w.new (json w.old.source plain (view_class_method x.now))) }
+fn write_method<'a, const BINARY: bool>(
+    w: &mut Writer<'a, BINARY>,
+    x: &'a ClassMethod,
+) -> Result<(), AllocError>
+    ensures { OnOk result (Writes w.old w.new (written BINARY w.old.source plain (view_class_method x.now))) }
 {
     open_member(
         w,
@@ -87,9 +96,12 @@ fn write_method<'a>(w: &mut Writer<'a>, x: &'a ClassMethod) -> Result<(), AllocE
 }
 
 /// Writes a method, getter or setter with a private name.
-fn write_private_method<'a>(w: &mut Writer<'a>, x: &'a PrivateMethod) -> Result<(), AllocError>
+fn write_private_method<'a, const BINARY: bool>(
+    w: &mut Writer<'a, BINARY>,
+    x: &'a PrivateMethod,
+) -> Result<(), AllocError>
     ensures { OnOk result
-        (Writes w.old w.new (json w.old.source plain (view_private_method x.now))) }
+        (Writes w.old w.new (written BINARY w.old.source plain (view_private_method x.now))) }
 {
     open_member(w, "MethodDefinition", x.span, x.is_static, false)?;
     write_private_name(w, &x.key)?;
@@ -102,16 +114,16 @@ fn write_private_method<'a>(w: &mut Writer<'a>, x: &'a PrivateMethod) -> Result<
 }
 
 /// Has written what a field has behind its key.
-fn push_value<'a>(
-    w: &mut Writer<'a>,
+fn push_value<'a, const BINARY: bool>(
+    w: &mut Writer<'a, BINARY>,
     value: &'a Option<ExprBox>,
     decorators: &'a [Decorator],
 ) -> Result<(), AllocError>
     ensures { OnOk result
         (Pushes w.old w.new
-        (key (codes "value")
-        ++ (json w.old.source plain (view_option (λ b. b.node.tree) value.now)
-        ++ (decorator_field w.old.source (listed (map view_decorator decorators.now)) ++ end)))) }
+        (key BINARY (codes "value")
+        ++ (written BINARY w.old.source plain (view_option (λ b. b.node.tree) value.now)
+        ++ (decorator_field BINARY w.old.source (listed (map view_decorator decorators.now)) ++ end BINARY)))) }
 {
     w.push(Work::End)?;
     push_decorators(w, decorators)?;
@@ -120,8 +132,11 @@ fn push_value<'a>(
 }
 
 /// Writes a field.
-fn write_field<'a>(w: &mut Writer<'a>, x: &'a ClassProp) -> Result<(), AllocError>
-    ensures { OnOk result (Writes w.old w.new (json w.old.source plain (view_class_prop x.now))) }
+fn write_field<'a, const BINARY: bool>(
+    w: &mut Writer<'a, BINARY>,
+    x: &'a ClassProp,
+) -> Result<(), AllocError>
+    ensures { OnOk result (Writes w.old w.new (written BINARY w.old.source plain (view_class_prop x.now))) }
 {
     open_member(
         w,
@@ -135,8 +150,11 @@ fn write_field<'a>(w: &mut Writer<'a>, x: &'a ClassProp) -> Result<(), AllocErro
 }
 
 /// Writes a field with a private name.
-fn write_private_field<'a>(w: &mut Writer<'a>, x: &'a PrivateProp) -> Result<(), AllocError>
-    ensures { OnOk result (Writes w.old w.new (json w.old.source plain (view_private_prop x.now))) }
+fn write_private_field<'a, const BINARY: bool>(
+    w: &mut Writer<'a, BINARY>,
+    x: &'a PrivateProp,
+) -> Result<(), AllocError>
+    ensures { OnOk result (Writes w.old w.new (written BINARY w.old.source plain (view_private_prop x.now))) }
 {
     open_member(w, "PropertyDefinition", x.span, x.is_static, false)?;
     write_private_name(w, &x.key)?;
@@ -144,9 +162,12 @@ fn write_private_field<'a>(w: &mut Writer<'a>, x: &'a PrivateProp) -> Result<(),
 }
 
 /// Writes a field with a getter and a setter.
-fn write_auto_accessor<'a>(w: &mut Writer<'a>, x: &'a AutoAccessor) -> Result<(), AllocError>
+fn write_auto_accessor<'a, const BINARY: bool>(
+    w: &mut Writer<'a, BINARY>,
+    x: &'a AutoAccessor,
+) -> Result<(), AllocError>
     ensures { OnOk result
-        (Writes w.old w.new (json w.old.source plain (view_auto_accessor x.now))) }
+        (Writes w.old w.new (written BINARY w.old.source plain (view_auto_accessor x.now))) }
 {
     match &x.key {
         Key::Private(key) => {
@@ -163,8 +184,11 @@ fn write_auto_accessor<'a>(w: &mut Writer<'a>, x: &'a AutoAccessor) -> Result<()
 }
 
 /// Writes a block that runs with its class.
-fn write_static_block<'a>(w: &mut Writer<'a>, x: &'a StaticBlock) -> Result<(), AllocError>
-    ensures { OnOk result (Writes w.old w.new (json w.old.source plain (view_static_block x.now))) }
+fn write_static_block<'a, const BINARY: bool>(
+    w: &mut Writer<'a, BINARY>,
+    x: &'a StaticBlock,
+) -> Result<(), AllocError>
+    ensures { OnOk result (Writes w.old w.new (written BINARY w.old.source plain (view_static_block x.now))) }
 {
     w.open("StaticBlock", x.span)?;
     w.list_key("body")?;

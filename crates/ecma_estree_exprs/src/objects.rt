@@ -2,7 +2,7 @@
 
 ghost use Rattle.std.specs.Prelude.{◌≡◌, ◌++◌, codes, OnOk};
 ghost use Rattle.ecma_estree_writer.specs.Parts.{node, key};
-ghost use Rattle.ecma_estree_writer.specs.Estree.{json, plain, attributes, property};
+ghost use Rattle.ecma_estree_writer.specs.Estree.{written, plain, attributes, property};
 ghost use Rattle.ecma_estree_writer.specs.Writing.{Appends, Writes};
 ghost use Rattle.swc_ecma_parser_ast.specs.View.{view_array_lit, view_assign_prop, view_getter_prop, view_ident, view_key_value_prop, view_method_prop, view_object_lit, view_prop, view_prop_name, view_prop_or_spread, view_setter_prop, view_spread_element};
 ghost use Rattle.swc_ecma_parser_model.specs.Tree.{shorthand_prop};
@@ -17,8 +17,11 @@ use swc_ecma_parser_ast::{
 };
 
 /// Writes an array.
-pub fn write_array<'a>(w: &mut Writer<'a>, x: &'a ArrayLit) -> Result<(), AllocError>
-    ensures { OnOk result (Writes w.old w.new (json w.old.source plain (view_array_lit x.now))) }
+pub fn write_array<'a, const BINARY: bool>(
+    w: &mut Writer<'a, BINARY>,
+    x: &'a ArrayLit,
+) -> Result<(), AllocError>
+    ensures { OnOk result (Writes w.old w.new (written BINARY w.old.source plain (view_array_lit x.now))) }
 {
     w.open("ArrayExpression", x.span)?;
     w.list_key("elements")?;
@@ -28,8 +31,11 @@ pub fn write_array<'a>(w: &mut Writer<'a>, x: &'a ArrayLit) -> Result<(), AllocE
 }
 
 /// Writes an object.
-pub fn write_object<'a>(w: &mut Writer<'a>, x: &'a ObjectLit) -> Result<(), AllocError>
-    ensures { OnOk result (Writes w.old w.new (json w.old.source plain (view_object_lit x.now))) }
+pub fn write_object<'a, const BINARY: bool>(
+    w: &mut Writer<'a, BINARY>,
+    x: &'a ObjectLit,
+) -> Result<(), AllocError>
+    ensures { OnOk result (Writes w.old w.new (written BINARY w.old.source plain (view_object_lit x.now))) }
 {
     w.open("ObjectExpression", x.span)?;
     w.list_key("properties")?;
@@ -50,8 +56,11 @@ pub fn is_computed(key: &PropName) -> bool
 
 /// Writes a key.
 #[tactic(auto, using(ecma_estree_writer::proofs::Written::appended_on_ok, ecma_estree_writer::proofs::Written::pushed_on_ok))]
-pub fn write_prop_name<'a>(w: &mut Writer<'a>, key: &'a PropName) -> Result<(), AllocError>
-    ensures { OnOk result (Writes w.old w.new (json w.old.source plain (view_prop_name key.now))) }
+pub fn write_prop_name<'a, const BINARY: bool>(
+    w: &mut Writer<'a, BINARY>,
+    key: &'a PropName,
+) -> Result<(), AllocError>
+    ensures { OnOk result (Writes w.old w.new (written BINARY w.old.source plain (view_prop_name key.now))) }
 {
     match key {
         PropName::Ident(x) => write_name(w, x),
@@ -63,8 +72,8 @@ pub fn write_prop_name<'a>(w: &mut Writer<'a>, key: &'a PropName) -> Result<(), 
 }
 
 /// Writes how a property begins.
-pub fn open_property(
-    w: &mut Writer<'_>,
+pub fn open_property<const BINARY: bool>(
+    w: &mut Writer<'_, BINARY>,
     span: Span,
     is_method: bool,
     is_shorthand: bool,
@@ -72,7 +81,7 @@ pub fn open_property(
 ) -> Result<(), AllocError>
     ensures { OnOk result
         (Appends w.old w.new
-        (property w.old.source span is_method is_shorthand is_computed ++ key (codes "key"))) }
+        (property BINARY w.old.source span is_method is_shorthand is_computed ++ key BINARY (codes "key"))) }
 {
     w.open("Property", span)?;
     w.flag("method", is_method)?;
@@ -83,9 +92,12 @@ pub fn open_property(
 
 /// Writes a part of an object.
 #[tactic(auto, using(ecma_estree_writer::proofs::Written::appended_on_ok, ecma_estree_writer::proofs::Written::pushed_on_ok))]
-pub fn write_part<'a>(w: &mut Writer<'a>, part: &'a PropOrSpread) -> Result<(), AllocError>
+pub fn write_part<'a, const BINARY: bool>(
+    w: &mut Writer<'a, BINARY>,
+    part: &'a PropOrSpread,
+) -> Result<(), AllocError>
     ensures { OnOk result
-        (Writes w.old w.new (json w.old.source plain (view_prop_or_spread part.now))) }
+        (Writes w.old w.new (written BINARY w.old.source plain (view_prop_or_spread part.now))) }
 {
     match part {
         PropOrSpread::Spread(x) => write_spread(w, x),
@@ -94,9 +106,12 @@ pub fn write_part<'a>(w: &mut Writer<'a>, part: &'a PropOrSpread) -> Result<(), 
 }
 
 /// Writes what is spread in an object.
-fn write_spread<'a>(w: &mut Writer<'a>, x: &'a SpreadElement) -> Result<(), AllocError>
+fn write_spread<'a, const BINARY: bool>(
+    w: &mut Writer<'a, BINARY>,
+    x: &'a SpreadElement,
+) -> Result<(), AllocError>
     ensures { OnOk result
-        (Writes w.old w.new (json w.old.source plain (view_spread_element x.now))) }
+        (Writes w.old w.new (written BINARY w.old.source plain (view_spread_element x.now))) }
 {
     w.open_at(
         "SpreadElement",
@@ -110,8 +125,11 @@ fn write_spread<'a>(w: &mut Writer<'a>, x: &'a SpreadElement) -> Result<(), Allo
 
 /// Writes a property.
 #[tactic(auto, using(ecma_estree_writer::proofs::Written::appended_on_ok, ecma_estree_writer::proofs::Written::pushed_on_ok))]
-pub fn write_prop<'a>(w: &mut Writer<'a>, prop: &'a Prop) -> Result<(), AllocError>
-    ensures { OnOk result (Writes w.old w.new (json w.old.source plain (view_prop prop.now))) }
+pub fn write_prop<'a, const BINARY: bool>(
+    w: &mut Writer<'a, BINARY>,
+    prop: &'a Prop,
+) -> Result<(), AllocError>
+    ensures { OnOk result (Writes w.old w.new (written BINARY w.old.source plain (view_prop prop.now))) }
 {
     match prop {
         Prop::Shorthand(x) => write_shorthand(w, x),
@@ -124,10 +142,13 @@ pub fn write_prop<'a>(w: &mut Writer<'a>, prop: &'a Prop) -> Result<(), AllocErr
 }
 
 /// Writes a name that is its own value.
-fn write_shorthand(w: &mut Writer<'_>, name: &Ident) -> Result<(), AllocError>
+fn write_shorthand<const BINARY: bool>(
+    w: &mut Writer<'_, BINARY>,
+    name: &Ident,
+) -> Result<(), AllocError>
     ensures { OnOk result
         (Appends w.old w.new
-        (json w.old.source plain (shorthand_prop name.now.span name.now.sym))) }
+        (written BINARY w.old.source plain (shorthand_prop name.now.span name.now.sym))) }
 {
     open_property(w, name.span, false, true, false)?;
     write_name(w, name)?;
@@ -138,9 +159,12 @@ fn write_shorthand(w: &mut Writer<'_>, name: &Ident) -> Result<(), AllocError>
 }
 
 /// Writes a key with its value.
-fn write_key_value<'a>(w: &mut Writer<'a>, x: &'a KeyValueProp) -> Result<(), AllocError>
+fn write_key_value<'a, const BINARY: bool>(
+    w: &mut Writer<'a, BINARY>,
+    x: &'a KeyValueProp,
+) -> Result<(), AllocError>
     ensures { OnOk result
-        (Writes w.old w.new (json w.old.source plain (view_key_value_prop x.now))) }
+        (Writes w.old w.new (written BINARY w.old.source plain (view_key_value_prop x.now))) }
 {
     open_property(w, x.span, false, false, is_computed(&x.key))?;
     w.push(Work::End)?;
@@ -151,9 +175,12 @@ fn write_key_value<'a>(w: &mut Writer<'a>, x: &'a KeyValueProp) -> Result<(), Al
 }
 
 /// Writes a property as an attribute of an import.
-pub fn write_attribute<'a>(w: &mut Writer<'a>, part: &'a PropOrSpread) -> Result<(), AllocError>
+pub fn write_attribute<'a, const BINARY: bool>(
+    w: &mut Writer<'a, BINARY>,
+    part: &'a PropOrSpread,
+) -> Result<(), AllocError>
     ensures { OnOk result
-        (Writes w.old w.new (json w.old.source attributes (view_prop_or_spread part.now))) }
+        (Writes w.old w.new (written BINARY w.old.source attributes (view_prop_or_spread part.now))) }
 {
     let PropOrSpread::Prop(prop) = part else {
         return write_part(w, part);
@@ -170,12 +197,15 @@ pub fn write_attribute<'a>(w: &mut Writer<'a>, part: &'a PropOrSpread) -> Result
 }
 
 /// Writes how a name with a default begins, up to the default.
-fn open_default(w: &mut Writer<'_>, x: &AssignProp) -> Result<(), AllocError>
+fn open_default<const BINARY: bool>(
+    w: &mut Writer<'_, BINARY>,
+    x: &AssignProp,
+) -> Result<(), AllocError>
     ensures { OnOk result
         (Appends w.old w.new
-        (node w.old.source (codes "AssignmentPattern") x.now.span
-        ++ (key (codes "left")
-        ++ (json w.old.source plain (view_ident x.now.key) ++ key (codes "right"))))) }
+        (node BINARY w.old.source (codes "AssignmentPattern") x.now.span
+        ++ (key BINARY (codes "left")
+        ++ (written BINARY w.old.source plain (view_ident x.now.key) ++ key BINARY (codes "right"))))) }
 {
     w.open("AssignmentPattern", x.span)?;
     w.key("left")?;
@@ -184,8 +214,11 @@ fn open_default(w: &mut Writer<'_>, x: &AssignProp) -> Result<(), AllocError>
 }
 
 /// Writes a name with a default.
-fn write_assign_prop<'a>(w: &mut Writer<'a>, x: &'a AssignProp) -> Result<(), AllocError>
-    ensures { OnOk result (Writes w.old w.new (json w.old.source plain (view_assign_prop x.now))) }
+fn write_assign_prop<'a, const BINARY: bool>(
+    w: &mut Writer<'a, BINARY>,
+    x: &'a AssignProp,
+) -> Result<(), AllocError>
+    ensures { OnOk result (Writes w.old w.new (written BINARY w.old.source plain (view_assign_prop x.now))) }
 {
     open_property(w, x.span, false, true, false)?;
     write_name(w, &x.key)?;
@@ -198,8 +231,11 @@ fn write_assign_prop<'a>(w: &mut Writer<'a>, x: &'a AssignProp) -> Result<(), Al
 }
 
 /// Writes a getter.
-fn write_getter<'a>(w: &mut Writer<'a>, x: &'a GetterProp) -> Result<(), AllocError>
-    ensures { OnOk result (Writes w.old w.new (json w.old.source plain (view_getter_prop x.now))) }
+fn write_getter<'a, const BINARY: bool>(
+    w: &mut Writer<'a, BINARY>,
+    x: &'a GetterProp,
+) -> Result<(), AllocError>
+    ensures { OnOk result (Writes w.old w.new (written BINARY w.old.source plain (view_getter_prop x.now))) }
 {
     open_property(w, x.span, false, false, is_computed(&x.key))?;
     w.push(Work::End)?;
@@ -210,8 +246,11 @@ fn write_getter<'a>(w: &mut Writer<'a>, x: &'a GetterProp) -> Result<(), AllocEr
 }
 
 /// Writes a setter.
-fn write_setter<'a>(w: &mut Writer<'a>, x: &'a SetterProp) -> Result<(), AllocError>
-    ensures { OnOk result (Writes w.old w.new (json w.old.source plain (view_setter_prop x.now))) }
+fn write_setter<'a, const BINARY: bool>(
+    w: &mut Writer<'a, BINARY>,
+    x: &'a SetterProp,
+) -> Result<(), AllocError>
+    ensures { OnOk result (Writes w.old w.new (written BINARY w.old.source plain (view_setter_prop x.now))) }
 {
     open_property(w, x.span, false, false, is_computed(&x.key))?;
     w.push(Work::End)?;
@@ -223,8 +262,11 @@ fn write_setter<'a>(w: &mut Writer<'a>, x: &'a SetterProp) -> Result<(), AllocEr
 }
 
 /// Writes a method.
-fn write_method<'a>(w: &mut Writer<'a>, x: &'a MethodProp) -> Result<(), AllocError>
-    ensures { OnOk result (Writes w.old w.new (json w.old.source plain (view_method_prop x.now))) }
+fn write_method<'a, const BINARY: bool>(
+    w: &mut Writer<'a, BINARY>,
+    x: &'a MethodProp,
+) -> Result<(), AllocError>
+    ensures { OnOk result (Writes w.old w.new (written BINARY w.old.source plain (view_method_prop x.now))) }
 {
     open_property(w, x.span, true, false, is_computed(&x.key))?;
     w.push(Work::End)?;

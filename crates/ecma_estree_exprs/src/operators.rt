@@ -1,7 +1,7 @@
 //! Operators, assignments, sequences.
 
 ghost use Rattle.std.specs.Prelude.{OnOk};
-ghost use Rattle.ecma_estree_writer.specs.Estree.{json, plain};
+ghost use Rattle.ecma_estree_writer.specs.Estree.{written, plain};
 ghost use Rattle.ecma_estree_writer.specs.Writing.{Pushes, Writes};
 ghost use Rattle.swc_ecma_parser_ast.specs.Parts.{view_option};
 ghost use Rattle.swc_ecma_parser_ast.specs.View.{view_assign_expr, view_assign_target, view_await_expr, view_bin_expr, view_cond_expr, view_seq_expr, view_unary_expr, view_update_expr, view_yield_expr};
@@ -18,9 +18,12 @@ use swc_ecma_parser_ast::{
 };
 
 /// Has an expression written, or `null`.
-pub fn push_optional<'a>(w: &mut Writer<'a>, expr: &'a Option<ExprBox>) -> Result<(), AllocError>
+pub fn push_optional<'a, const BINARY: bool>(
+    w: &mut Writer<'a, BINARY>,
+    expr: &'a Option<ExprBox>,
+) -> Result<(), AllocError>
     ensures { OnOk result
-        (Pushes w.old w.new (json w.old.source plain (view_option (λ b. b.node.tree) expr.now))) }
+        (Pushes w.old w.new (written BINARY w.old.source plain (view_option (λ b. b.node.tree) expr.now))) }
 {
     match expr {
         Some(x) => w.push(Work::Expr(x)),
@@ -29,8 +32,11 @@ pub fn push_optional<'a>(w: &mut Writer<'a>, expr: &'a Option<ExprBox>) -> Resul
 }
 
 /// Writes an operator before its operand.
-pub fn write_unary<'a>(w: &mut Writer<'a>, x: &'a UnaryExpr) -> Result<(), AllocError>
-    ensures { OnOk result (Writes w.old w.new (json w.old.source plain (view_unary_expr x.now))) }
+pub fn write_unary<'a, const BINARY: bool>(
+    w: &mut Writer<'a, BINARY>,
+    x: &'a UnaryExpr,
+) -> Result<(), AllocError>
+    ensures { OnOk result (Writes w.old w.new (written BINARY w.old.source plain (view_unary_expr x.now))) }
 {
     w.open("UnaryExpression", x.span)?;
     w.word("operator", unary_word(x.op))?;
@@ -41,8 +47,11 @@ pub fn write_unary<'a>(w: &mut Writer<'a>, x: &'a UnaryExpr) -> Result<(), Alloc
 }
 
 /// Writes `++` or `--`.
-pub fn write_update<'a>(w: &mut Writer<'a>, x: &'a UpdateExpr) -> Result<(), AllocError>
-    ensures { OnOk result (Writes w.old w.new (json w.old.source plain (view_update_expr x.now))) }
+pub fn write_update<'a, const BINARY: bool>(
+    w: &mut Writer<'a, BINARY>,
+    x: &'a UpdateExpr,
+) -> Result<(), AllocError>
+    ensures { OnOk result (Writes w.old w.new (written BINARY w.old.source plain (view_update_expr x.now))) }
 {
     w.open("UpdateExpression", x.span)?;
     w.word("operator", update_word(x.op))?;
@@ -53,8 +62,11 @@ pub fn write_update<'a>(w: &mut Writer<'a>, x: &'a UpdateExpr) -> Result<(), All
 }
 
 /// Writes an operator between two operands.
-pub fn write_binary<'a>(w: &mut Writer<'a>, x: &'a BinExpr) -> Result<(), AllocError>
-    ensures { OnOk result (Writes w.old w.new (json w.old.source plain (view_bin_expr x.now))) }
+pub fn write_binary<'a, const BINARY: bool>(
+    w: &mut Writer<'a, BINARY>,
+    x: &'a BinExpr,
+) -> Result<(), AllocError>
+    ensures { OnOk result (Writes w.old w.new (written BINARY w.old.source plain (view_bin_expr x.now))) }
 {
     w.open(binary_kind(x.op), x.span)?;
     w.key("left")?;
@@ -66,8 +78,11 @@ pub fn write_binary<'a>(w: &mut Writer<'a>, x: &'a BinExpr) -> Result<(), AllocE
 }
 
 /// Writes an assignment.
-pub fn write_assign<'a>(w: &mut Writer<'a>, x: &'a AssignExpr) -> Result<(), AllocError>
-    ensures { OnOk result (Writes w.old w.new (json w.old.source plain (view_assign_expr x.now))) }
+pub fn write_assign<'a, const BINARY: bool>(
+    w: &mut Writer<'a, BINARY>,
+    x: &'a AssignExpr,
+) -> Result<(), AllocError>
+    ensures { OnOk result (Writes w.old w.new (written BINARY w.old.source plain (view_assign_expr x.now))) }
 {
     w.open("AssignmentExpression", x.span)?;
     w.word("operator", assign_word(x.op))?;
@@ -80,9 +95,12 @@ pub fn write_assign<'a>(w: &mut Writer<'a>, x: &'a AssignExpr) -> Result<(), All
 
 /// Writes what is assigned to.
 #[tactic(auto, using(ecma_estree_writer::proofs::Written::appended_on_ok, ecma_estree_writer::proofs::Written::pushed_on_ok))]
-fn write_target<'a>(w: &mut Writer<'a>, target: &'a AssignTarget) -> Result<(), AllocError>
+fn write_target<'a, const BINARY: bool>(
+    w: &mut Writer<'a, BINARY>,
+    target: &'a AssignTarget,
+) -> Result<(), AllocError>
     ensures { OnOk result
-        (Writes w.old w.new (json w.old.source plain (view_assign_target target.now))) }
+        (Writes w.old w.new (written BINARY w.old.source plain (view_assign_target target.now))) }
 {
     match target {
         AssignTarget::Simple(SimpleAssignTarget::Ident(x)) => write_name(w, &x.id),
@@ -95,8 +113,11 @@ fn write_target<'a>(w: &mut Writer<'a>, target: &'a AssignTarget) -> Result<(), 
 }
 
 /// Writes `? :`.
-pub fn write_conditional<'a>(w: &mut Writer<'a>, x: &'a CondExpr) -> Result<(), AllocError>
-    ensures { OnOk result (Writes w.old w.new (json w.old.source plain (view_cond_expr x.now))) }
+pub fn write_conditional<'a, const BINARY: bool>(
+    w: &mut Writer<'a, BINARY>,
+    x: &'a CondExpr,
+) -> Result<(), AllocError>
+    ensures { OnOk result (Writes w.old w.new (written BINARY w.old.source plain (view_cond_expr x.now))) }
 {
     w.open("ConditionalExpression", x.span)?;
     w.key("test")?;
@@ -109,8 +130,11 @@ pub fn write_conditional<'a>(w: &mut Writer<'a>, x: &'a CondExpr) -> Result<(), 
 }
 
 /// Writes expressions with commas between them.
-pub fn write_sequence<'a>(w: &mut Writer<'a>, x: &'a SeqExpr) -> Result<(), AllocError>
-    ensures { OnOk result (Writes w.old w.new (json w.old.source plain (view_seq_expr x.now))) }
+pub fn write_sequence<'a, const BINARY: bool>(
+    w: &mut Writer<'a, BINARY>,
+    x: &'a SeqExpr,
+) -> Result<(), AllocError>
+    ensures { OnOk result (Writes w.old w.new (written BINARY w.old.source plain (view_seq_expr x.now))) }
 {
     w.open("SequenceExpression", x.span)?;
     w.list_key("expressions")?;
@@ -120,8 +144,11 @@ pub fn write_sequence<'a>(w: &mut Writer<'a>, x: &'a SeqExpr) -> Result<(), Allo
 }
 
 /// Writes `yield`.
-pub fn write_yield<'a>(w: &mut Writer<'a>, x: &'a YieldExpr) -> Result<(), AllocError>
-    ensures { OnOk result (Writes w.old w.new (json w.old.source plain (view_yield_expr x.now))) }
+pub fn write_yield<'a, const BINARY: bool>(
+    w: &mut Writer<'a, BINARY>,
+    x: &'a YieldExpr,
+) -> Result<(), AllocError>
+    ensures { OnOk result (Writes w.old w.new (written BINARY w.old.source plain (view_yield_expr x.now))) }
 {
     w.open("YieldExpression", x.span)?;
     w.flag("delegate", x.delegate)?;
@@ -131,8 +158,11 @@ pub fn write_yield<'a>(w: &mut Writer<'a>, x: &'a YieldExpr) -> Result<(), Alloc
 }
 
 /// Writes `await`.
-pub fn write_await<'a>(w: &mut Writer<'a>, x: &'a AwaitExpr) -> Result<(), AllocError>
-    ensures { OnOk result (Writes w.old w.new (json w.old.source plain (view_await_expr x.now))) }
+pub fn write_await<'a, const BINARY: bool>(
+    w: &mut Writer<'a, BINARY>,
+    x: &'a AwaitExpr,
+) -> Result<(), AllocError>
+    ensures { OnOk result (Writes w.old w.new (written BINARY w.old.source plain (view_await_expr x.now))) }
 {
     w.open("AwaitExpression", x.span)?;
     w.key("argument")?;

@@ -2,7 +2,7 @@
 
 ghost use Rattle.std.specs.Prelude.{◌++◌, codes, OnOk};
 ghost use Rattle.ecma_estree_writer.specs.Parts.{node, key, end};
-ghost use Rattle.ecma_estree_writer.specs.Estree.{json, plain};
+ghost use Rattle.ecma_estree_writer.specs.Estree.{written, plain};
 ghost use Rattle.ecma_estree_writer.specs.Writing.{Writes};
 ghost use Rattle.swc_ecma_parser_ast.specs.View.{view_array_pat, view_assign_pat, view_assign_pat_prop, view_binding_ident, view_key_value_pat_prop, view_object_pat, view_object_pat_prop, view_pat, view_rest_pat};
 
@@ -16,8 +16,11 @@ use swc_ecma_parser_ast::{
 
 /// Writes a pattern.
 #[tactic(auto, using(ecma_estree_writer::proofs::Written::appended_on_ok, ecma_estree_writer::proofs::Written::pushed_on_ok))]
-pub fn write_pat<'a>(w: &mut Writer<'a>, pat: &'a Pat) -> Result<(), AllocError>
-    ensures { OnOk result (Writes w.old w.new (json w.old.source plain (view_pat pat.now))) }
+pub fn write_pat<'a, const BINARY: bool>(
+    w: &mut Writer<'a, BINARY>,
+    pat: &'a Pat,
+) -> Result<(), AllocError>
+    ensures { OnOk result (Writes w.old w.new (written BINARY w.old.source plain (view_pat pat.now))) }
 {
     match pat {
         Pat::Ident(x) => write_name(w, &x.id),
@@ -31,8 +34,11 @@ pub fn write_pat<'a>(w: &mut Writer<'a>, pat: &'a Pat) -> Result<(), AllocError>
 }
 
 /// Writes a pattern of elements.
-pub fn write_array_pat<'a>(w: &mut Writer<'a>, x: &'a ArrayPat) -> Result<(), AllocError>
-    ensures { OnOk result (Writes w.old w.new (json w.old.source plain (view_array_pat x.now))) }
+pub fn write_array_pat<'a, const BINARY: bool>(
+    w: &mut Writer<'a, BINARY>,
+    x: &'a ArrayPat,
+) -> Result<(), AllocError>
+    ensures { OnOk result (Writes w.old w.new (written BINARY w.old.source plain (view_array_pat x.now))) }
 {
     w.open("ArrayPattern", x.span)?;
     w.list_key("elements")?;
@@ -42,8 +48,11 @@ pub fn write_array_pat<'a>(w: &mut Writer<'a>, x: &'a ArrayPat) -> Result<(), Al
 }
 
 /// Writes what takes the rest.
-fn write_rest_pat<'a>(w: &mut Writer<'a>, x: &'a RestPat) -> Result<(), AllocError>
-    ensures { OnOk result (Writes w.old w.new (json w.old.source plain (view_rest_pat x.now))) }
+fn write_rest_pat<'a, const BINARY: bool>(
+    w: &mut Writer<'a, BINARY>,
+    x: &'a RestPat,
+) -> Result<(), AllocError>
+    ensures { OnOk result (Writes w.old w.new (written BINARY w.old.source plain (view_rest_pat x.now))) }
 {
     w.open("RestElement", x.span)?;
     w.key("argument")?;
@@ -52,8 +61,11 @@ fn write_rest_pat<'a>(w: &mut Writer<'a>, x: &'a RestPat) -> Result<(), AllocErr
 }
 
 /// Writes a pattern of properties.
-pub fn write_object_pat<'a>(w: &mut Writer<'a>, x: &'a ObjectPat) -> Result<(), AllocError>
-    ensures { OnOk result (Writes w.old w.new (json w.old.source plain (view_object_pat x.now))) }
+pub fn write_object_pat<'a, const BINARY: bool>(
+    w: &mut Writer<'a, BINARY>,
+    x: &'a ObjectPat,
+) -> Result<(), AllocError>
+    ensures { OnOk result (Writes w.old w.new (written BINARY w.old.source plain (view_object_pat x.now))) }
 {
     w.open("ObjectPattern", x.span)?;
     w.list_key("properties")?;
@@ -63,8 +75,11 @@ pub fn write_object_pat<'a>(w: &mut Writer<'a>, x: &'a ObjectPat) -> Result<(), 
 }
 
 /// Writes a pattern with a default.
-fn write_assign_pat<'a>(w: &mut Writer<'a>, x: &'a AssignPat) -> Result<(), AllocError>
-    ensures { OnOk result (Writes w.old w.new (json w.old.source plain (view_assign_pat x.now))) }
+fn write_assign_pat<'a, const BINARY: bool>(
+    w: &mut Writer<'a, BINARY>,
+    x: &'a AssignPat,
+) -> Result<(), AllocError>
+    ensures { OnOk result (Writes w.old w.new (written BINARY w.old.source plain (view_assign_pat x.now))) }
 {
     w.open("AssignmentPattern", x.span)?;
     w.key("left")?;
@@ -76,9 +91,12 @@ fn write_assign_pat<'a>(w: &mut Writer<'a>, x: &'a AssignPat) -> Result<(), Allo
 
 /// Writes a part of an object pattern.
 #[tactic(auto, using(ecma_estree_writer::proofs::Written::appended_on_ok, ecma_estree_writer::proofs::Written::pushed_on_ok))]
-pub fn write_pat_part<'a>(w: &mut Writer<'a>, part: &'a ObjectPatProp) -> Result<(), AllocError>
+pub fn write_pat_part<'a, const BINARY: bool>(
+    w: &mut Writer<'a, BINARY>,
+    part: &'a ObjectPatProp,
+) -> Result<(), AllocError>
     ensures { OnOk result
-        (Writes w.old w.new (json w.old.source plain (view_object_pat_prop part.now))) }
+        (Writes w.old w.new (written BINARY w.old.source plain (view_object_pat_prop part.now))) }
 {
     match part {
         ObjectPatProp::KeyValue(x) => write_key_value_pat(w, x),
@@ -88,9 +106,12 @@ pub fn write_pat_part<'a>(w: &mut Writer<'a>, part: &'a ObjectPatProp) -> Result
 }
 
 /// Writes a key with the pattern for its value.
-fn write_key_value_pat<'a>(w: &mut Writer<'a>, x: &'a KeyValuePatProp) -> Result<(), AllocError>
+fn write_key_value_pat<'a, const BINARY: bool>(
+    w: &mut Writer<'a, BINARY>,
+    x: &'a KeyValuePatProp,
+) -> Result<(), AllocError>
     ensures { OnOk result
-        (Writes w.old w.new (json w.old.source plain (view_key_value_pat_prop x.now))) }
+        (Writes w.old w.new (written BINARY w.old.source plain (view_key_value_pat_prop x.now))) }
 {
     open_property(w, x.span, false, false, is_computed(&x.key))?;
     w.push(Work::End)?;
@@ -101,9 +122,12 @@ fn write_key_value_pat<'a>(w: &mut Writer<'a>, x: &'a KeyValuePatProp) -> Result
 }
 
 /// Writes a name that is its own key, with its default if it has one.
-fn write_assign_pat_prop<'a>(w: &mut Writer<'a>, x: &'a AssignPatProp) -> Result<(), AllocError>
+fn write_assign_pat_prop<'a, const BINARY: bool>(
+    w: &mut Writer<'a, BINARY>,
+    x: &'a AssignPatProp,
+) -> Result<(), AllocError>
     ensures { OnOk result
-        (Writes w.old w.new (json w.old.source plain (view_assign_pat_prop x.now))) }
+        (Writes w.old w.new (written BINARY w.old.source plain (view_assign_pat_prop x.now))) }
 {
     open_property(w, x.span, false, true, false)?;
     write_name(w, &x.key.id)?;
@@ -117,17 +141,17 @@ fn write_assign_pat_prop<'a>(w: &mut Writer<'a>, x: &'a AssignPatProp) -> Result
 }
 
 /// Writes a name with its default.
-fn write_default<'a>(
-    w: &mut Writer<'a>,
+fn write_default<'a, const BINARY: bool>(
+    w: &mut Writer<'a, BINARY>,
     x: &'a AssignPatProp,
     value: &'a ExprBox,
 ) -> Result<(), AllocError>
     ensures { OnOk result
         (Writes w.old w.new
-        (node w.old.source (codes "AssignmentPattern") x.now.span
-        ++ (key (codes "left")
-        ++ (json w.old.source plain (view_binding_ident x.now.key)
-        ++ (key (codes "right") ++ (json w.old.source plain value.now.node.tree ++ end)))))) }
+        (node BINARY w.old.source (codes "AssignmentPattern") x.now.span
+        ++ (key BINARY (codes "left")
+        ++ (written BINARY w.old.source plain (view_binding_ident x.now.key)
+        ++ (key BINARY (codes "right") ++ (written BINARY w.old.source plain value.now.node.tree ++ end BINARY)))))) }
 {
     w.open("AssignmentPattern", x.span)?;
     w.key("left")?;

@@ -1,7 +1,7 @@
 //! Templates.
 
 ghost use Rattle.std.specs.Prelude.{OnOk};
-ghost use Rattle.ecma_estree_writer.specs.Estree.{json, plain};
+ghost use Rattle.ecma_estree_writer.specs.Estree.{written, plain};
 ghost use Rattle.ecma_estree_writer.specs.Writing.{Writes};
 ghost use Rattle.swc_ecma_parser_ast.specs.View.{view_tagged_tpl, view_tpl};
 
@@ -10,8 +10,11 @@ use std::alloc::AllocError;
 use swc_ecma_parser_ast::{TaggedTpl, Tpl};
 
 /// Writes a template.
-pub fn write_template<'a>(w: &mut Writer<'a>, x: &'a Tpl) -> Result<(), AllocError>
-    ensures { OnOk result (Writes w.old w.new (json w.old.source plain (view_tpl x.now))) }
+pub fn write_template<'a, const BINARY: bool>(
+    w: &mut Writer<'a, BINARY>,
+    x: &'a Tpl,
+) -> Result<(), AllocError>
+    ensures { OnOk result (Writes w.old w.new (written BINARY w.old.source plain (view_tpl x.now))) }
 {
     w.open("TemplateLiteral", x.span)?;
     w.list_key("expressions")?;
@@ -25,8 +28,11 @@ pub fn write_template<'a>(w: &mut Writer<'a>, x: &'a Tpl) -> Result<(), AllocErr
 }
 
 /// Writes a template behind its tag.
-pub fn write_tagged_template<'a>(w: &mut Writer<'a>, x: &'a TaggedTpl) -> Result<(), AllocError>
-    ensures { OnOk result (Writes w.old w.new (json w.old.source plain (view_tagged_tpl x.now))) }
+pub fn write_tagged_template<'a, const BINARY: bool>(
+    w: &mut Writer<'a, BINARY>,
+    x: &'a TaggedTpl,
+) -> Result<(), AllocError>
+    ensures { OnOk result (Writes w.old w.new (written BINARY w.old.source plain (view_tagged_tpl x.now))) }
 {
     w.open("TaggedTemplateExpression", x.span)?;
     w.key("tag")?;

@@ -3,7 +3,8 @@ use Rattle.std.proofs.Common.{◌≡◌, ℕ, List, [], ◌∷◌, ◌++◌, ◌
 use Rattle.std.proofs.lemmas.Bool.Decides.{nat_tests, eqb_tells}
 use Rattle.std.specs.List.{flat_map}
 use Rattle.ecma_estree_text.specs.Quoted.{hex_digit, escaped, wrapped}
-use Rattle.ecma_estree_json.specs.Reading.{First, first, refused, plain, backslash, escape, nowhere, chars, onto, hex_value, unit_bytes, units, units_behind}
+use Rattle.ecma_estree_json.specs.Reading.{First, first, refused, plain, backslash, escape, nowhere, chars, onto, hex_value, unit_bytes}
+use Rattle.ecma_estree_text.specs.Units.{units, units_behind}
 
 -- a byte that stands in a string as it is, and is a code unit by itself
 abbrev pub simple : ℕ → Bool
@@ -46,8 +47,7 @@ units_simple [] h = refl
 units_simple (b ∷ bs) h =
     let p = and_yes (simple b) (all_simple bs) h in
     let s = simple_tests b p.0 in
-    let low : nat_lt b 192 ≡ true = grind (arith, nat_tests, s.small) in
-    rw (s.small, low) (ap (λ us. b ∷ us) (units_simple bs p.1))
+    rw (s.small) (ap (λ us. b ∷ us) (units_simple bs p.1))
 
 -- ---- what is written of a byte adds that byte
 

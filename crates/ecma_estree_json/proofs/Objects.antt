@@ -3,7 +3,8 @@ use Rattle.std.proofs.Common.{◌≡◌, ℕ, zero, suc, List, [], ◌∷◌, �
 use Rattle.ecma_estree_json.specs.Json as form
 use Rattle.ecma_estree_json.specs.Json.{Json, Jsons, Fields}
 use Rattle.ecma_estree_json.specs.Made.{done, field, object, none, item, list}
-use Rattle.ecma_estree_json.specs.Reading.{First, first, refused, past_blanks, behind_byte, behind_mark, chars, plain, units, behind_colon, name, as_object, as_list, and_field, and_item, value, fields, more_fields, items, more_items, alone, parse_json}
+use Rattle.ecma_estree_json.specs.Reading.{First, first, refused, past_blanks, behind_byte, behind_mark, chars, plain, behind_colon, name, as_object, as_list, and_field, and_item, value, fields, more_fields, items, more_items, alone, parse_json}
+use Rattle.ecma_estree_text.specs.Units.{units}
 use Rattle.ecma_estree_json.proofs.Chars.{all_simple, chars_simple, units_simple}
 use Rattle.ecma_estree_json.proofs.Numbers.{stops}
 use Rattle.ecma_estree_json.proofs.Values.{Value, Starting, Leaving, Opening, Continuing, Spells, Starts, Leaves, Opens, Continues, no_start, no_fields, no_opens, no_continues, starts_some, leaves_some, opens_some, continues_some}

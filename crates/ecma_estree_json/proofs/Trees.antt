@@ -12,7 +12,7 @@ use Rattle.ecma_estree_json.proofs.Pieces.{Fits, Listed, no_listed, none_listed,
 use Rattle.ecma_estree_json.proofs.Strings.{string_spells}
 use Rattle.ecma_estree_json.proofs.Words.{function_kind_simple, class_kind_simple, kind_simple, using_simple, method_simple, unary_simple, update_simple, binary_simple, binary_kind_simple, assign_simple}
 use Rattle.ecma_estree_text.specs.Number.{number_text}
-use Rattle.ecma_estree_writer.specs.Estree.{Role, plain, directives, members, attributes, bare, argument, declared, function, class, json, jsons, is_bare, is_attributes, is_directives, function_kind, class_kind, is_zero, skips, next, end_of, expr_end, brace, method_role, linked, is_link, is_optional, inner}
+use Rattle.ecma_estree_writer.specs.Estree.{Role, plain, directives, members, attributes, bare, argument, declared, function, class, written, jsons, is_bare, is_attributes, is_directives, function_kind, class_kind, is_zero, skips, next, end_of, expr_end, brace, method_role, linked, is_link, is_optional, inner}
 use Rattle.ecma_estree_writer.specs.Parts.{nothing, is_namespace_alone, is_import, is_empty}
 use Rattle.ecma_estree_writer.specs.Words.{bool_word, kind_word, using_word, method_word, unary_word, update_word, binary_word, binary_kind, assign_word}
 use Rattle.swc_ecma_parser_model.specs.declared.leaves.MetaPropKind.TheVariants as meta
@@ -22,7 +22,7 @@ use Rattle.swc_ecma_parser_model.specs.Tree as tree
 use Rattle.swc_ecma_parser_model.specs.Tree.{Tree, Trees}
 
 mutual
-  tree_reads : (f : Form) (r : Role) (x : Tree) → Fits f → Spells (json f.source r x) (estree f r x)
+  tree_reads : (f : Form) (r : Role) (x : Tree) → Fits f → Spells (written false f.source r x) (estree f r x)
   tree_reads f r tree.absent w = either_spells (is_attributes r) no_value nothing_spells
   tree_reads f r (tree.list ts) w = picked_reads f r ts w
   -- names and literals
@@ -41,9 +41,9 @@ mutual
       either_spells (is_attributes r) no_value (whole (node_starts f (codes "ObjectExpression") s.lo.0 s.hi.0 w refl
       (list_reads (codes "properties") refl (items_read f plain props w) last_reads)))
   tree_reads f r (tree.fn_expr s name fn) w =
-      function_reads f (function_kind r) (json f.source plain name) (estree f plain name) s.lo.0 fn w (function_kind_simple r) (tree_reads f plain name w)
+      function_reads f (function_kind r) (written false f.source plain name) (estree f plain name) s.lo.0 fn w (function_kind_simple r) (tree_reads f plain name w)
   tree_reads f r (tree.class_expr s name body) w =
-      class_reads f (class_kind r) (json f.source plain name) (estree f plain name) (end_of name) body w (class_kind_simple r) (tree_reads f plain name w)
+      class_reads f (class_kind r) (written false f.source plain name) (estree f plain name) (end_of name) body w (class_kind_simple r) (tree_reads f plain name w)
   tree_reads f r (tree.paren s e) w = tree_reads f plain e w
   tree_reads f r (tree.meta_prop s meta.ImportMeta) w =
       whole (node_starts f (codes "MetaProperty") s.lo.0 s.hi.0 w refl (field_reads (codes "meta") refl (word_name_spells f (codes "import") s.lo.0 (s.lo.0 + 6) w refl)
@@ -97,7 +97,7 @@ mutual
       either_spells (is_link r) (tree_reads f (linked optional) base w) (whole (node_starts f (codes "ChainExpression") s.lo.0 s.hi.0 w refl
       (field_reads (codes "expression") refl (tree_reads f (linked optional) base w) last_reads)))
   tree_reads f r (tree.arrow s params body is_async) w =
-      whole (node_starts f (codes "ArrowFunctionExpression") s.lo.0 s.hi.0 w refl (function_fields_read nothing (not (is_block body)) false is_async nothing_spells
+      whole (node_starts f (codes "ArrowFunctionExpression") s.lo.0 s.hi.0 w refl (function_fields_read (nothing false) (not (is_block body)) false is_async nothing_spells
       (list_reads (codes "params") refl (items_read f plain params w) (field_reads (codes "body") refl
       (either_spells (is_block body) (tree_reads f directives body w) (tree_reads f plain body w)) last_reads))))
   tree_reads f r (tree.yield s arg delegate) w =
@@ -140,7 +140,7 @@ mutual
       (field_reads (codes "body") refl (tree_reads f directives body w) end_reads))) (word_reads (codes "kind") (codes "set") refl refl last_reads))))
   tree_reads f r (tree.method_prop s k fn) w =
       whole (property_starts f s true false (is_computed k) w (field_reads (codes "key") refl (tree_reads f plain k w)
-      (field_reads (codes "value") refl (function_reads f (codes "FunctionExpression") nothing null (parenthesis f k) fn w refl nothing_spells)
+      (field_reads (codes "value") refl (function_reads f (codes "FunctionExpression") (nothing false) null (parenthesis f k) fn w refl nothing_spells)
       (word_reads (codes "kind") (codes "init") refl refl last_reads))))
   -- patterns
   tree_reads f r (tree.ident_pat s name) w = identifier_spells f s name w
@@ -177,11 +177,11 @@ mutual
   tree_reads f r (tree.method s k fn kind is_static) w =
       whole (member_starts f (codes "MethodDefinition") s is_static (is_computed k) w refl (tree_reads f plain k w)
       (word_reads (codes "kind") (method_word kind) refl (method_simple kind)
-      (field_reads (codes "value") refl (function_reads f (codes "FunctionExpression") nothing null (parenthesis f k) fn w refl nothing_spells) (decorated_read f fn w last_reads))))
+      (field_reads (codes "value") refl (function_reads f (codes "FunctionExpression") (nothing false) null (parenthesis f k) fn w refl nothing_spells) (decorated_read f fn w last_reads))))
   tree_reads f r (tree.private_method s k fn kind is_static) w =
       whole (member_starts f (codes "MethodDefinition") s is_static false w refl (tree_reads f plain k w)
       (word_reads (codes "kind") (method_word kind) refl (method_simple kind)
-      (field_reads (codes "value") refl (function_reads f (codes "FunctionExpression") nothing null (parenthesis f k) fn w refl nothing_spells) (decorated_read f fn w last_reads))))
+      (field_reads (codes "value") refl (function_reads f (codes "FunctionExpression") (nothing false) null (parenthesis f k) fn w refl nothing_spells) (decorated_read f fn w last_reads))))
   tree_reads f r (tree.class_prop s k value is_static ds) w =
       whole (member_starts f (codes "PropertyDefinition") s is_static (is_computed k) w refl (tree_reads f plain k w)
       (field_reads (codes "value") refl (tree_reads f plain value w) (decorators_read (is_empty ds) (items_read f plain ds w) last_reads)))
@@ -196,9 +196,9 @@ mutual
   tree_reads f r (tree.empty_member s) w = no_value
   -- declarations
   tree_reads f r (tree.class_decl name body) w =
-      class_reads f (codes "ClassDeclaration") (json f.source plain name) (estree f plain name) (end_of name) body w refl (tree_reads f plain name w)
+      class_reads f (codes "ClassDeclaration") (written false f.source plain name) (estree f plain name) (end_of name) body w refl (tree_reads f plain name w)
   tree_reads f r (tree.fn_decl name fn) w =
-      function_reads f (codes "FunctionDeclaration") (json f.source plain name) (estree f plain name) (span_of fn).lo.0 fn w refl (tree_reads f plain name w)
+      function_reads f (codes "FunctionDeclaration") (written false f.source plain name) (estree f plain name) (span_of fn).lo.0 fn w refl (tree_reads f plain name w)
   tree_reads f r (tree.var s kind decls) w =
       whole (node_starts f (codes "VariableDeclaration") s.lo.0 s.hi.0 w refl (list_reads (codes "declarations") refl (items_read f plain decls w)
       (word_reads (codes "kind") (kind_word kind) refl (kind_simple kind) last_reads)))
@@ -262,7 +262,7 @@ mutual
       (field_reads (codes "body") refl (tree_reads f plain body w) last_reads)))))
   tree_reads f r (tree.expr_stmt s e) w =
       whole (node_starts f (codes "ExpressionStatement") s.lo.0 s.hi.0 w refl (field_reads (codes "expression") refl (tree_reads f plain e w)
-      (directive_reads (is_directives r) e last_reads)))
+      (directive_reads f.source (is_directives r) e last_reads)))
   -- imports and exports
   tree_reads f r (tree.import s specifiers src attrs phase) w =
       whole (node_starts f (codes "ImportDeclaration") s.lo.0 s.hi.0 w refl (list_reads (codes "specifiers") refl (items_read f plain specifiers w)
@@ -311,42 +311,42 @@ mutual
       (word_reads (codes "sourceType") (codes "module") refl refl (added_read w last_reads))))
 
   function_reads : (f : Form) (kind text : List ℕ) (name : Option Json) (start : ℕ) (x : Tree) → Fits f → all_simple kind ≡ true → Spells text name
-      → Spells (json f.source (function kind text start) x) (function_node f kind name start x)
+      → Spells (written false f.source (function kind text start) x) (function_node f kind name start x)
   function_reads f kind text name start (tree.function s ds params body is_async is_generator) w h g =
       whole (node_starts f kind start s.hi.0 w h (function_fields_read text false is_generator is_async g
       (list_reads (codes "params") refl (items_read f plain params w) (field_reads (codes "body") refl (tree_reads f directives body w) last_reads))))
   function_reads f kind text name start x w h g = no_value
 
   class_reads : (f : Form) (kind text : List ℕ) (name : Option Json) (name_end : ℕ) (x : Tree) → Fits f → all_simple kind ≡ true → Spells text name
-      → Spells (json f.source (class kind text name_end) x) (class_node f kind name name_end x)
+      → Spells (written false f.source (class kind text name_end) x) (class_node f kind name name_end x)
   class_reads f kind text name name_end (tree.class s ds body super_class) w h g =
       whole (node_starts f kind s.lo.0 s.hi.0 w h (field_reads (codes "id") refl g (field_reads (codes "superClass") refl (tree_reads f plain super_class w)
       (inner_reads (codes "body") refl (node_starts f (codes "ClassBody") (brace f.source s ds super_class name_end) s.hi.0 w refl
       (list_reads (codes "body") refl (items_read f members body w) end_reads)) (decorators_read (is_empty ds) (items_read f plain ds w) last_reads)))))
   class_reads f kind text name name_end x w h g = no_value
 
-  decorated_read : (f : Form) (x : Tree) → Fits f → {ys zs : List ℕ} {p : Option Fields} → Leaves ys p zs → Leaves (json f.source plain x ++ ys) (decorated f x p) zs
+  decorated_read : (f : Form) (x : Tree) → Fits f → {ys zs : List ℕ} {p : Option Fields} → Leaves ys p zs → Leaves (written false f.source plain x ++ ys) (decorated f x p) zs
   decorated_read f (tree.function s ds params body is_async is_generator) w a = decorators_read (is_empty ds) (items_read f plain ds w) a
   decorated_read f x w a = no_fields
 
-  picked_reads : (f : Form) (r : Role) (ts : Trees) → Fits f → Spells (jsons f.source r true ts) (picked f r ts)
+  picked_reads : (f : Form) (r : Role) (ts : Trees) → Fits f → Spells (jsons false f.source r true ts) (picked f r ts)
   picked_reads f (argument n) tree.none w = nothing_spells
   picked_reads f (argument n) (tree.also x xs) w = either_spells (is_zero n) (tree_reads f plain x w) (picked_reads f (argument (n - 1)) xs w)
   picked_reads f bare (tree.also x tree.none) w = bare_reads (tree_reads f bare x w)
   picked_reads f r xs w = no_value
 
-  items_read : (f : Form) (r : Role) (x : Tree) → Fits f → Opens (json f.source r x) (items f r x)
+  items_read : (f : Form) (r : Role) (x : Tree) → Fits f → Opens (written false f.source r x) (items f r x)
   items_read f r (tree.list ts) w = (all_items_read f r true ts w).opens refl
   items_read f r tree.absent w = either_opens (is_attributes r) none_opens no_opens
   items_read f r (tree.object s props) w = either_opens (is_attributes r) (items_read f attributes props w) no_opens
   items_read f r (tree.block s stmts) w = either_opens (is_bare r) (items_read f plain stmts w) no_opens
   items_read f r x w = no_opens
 
-  all_items_read : (f : Form) (r : Role) (is_first : Bool) (ts : Trees) → Fits f → Listed is_first (jsons f.source r is_first ts) (all_items f r ts)
+  all_items_read : (f : Form) (r : Role) (is_first : Bool) (ts : Trees) → Fits f → Listed is_first (jsons false f.source r is_first ts) (all_items f r ts)
   all_items_read f (argument n) is_first ts w = no_listed is_first
   all_items_read f r is_first tree.none w = none_listed is_first
   all_items_read f r is_first (tree.also x xs) w =
       either_listed is_first (skips r x) (all_items_read f r is_first xs w) (item_listed is_first (tree_reads f (next r x) x w) (all_items_read f (next r x) false xs w))
 
 pub reads_back : ReadsBack
-reads_back f x v bounded adds e = parsed (json f.source plain x) (estree f plain x) v (tree_reads f plain x (record { bounded = bounded; adds = adds })) e
+reads_back f x v bounded adds e = parsed (written false f.source plain x) (estree f plain x) v (tree_reads f plain x (record { bounded = bounded; adds = adds })) e

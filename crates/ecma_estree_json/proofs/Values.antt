@@ -5,7 +5,8 @@ use Rattle.ecma_estree_text.specs.Quoted.{escaped, wrapped}
 use Rattle.ecma_estree_json.specs.Json as form
 use Rattle.ecma_estree_json.specs.Json.{Json, Jsons, Fields}
 use Rattle.ecma_estree_json.specs.Made.{null, flag, word, text, number, count}
-use Rattle.ecma_estree_json.specs.Reading.{First, first, refused, is_numeral, is_number, numeral, behind_numeral, past_blanks, behind_byte, behind_mark, behind, chars, plain, units, as_string, as_number, word_or_number, scalar, behind_colon, name, as_object, as_list, and_field, and_item, value, fields, more_fields, items, more_items, alone, parse_json}
+use Rattle.ecma_estree_json.specs.Reading.{First, first, refused, is_numeral, is_number, numeral, behind_numeral, past_blanks, behind_byte, behind_mark, behind, chars, plain, as_string, as_number, word_or_number, scalar, behind_colon, name, as_object, as_list, and_field, and_item, value, fields, more_fields, items, more_items, alone, parse_json}
+use Rattle.ecma_estree_text.specs.Units.{units}
 use Rattle.ecma_estree_json.proofs.Chars.{all_simple, and_yes, chars_simple, units_simple, chars_escaped}
 use Rattle.ecma_estree_json.proofs.Numbers.{stops, all_numeral, numeral_read, behind_read, number_numeral, decimal_number, other_than}
 

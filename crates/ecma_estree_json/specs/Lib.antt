@@ -1,4 +1,5 @@
 pub mod Estree
+pub mod Binary
 pub mod Json
 pub mod Law
 pub mod Lists

@@ -2,7 +2,8 @@
 use Rattle.std.specs.Prelude.{ℕ, List, Bool, cond, Option, Some, None, decimal}
 use Rattle.ecma_estree_json.specs.Json as form
 use Rattle.ecma_estree_json.specs.Json.{Json, Jsons, Fields}
-use Rattle.ecma_estree_json.specs.Reading.{is_number, units}
+use Rattle.ecma_estree_json.specs.Reading.{is_number}
+use Rattle.ecma_estree_text.specs.Units.{units}
 
 unfoldable pub done : Option Fields
 done = Some form.done

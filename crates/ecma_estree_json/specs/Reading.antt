@@ -1,6 +1,7 @@
 -- How a text of JSON is read: RFC 8259, section by section. All of the grammar is read, and nothing besides.
 use Rattle.std.specs.Prelude.{ℕ, zero, suc, List, [], ◌∷◌, ◌++◌, ◌+◌, ◌-◌, ◌*◌, ◌/◌, ◌%◌, ◌==◌, ◌&&◌, ◌||◌, Bool, true, false, not, nat_lt, if◌then◌else◌, Option, Some, None, codes, length}
 use Rattle.ecma_estree_json.specs.Json as form
+use Rattle.ecma_estree_text.specs.Units.{units}
 use Rattle.ecma_estree_json.specs.Json.{Json, Jsons, Fields}
 
 -- what is read first in a text, and what stands behind it
@@ -176,23 +177,6 @@ chars plain (b ∷ bs) = elim (b == 34) [ true ↦ first [] bs | false ↦ onto 
 chars backslash (b ∷ bs) = onto (adds backslash b) (chars (next_where backslash b) bs)
 chars (escape left sum) (b ∷ bs) = onto (adds (escape left sum) b) (chars (next_where (escape left sum) b) bs)
 chars nowhere (b ∷ bs) = refused
-
--- a character as code units
-abbrev pub pair_or_unit : ℕ → List ℕ
-pair_or_unit c = if nat_lt c 65536 then c ∷ [] else (55296 + (c - 65536) / 1024) ∷ (56320 + (c - 65536) % 1024) ∷ []
-
--- UTF-8 as code units; of a character some bytes may be left, and those before come to a sum
-abbrev pub units_behind : (left sum : ℕ) → List ℕ → List ℕ
-units_behind left sum [] = []
-units_behind left sum (b ∷ bs) =
-    (if nat_lt b 128 then b ∷ [] else if nat_lt b 192 && left == 1 then pair_or_unit (sum * 64 + (b - 128)) else [])
-    ++ units_behind
-    (if nat_lt b 192 then left - 1 else if nat_lt b 224 then 1 else if nat_lt b 240 then 2 else 3)
-    (if nat_lt b 128 then 0 else if nat_lt b 192 then sum * 64 + (b - 128) else if nat_lt b 224 then b - 192 else if nat_lt b 240 then b - 224 else b - 240)
-    bs
-
-abbrev pub units : List ℕ → List ℕ
-units bs = units_behind 0 0 bs
 
 -- ---- values (sections 3 to 5)
 

@@ -1,14 +1,16 @@
 -- Tokens as text, as espree names them.
-use Rattle.std.specs.Prelude.{ℕ, List, [], ◌∷◌, ◌++◌, Bool, true, false, ◌&&◌, ◌||◌, cond, Option, Some, None, codes, length, min, slice_range}
+use Rattle.std.specs.Prelude.{ℕ, List, [], ◌∷◌, ◌++◌, Bool, true, false, ◌&&◌, ◌||◌, cond, Option, Some, None, codes}
 use Rattle.std.specs.Str.{bytes_eq}
-use Rattle.ecma_estree_text.specs.Places.{Placed, place_fields}
+use Rattle.ecma_estree_text.specs.Binary.{word, end_word, list_word, own_word, slice_word, text_words}
+use Rattle.ecma_estree_text.specs.Numbers.{word_number, kind_number}
+use Rattle.ecma_estree_text.specs.Places.{Placed, offset, part, has_at, place_fields, place_words, slice_words}
 use Rattle.ecma_estree_text.specs.Quoted.{quoted, wrapped}
 use Rattle.swc_ecma_parser_common.specs.declared.span.Span.{Span}
 use Rattle.swc_ecma_parser_token.specs.Text.{word_text}
-use Rattle.swc_ecma_parser_token.specs.declared.keyword.Keyword.{Keyword}
-use Rattle.swc_ecma_parser_token.specs.declared.keyword.Keyword.TheVariants as keyword
+use Rattle.swc_ecma_parser_token.specs.declared.keyw.Keyword.{Keyword}
+use Rattle.swc_ecma_parser_token.specs.declared.keyw.Keyword.TheVariants as keyword
 use Rattle.swc_ecma_parser_token.specs.declared.token.Word.{Word}
-use Rattle.swc_ecma_parser_token.specs.declared.token.Word.TheVariants as word
+use Rattle.swc_ecma_parser_token.specs.declared.token.Word.TheVariants as w
 use Rattle.swc_ecma_parser_token.specs.declared.token.Token.{Token}
 use Rattle.swc_ecma_parser_token.specs.declared.token.Token.TheVariants as token
 use Rattle.swc_ecma_parser_token.specs.declared.token.TokenAndSpan.{TokenAndSpan}
@@ -23,12 +25,12 @@ unfoldable pub name_type : List ℕ → List ℕ
 name_type text = cond (bytes_eq text (codes "static")) (codes "Keyword") (codes "Identifier")
 
 unfoldable pub word_type : Word → List ℕ
-word_type (word.Keyword k) = keyword_type k
-word_type word.Null = codes "Null"
-word_type word.True = codes "Boolean"
-word_type word.False = codes "Boolean"
-word_type (word.Ident text) = name_type text
-word_type (word.Escaped text) = name_type text
+word_type (w.Keyword k) = keyword_type k
+word_type w.Null = codes "Null"
+word_type w.True = codes "Boolean"
+word_type w.False = codes "Boolean"
+word_type (w.Ident text) = name_type text
+word_type (w.Escaped text) = name_type text
 
 unfoldable pub token_type : Token → List ℕ
 token_type (token.Word w) = word_type w
@@ -54,10 +56,6 @@ is_shebang _ = false
 
 abbrev pub is_passed : Token → Bool
 is_passed t = is_hash t || is_shebang t
-
--- a part of a text
-abbrev pub part : List ℕ → (low high : ℕ) → List ℕ
-part text low high = slice_range text (min low (min high (length text))) (min high (length text))
 
 -- how a token is written, of a word what it says
 abbrev pub value_text : List ℕ → Token → Span → List ℕ
@@ -103,3 +101,43 @@ token_list p f h (t ∷ ts) = step_text p f h t ++ token_list p (is_first_behind
 -- the field that holds them
 unfoldable pub tokens_field : Placed → List TokenAndSpan → List ℕ
 tokens_field p ts = codes ",\"tokens\":[" ++ (token_list p true None ts ++ codes "]")
+
+-- ---- in the binary form
+
+-- how a token is written: mostly it is the text of the token
+abbrev value_words_of : Placed → Token → Span → List ℕ
+value_words_of p (token.Word x) s = cond (has_at p.text s.lo.0 s.hi.0 (word_text x)) own_word (text_words (word_text x))
+value_words_of p _ s = own_word
+
+unfoldable pub value_words : Placed → TokenAndSpan → List ℕ
+value_words p t = value_words_of p t.token t.span
+
+-- the same of the name of a `#`
+abbrev name_words_of : Placed → Token → Span → List ℕ
+name_words_of p (token.Word x) s = slice_words p (word_text x) s.lo.0 s.hi.0
+name_words_of p _ s = slice_word (offset p.text s.lo.0) (offset p.text s.hi.0)
+
+unfoldable pub name_words : Placed → TokenAndSpan → List ℕ
+name_words p t = name_words_of p t.token t.span
+
+unfoldable pub regex_words : Token → List ℕ
+regex_words (token.Regex exp flags) = word (kind_number (codes "flags")) ++ (text_words flags ++ (text_words exp ++ end_word))
+regex_words _ = []
+
+-- how a token begins, up to its text
+unfoldable pub token_words_head : Placed → (kind : List ℕ) → (low high : ℕ) → List ℕ
+token_words_head p kind low high = word (kind_number (codes "Token")) ++ (place_words p low high ++ word (word_number kind))
+
+unfoldable pub token_words : Placed → (hash : Option Span) → TokenAndSpan → List ℕ
+token_words p None t = token_words_head p (token_type t.token) t.span.lo.0 t.span.hi.0 ++ (value_words p t ++ (regex_words t.token ++ end_word))
+token_words p (Some mark) t = token_words_head p (codes "PrivateIdentifier") mark.lo.0 t.span.hi.0 ++ (name_words p t ++ end_word)
+
+abbrev pub step_words : Placed → (hash : Option Span) → TokenAndSpan → List ℕ
+step_words p h t = cond (is_passed t.token) [] (token_words p h t)
+
+abbrev pub all_token_words : Placed → (hash : Option Span) → List TokenAndSpan → List ℕ
+all_token_words p h [] = []
+all_token_words p h (t ∷ ts) = step_words p h t ++ all_token_words p (hash_behind t) ts
+
+unfoldable pub tokens_words : Placed → List TokenAndSpan → List ℕ
+tokens_words p ts = list_word ++ (all_token_words p None ts ++ end_word)

@@ -4,5 +4,5 @@
 mod comments;
 mod tokens;
 
-pub use comments::push_comments;
-pub use tokens::push_tokens;
+pub use comments::{push_comment_words, push_comments};
+pub use tokens::{push_token_words, push_tokens};

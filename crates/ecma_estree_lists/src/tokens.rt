@@ -2,11 +2,14 @@
 
 ghost use Rattle.std.specs.Prelude.{◌≡◌, ◌++◌, OnOk, codes, true, Some, None};
 ghost use Rattle.ecma_estree_lists.specs.Tokens as tokens;
-ghost use Rattle.ecma_estree_text.specs.Places.{place_fields};
+ghost use Rattle.ecma_estree_text.specs.Places.{part, place_fields};
 ghost use Rattle.ecma_estree_text.specs.Quoted.{quoted, wrapped};
-ghost use Rattle.ecma_estree_lists.specs.Tokens.{part, regex_field, step_text, token_head, token_list, token_text, tokens_field, value_text};
+ghost use Rattle.ecma_estree_lists.specs.Tokens.{all_token_words, name_words, regex_field, regex_words, step_text, step_words, token_head, token_list, token_text, token_words, token_words_head, tokens_field, tokens_words, value_text, value_words};
 
-use ecma_estree_text::{Places, push_quoted, push_quoted_bytes};
+use ecma_estree_text::{
+    END, LIST, OWN, Places, kind_number, part_of, push_quoted, push_quoted_bytes, push_units,
+    push_word, word_number,
+};
 use std::alloc::AllocError;
 use swc_ecma_parser_common::Span;
 use swc_ecma_parser_token::{Keyword, Token, TokenAndSpan, Word};
@@ -84,16 +87,6 @@ fn is_shebang(token: &Token) -> bool
         Token::Shebang(_) => true,
         _ => false,
     }
-}
-
-/// A part of a text.
-fn part_of(text: &str, low: usize, high: usize) -> &[u8]
-    ensures { result.now ≡ part text.now low high }
-{
-    let bytes = text.as_bytes();
-    let high = high.min(bytes.len());
-    let low = low.min(high);
-    &bytes[low..high]
 }
 
 /// How a token is written, of a word what it says.
@@ -274,6 +267,148 @@ fn push_list(
         hash = hash_behind(token);
     }
     Ok(())
+}
+
+/// Writes how a token is written, of a word what it says, as words.
+#[tactic(auto, unfolding(crate::specs::Tokens::value_words))]
+fn push_value_words(
+    out: &mut Vec<u8>,
+    places: &Places<'_>,
+    token: &TokenAndSpan,
+) -> Result<(), AllocError>
+    ensures { OnOk result (out.new.items ≡ out.old.items ++ value_words places.now token.now) }
+{
+    let start = token.span.lo.0 as usize;
+    let end = token.span.hi.0 as usize;
+    match &token.token {
+        Token::Word(word) if !places.has_at(start, end, word.as_str().as_bytes()) => {
+            push_units(out, word.as_str().as_bytes())
+        }
+        _ => push_word(out, OWN),
+    }
+}
+
+/// Writes the name of a `#` as words.
+#[tactic(auto, unfolding(crate::specs::Tokens::name_words))]
+fn push_name_words(
+    out: &mut Vec<u8>,
+    places: &Places<'_>,
+    token: &TokenAndSpan,
+) -> Result<(), AllocError>
+    ensures { OnOk result (out.new.items ≡ out.old.items ++ name_words places.now token.now) }
+{
+    let start = token.span.lo.0 as usize;
+    let end = token.span.hi.0 as usize;
+    match &token.token {
+        Token::Word(word) => places.push_slice(out, word.as_str().as_bytes(), start, end),
+        _ => places.push_slice_of(out, start, end),
+    }
+}
+
+/// Writes the flags and the pattern of a regular expression as words; of another token nothing.
+#[tactic(auto, unfolding(crate::specs::Tokens::regex_words))]
+fn push_regex_words(out: &mut Vec<u8>, token: &Token) -> Result<(), AllocError>
+    ensures { OnOk result (out.new.items ≡ out.old.items ++ regex_words token.now) }
+{
+    let Token::Regex { exp, flags } = token else {
+        return Ok(());
+    };
+    push_word(out, kind_number("flags"))?;
+    push_units(out, flags.as_str().as_bytes())?;
+    push_units(out, exp.as_str().as_bytes())?;
+    push_word(out, END)
+}
+
+/// Writes a token of the given kind, from an offset on, as words up to its text.
+#[tactic(auto, unfolding(crate::specs::Tokens::token_words_head))]
+fn push_words_head(
+    out: &mut Vec<u8>,
+    places: &Places<'_>,
+    kind: &str,
+    low: usize,
+    high: usize,
+) -> Result<(), AllocError>
+    ensures { OnOk result
+        (out.new.items ≡ out.old.items ++ token_words_head places.now kind.now low high) }
+{
+    push_word(out, kind_number("Token"))?;
+    places.push_words(out, low, high)?;
+    push_word(out, word_number(kind))
+}
+
+/// Writes a token as words, which is the name of the `#` before it if there is one.
+#[tactic(auto, unfolding(crate::specs::Tokens::token_words))]
+fn push_words(
+    out: &mut Vec<u8>,
+    places: &Places<'_>,
+    hash: Option<Span>,
+    token: &TokenAndSpan,
+) -> Result<(), AllocError>
+    ensures { OnOk result
+        (out.new.items ≡ out.old.items ++ token_words places.now hash token.now) }
+{
+    let start = token.span.lo.0 as usize;
+    let end = token.span.hi.0 as usize;
+    match hash {
+        Some(mark) => {
+            push_words_head(out, places, "PrivateIdentifier", mark.lo.0 as usize, end)?;
+            push_name_words(out, places, token)?;
+        }
+        None => {
+            push_words_head(out, places, token_type(&token.token), start, end)?;
+            push_value_words(out, places, token)?;
+            push_regex_words(out, &token.token)?;
+        }
+    }
+    push_word(out, END)
+}
+
+/// Writes a token as words, but not one that is none there.
+fn push_step_words(
+    out: &mut Vec<u8>,
+    places: &Places<'_>,
+    hash: Option<Span>,
+    token: &TokenAndSpan,
+) -> Result<(), AllocError>
+    ensures { OnOk result (out.new.items ≡ out.old.items ++ step_words places.now hash token.now) }
+{
+    if is_hash(&token.token) || is_shebang(&token.token) {
+        return Ok(());
+    }
+    push_words(out, places, hash, token)
+}
+
+/// Writes tokens as words.
+#[tactic(auto, using(crate::proofs::Listed::words_more, crate::proofs::Listed::words_all))]
+fn push_all_words(
+    out: &mut Vec<u8>,
+    places: &Places<'_>,
+    tokens: &[TokenAndSpan],
+) -> Result<(), AllocError>
+    ensures { OnOk result
+        (out.new.items ≡ out.old.items ++ all_token_words places.now None tokens.now) }
+{
+    let mut hash = None;
+    for token in tokens {
+        push_step_words(out, places, hash, token)?;
+        hash = hash_behind(token);
+    }
+    Ok(())
+}
+
+/// Writes a list of tokens in the binary form.
+#[tactic(auto, unfolding(crate::specs::Tokens::tokens_words))]
+pub fn push_token_words(
+    out: &mut Vec<u8>,
+    places: &Places<'_>,
+    tokens: &[TokenAndSpan],
+) -> Result<(), AllocError>
+    ensures { OnOk result
+        (out.new.items ≡ out.old.items ++ tokens_words places.now tokens.now) }
+{
+    push_word(out, LIST)?;
+    push_all_words(out, places, tokens)?;
+    push_word(out, END)
 }
 
 /// Writes tokens as a field `tokens` that stands behind another.

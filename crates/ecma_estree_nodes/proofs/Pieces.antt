@@ -69,7 +69,7 @@ as_read {xs} {ns} a = ap read (sym (append-nil xs)) ∙ a.reads [] ∙ append-ni
 
 -- ---- marks
 
-pub key_mark : (name : List ℕ) → all_calm name ≡ true → Mark (key name)
+pub key_mark : (name : List ℕ) → all_calm name ≡ true → Mark (key false name)
 unfolding key
 key_mark name h = record {
   quiet = record { reads = λ rest. ap (read_from inside) (append_assoc name (codes "\":") rest) ∙ calm_inside name (codes "\":" ++ rest) h };
@@ -82,7 +82,7 @@ quotes_read word h = record { reads = λ rest. ap (read_from inside) (append_ass
 mark_then : {xs ys : List ℕ} → Mark xs → Reads ys [] → Mark (xs ++ ys)
 mark_then {xs} {ys} a b = record { quiet = both a.quiet b; stop = λ rest. ap stops (append_assoc xs ys rest) ∙ a.stop (ys ++ rest) }
 
-pub word_mark : (name word : List ℕ) → all_calm name ≡ true → all_calm word ≡ true → Mark (word_field name word)
+pub word_mark : (name word : List ℕ) → all_calm name ≡ true → all_calm word ≡ true → Mark (word_field false name word)
 unfolding word_field
 word_mark name word h g = mark_then (key_mark name h) (quotes_read word g)
 
@@ -91,27 +91,27 @@ unfolding bool_word
 bool_read true = record { reads = λ rest. refl }
 bool_read false = record { reads = λ rest. refl }
 
-pub bool_mark : (name : List ℕ) (b : Bool) → all_calm name ≡ true → Mark (bool_field name b)
+pub bool_mark : (name : List ℕ) (b : Bool) → all_calm name ≡ true → Mark (bool_field false name b)
 unfolding bool_field
 bool_mark name b h = mark_then (key_mark name h) (bool_read b)
 
-pub end_mark : Mark end
+pub end_mark : Mark (end false)
 unfolding end
 end_mark = record { quiet = record { reads = λ rest. refl }; stop = λ rest. refl }
 
-pub open_list_mark : Mark open_list
+pub open_list_mark : Mark (open_list false)
 unfolding open_list
 open_list_mark = record { quiet = record { reads = λ rest. refl }; stop = λ rest. refl }
 
-pub end_list_mark : Mark end_list
+pub end_list_mark : Mark (end_list false)
 unfolding end_list
 end_list_mark = record { quiet = record { reads = λ rest. refl }; stop = λ rest. refl }
 
-pub nothing_mark : Mark nothing
+pub nothing_mark : Mark (nothing false)
 unfolding nothing
 nothing_mark = record { quiet = record { reads = λ rest. refl }; stop = λ rest. refl }
 
-pub comma_read : (is_first : Bool) → Reads (comma is_first) []
+pub comma_read : (is_first : Bool) → Reads (comma false is_first) []
 unfolding comma
 comma_read true = record { reads = λ rest. refl }
 comma_read false = record { reads = λ rest. refl }
@@ -189,7 +189,7 @@ from_quote_word (b ∷ bs) rest h =
 -- ---- the head of a node, at the digits of its offsets
 
 abbrev made : (kind : List ℕ) → (start end : ℕ) → Node
-made kind m n = record { kind = kind; start = m; end = n }
+made kind m n = record { kind = kind; start = m; (end false) = n }
 
 ended_read : (kind : List ℕ) (m n : ℕ) (ds rest : List ℕ) → Digits n ds → stops rest ≡ true → ended kind m (Some (ds ++ rest)) ≡ made kind m n ∷ []
 ended_read kind m n ds rest d h = ap (λ k. made kind m k ∷ []) (d.value rest ∙ number_stops n rest h)
@@ -228,13 +228,13 @@ head_read kind m n rest w f g h =
     (passed kind (decimal m) (decimal n) rest w (decimal_calm m) (decimal_calm n))
 
 -- the text of a node's head, with what stands behind it
-laid_out : (t : Source) (kind : List ℕ) (a b : ℕ) (rest : List ℕ) → node_at t kind a b ++ rest
+laid_out : (t : Source) (kind : List ℕ) (a b : ℕ) (rest : List ℕ) → node_at false t kind a b ++ rest
     ≡ codes "{\"type\":\"" ++ (kind ++ behind_word (decimal (offset t.places.text a)) (decimal (offset t.places.text b)) (further t.places a b ++ rest))
 unfolding node_at place_fields
 laid_out t kind a b rest = simp append_assoc
 
 pub node_read : (t : Source) (kind : List ℕ) (a b : ℕ) (rest : List ℕ) → length t.places.text < 2 ^ 63 → all_calm kind ≡ true → stops rest ≡ true
-    → read (node_at t kind a b ++ rest) ≡ node_of t kind a b ∷ read rest
+    → read (node_at false t kind a b ++ rest) ≡ node_of t kind a b ∷ read rest
 node_read t kind a b rest f w h =
     ap read (laid_out t kind a b rest)
     ∙ head_read kind (offset t.places.text a) (offset t.places.text b) (further t.places a b ++ rest) w
@@ -244,17 +244,17 @@ node_read t kind a b rest f w h =
 -- ---- nodes
 
 pub begin_any : (t : Source) (kind : List ℕ) (a b : ℕ) (xs : List ℕ) {ns : List Node} → length t.places.text < 2 ^ 63 → all_calm kind ≡ true
-    → ((rest : List ℕ) → stops (xs ++ rest) ≡ true) → Reads xs ns → Reads (node_at t kind a b ++ xs) (node_of t kind a b ∷ ns)
+    → ((rest : List ℕ) → stops (xs ++ rest) ≡ true) → Reads xs ns → Reads (node_at false t kind a b ++ xs) (node_of t kind a b ∷ ns)
 begin_any t kind a b xs {ns} f w stop r = record {
-  reads = λ rest. ap read (append_assoc (node_at t kind a b) xs rest) ∙ node_read t kind a b (xs ++ rest) f w (stop rest) ∙ ap (λ ms. node_of t kind a b ∷ ms) (r.reads rest);
+  reads = λ rest. ap read (append_assoc (node_at false t kind a b) xs rest) ∙ node_read t kind a b (xs ++ rest) f w (stop rest) ∙ ap (λ ms. node_of t kind a b ∷ ms) (r.reads rest);
 }
 
 pub begin : (t : Source) (kind : List ℕ) (a b : ℕ) {xs ys : List ℕ} {ns : List Node} → length t.places.text < 2 ^ 63 → all_calm kind ≡ true
-    → Mark xs → Reads ys ns → Reads (node_at t kind a b ++ (xs ++ ys)) (node_of t kind a b ∷ ns)
+    → Mark xs → Reads ys ns → Reads (node_at false t kind a b ++ (xs ++ ys)) (node_of t kind a b ∷ ns)
 begin t kind a b {xs} {ys} f w m r = begin_any t kind a b (xs ++ ys) f w (λ rest. ap stops (append_assoc xs ys rest) ∙ m.stop (ys ++ rest)) (past m r)
 
 pub alone : (t : Source) (kind : List ℕ) (a b : ℕ) {xs : List ℕ} → length t.places.text < 2 ^ 63 → all_calm kind ≡ true
-    → Mark xs → Reads (node_at t kind a b ++ xs) (node_of t kind a b ∷ [])
+    → Mark xs → Reads (node_at false t kind a b ++ xs) (node_of t kind a b ∷ [])
 alone t kind a b {xs} f w m = begin_any t kind a b xs f w m.stop m.quiet
 
 pub record Fits (t : Source) : Type 0 where
@@ -266,94 +266,93 @@ fields_read {t} f = record { reads = f.closed.closes }
 
 -- ---- pieces with nodes
 
-pub identifier_read : (t : Source) (s : Span) (name : Text) → Fits t → Reads (identifier t s name) (at t (codes "Identifier") s ∷ [])
+pub identifier_read : (t : Source) (s : Span) (name : Text) → Fits t → Reads (identifier false t s name) (at t (codes "Identifier") s ∷ [])
 unfolding identifier
 identifier_read t s name f = begin t (codes "Identifier") s.lo.0 s.hi.0 f.bounded refl (key_mark (codes "name") refl) (past (quoted_mark name) end_mark.quiet)
 
-pub word_name_read : (t : Source) (name : List ℕ) (a b : ℕ) → Fits t → all_calm name ≡ true → Reads (word_name t name a b) (node_of t (codes "Identifier") a b ∷ [])
+pub word_name_read : (t : Source) (name : List ℕ) (a b : ℕ) → Fits t → all_calm name ≡ true → Reads (word_name false t name a b) (node_of t (codes "Identifier") a b ∷ [])
 unfolding word_name
 word_name_read t name a b f h = begin t (codes "Identifier") a b f.bounded refl (word_mark (codes "name") name refl h) end_mark.quiet
 
-pub literal_read : (t : Source) (s : Span) (value raw : List ℕ) → Fits t → Reads value [] → Reads (literal t s value raw) (at t (codes "Literal") s ∷ [])
+pub literal_read : (t : Source) (s : Span) (value raw : List ℕ) → Fits t → Reads value [] → Reads (literal false t s value raw) (at t (codes "Literal") s ∷ [])
 unfolding literal
 literal_read t s value raw f v =
     begin t (codes "Literal") s.lo.0 s.hi.0 f.bounded refl (key_mark (codes "value") refl)
     (skip v (past (key_mark (codes "raw") refl) (past (quoted_mark raw) end_mark.quiet)))
 
-digits_read : (raw : Text) → Reads (codes "\"" ++ (digits_text raw ++ (codes "\"" ++ end))) []
+digits_read : (raw : Text) → Reads (codes "\"" ++ (digits_text raw ++ codes "\"")) []
 digits_read raw = record {
-  reads = λ rest. ap (read_from inside) (append_assoc (digits_text raw) (codes "\"" ++ end) rest)
-      ∙ calm_inside (digits_text raw) ((codes "\"" ++ end) ++ rest) (digits_calm raw) ∙ end_mark.quiet.reads rest;
+  reads = λ rest. ap (read_from inside) (append_assoc (digits_text raw) (codes "\"") rest) ∙ calm_inside (digits_text raw) (codes "\"" ++ rest) (digits_calm raw);
 }
 
-pub big_literal_read : (t : Source) (s : Span) (raw : Text) → Fits t → Reads (big_literal t s raw) (at t (codes "Literal") s ∷ [])
+pub big_literal_read : (t : Source) (s : Span) (raw : Text) → Fits t → Reads (big_literal false t s raw) (at t (codes "Literal") s ∷ [])
 unfolding big_literal
 big_literal_read t s raw f =
     begin t (codes "Literal") s.lo.0 s.hi.0 f.bounded refl (key_mark (codes "value") refl)
-    (past nothing_mark (past (key_mark (codes "raw") refl) (past (quoted_mark raw) (past (key_mark (codes "bigint") refl) (digits_read raw)))))
+    (past nothing_mark (past (key_mark (codes "raw") refl) (past (quoted_mark raw) (past (key_mark (codes "bigint") refl) (skip (digits_read raw) end_mark.quiet)))))
 
-pub regex_read : (t : Source) (s : Span) (exp flags : Text) → Fits t → Reads (regex_literal t s exp flags) (at t (codes "Literal") s ∷ [])
+pub regex_read : (t : Source) (s : Span) (exp flags : Text) → Fits t → Reads (regex_literal false t s exp flags) (at t (codes "Literal") s ∷ [])
 unfolding regex_literal first_key
 regex_read t s exp flags f =
     begin t (codes "Literal") s.lo.0 s.hi.0 f.bounded refl (key_mark (codes "value") refl)
     (skip (fixed (codes "{}") (λ rest. refl)) (past (key_mark (codes "raw") refl) (past (quoted_mark (regex_text exp flags)) (past (key_mark (codes "regex") refl)
-    (skip (fixed (first_key (codes "pattern")) (λ rest. refl)) (past (quoted_mark exp) (past (key_mark (codes "flags") refl) (past (quoted_mark flags)
+    (skip (fixed (first_key false (codes "pattern")) (λ rest. refl)) (past (quoted_mark exp) (past (key_mark (codes "flags") refl) (past (quoted_mark flags)
     (past end_mark end_mark.quiet)))))))))
 
-optional_read : (o : Option Text) → Reads (optional_text o) []
-optional_read None = nothing_mark.quiet
-optional_read (Some s) = (quoted_mark s).quiet
+optional_read : (t : Source) (o : Option Text) (a b : ℕ) → Reads (optional_text false t o a b) []
+optional_read t None a b = nothing_mark.quiet
+optional_read t (Some s) a b = (quoted_mark s).quiet
 
 pub element_read : (t : Source) (s : Span) (tail : Bool) (cooked : Option Text) (raw : Text) → Fits t
-    → Reads (template_element t s tail cooked raw) (node_of t (codes "TemplateElement") (s.lo.0 + 1) (text_end s tail) ∷ [])
+    → Reads (template_element false t s tail cooked raw) (node_of t (codes "TemplateElement") (s.lo.0 + 1) (text_end s tail) ∷ [])
 unfolding template_element first_key
 element_read t s tail cooked raw f =
     begin t (codes "TemplateElement") (s.lo.0 + 1) (text_end s tail) f.bounded refl (key_mark (codes "value") refl)
-    (skip (fixed (first_key (codes "raw")) (λ rest. refl)) (past (quoted_mark raw) (past (key_mark (codes "cooked") refl) (skip (optional_read cooked)
+    (skip (fixed (first_key false (codes "raw")) (λ rest. refl)) (past (quoted_mark raw) (past (key_mark (codes "cooked") refl) (skip (optional_read t cooked (s.lo.0 + 1) (text_end s tail))
     (past end_mark (past (bool_mark (codes "tail") tail refl) end_mark.quiet))))))
 
 pub property_read : (t : Source) (s : Span) (is_method is_shorthand is_computed : Bool) → Fits t
-    → Reads (property t s is_method is_shorthand is_computed) (at t (codes "Property") s ∷ [])
+    → Reads (property false t s is_method is_shorthand is_computed) (at t (codes "Property") s ∷ [])
 property_read t s is_method is_shorthand is_computed f =
     begin t (codes "Property") s.lo.0 s.hi.0 f.bounded refl (bool_mark (codes "method") is_method refl)
     (past (bool_mark (codes "shorthand") is_shorthand refl) (bool_mark (codes "computed") is_computed refl).quiet)
 
 pub member_head_read : (t : Source) (kind : List ℕ) (s : Span) (is_static is_computed : Bool) → Fits t → all_calm kind ≡ true
-    → Reads (member_head t kind s is_static is_computed) (at t kind s ∷ [])
+    → Reads (member_head false t kind s is_static is_computed) (at t kind s ∷ [])
 member_head_read t kind s is_static is_computed f h =
     begin t kind s.lo.0 s.hi.0 f.bounded h (bool_mark (codes "static") is_static refl)
     (past (bool_mark (codes "computed") is_computed refl) (key_mark (codes "key") refl).quiet)
 
-flags_read : (a b c : Bool) → Reads (bool_field (codes "expression") a ++ (bool_field (codes "generator") b ++ bool_field (codes "async") c)) []
+flags_read : (a b c : Bool) → Reads (bool_field false (codes "expression") a ++ (bool_field false (codes "generator") b ++ bool_field false (codes "async") c)) []
 flags_read a b c =
     past (bool_mark (codes "expression") a refl) (past (bool_mark (codes "generator") b refl) (bool_mark (codes "async") c refl).quiet)
 
-pub fields_mark : (is_expression is_generator is_async : Bool) → Mark (function_fields nothing is_expression is_generator is_async)
+pub fields_mark : (is_expression is_generator is_async : Bool) → Mark (function_fields false (nothing false) is_expression is_generator is_async)
 fields_mark a b c = mark_then (key_mark (codes "id") refl) (past nothing_mark (flags_read a b c))
 
-pub named_fields_read : (name : List ℕ) (is_generator is_async : Bool) → Reads name (read name) → Reads (function_fields name false is_generator is_async) (read name)
+pub named_fields_read : (name : List ℕ) (is_generator is_async : Bool) → Reads name (read name) → Reads (function_fields false name false is_generator is_async) (read name)
 named_fields_read name b c r = past (key_mark (codes "id") refl) (last r (flags_read false b c))
 
-function_stops : (name more : List ℕ) (is_generator is_async : Bool) (rest : List ℕ) → stops ((function_fields name false is_generator is_async ++ more) ++ rest) ≡ true
+function_stops : (name more : List ℕ) (is_generator is_async : Bool) (rest : List ℕ) → stops ((function_fields false name false is_generator is_async ++ more) ++ rest) ≡ true
 function_stops name more b c rest =
-    ap stops (append_assoc (function_fields name false b c) more rest)
-    ∙ ap stops (append_assoc (key (codes "id")) (name ++ (bool_field (codes "expression") false ++ (bool_field (codes "generator") b ++ bool_field (codes "async") c))) (more ++ rest))
-    ∙ (key_mark (codes "id") refl).stop ((name ++ (bool_field (codes "expression") false ++ (bool_field (codes "generator") b ++ bool_field (codes "async") c))) ++ (more ++ rest))
+    ap stops (append_assoc (function_fields false name false b c) more rest)
+    ∙ ap stops (append_assoc (key false (codes "id")) (name ++ (bool_field false (codes "expression") false ++ (bool_field false (codes "generator") b ++ bool_field false (codes "async") c))) (more ++ rest))
+    ∙ (key_mark (codes "id") refl).stop ((name ++ (bool_field false (codes "expression") false ++ (bool_field false (codes "generator") b ++ bool_field false (codes "async") c))) ++ (more ++ rest))
 
 pub begin_function : (t : Source) (kind name : List ℕ) (a b : ℕ) (is_generator is_async : Bool) (more : List ℕ) {ns : List Node} → length t.places.text < 2 ^ 63
-    → all_calm kind ≡ true → Reads (function_fields name false is_generator is_async ++ more) ns
-    → Reads (node_at t kind a b ++ (function_fields name false is_generator is_async ++ more)) (node_of t kind a b ∷ ns)
-begin_function t kind name a b c d more f w r = begin_any t kind a b (function_fields name false c d ++ more) f w (function_stops name more c d) r
+    → all_calm kind ≡ true → Reads (function_fields false name false is_generator is_async ++ more) ns
+    → Reads (node_at false t kind a b ++ (function_fields false name false is_generator is_async ++ more)) (node_of t kind a b ∷ ns)
+begin_function t kind name a b c d more f w r = begin_any t kind a b (function_fields false name false c d ++ more) f w (function_stops name more c d) r
 
-pub accessor_read : (t : Source) (k : Tree) (s : Span) → Fits t → Reads (accessor t k s) (method_value t k s ∷ [])
+pub accessor_read : (t : Source) (k : Tree) (s : Span) → Fits t → Reads (accessor false t k s) (method_value t k s ∷ [])
 accessor_read t k s f = alone t (codes "FunctionExpression") (bracket t.places.text 40 (span_of k).hi.0) s.hi.0 f.bounded refl (fields_mark false false false)
 
-pub phase_read : (p : ImportPhase) → Reads (phase_field p) []
+pub phase_read : (p : ImportPhase) → Reads (phase_field false p) []
 unfolding phase_field
 phase_read phase.Evaluation = none_read
 phase_read phase.Source = (word_mark (codes "phase") (codes "source") refl refl).quiet
 phase_read phase.Defer = (word_mark (codes "phase") (codes "defer") refl refl).quiet
 
-pub directive_read : (x : Tree) → Reads (directive x) []
-directive_read (tree.str s value raw) = past (key_mark (codes "directive") refl) (inner_read raw)
-directive_read _ = none_read
+pub directive_read : (t : Source) (x : Tree) → Reads (directive false t x) []
+directive_read t (tree.str s value raw) = past (key_mark (codes "directive") refl) (inner_read raw)
+directive_read t _ = none_read

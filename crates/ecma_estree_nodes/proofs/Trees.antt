@@ -8,7 +8,7 @@ use Rattle.ecma_estree_nodes.specs.Reading.{read}
 use Rattle.ecma_estree_nodes.proofs.Pieces.{Reads, Fits, both, skip, past, last, none_read, either, neither, by_itself, as_read, key_mark, word_mark, bool_read, bool_mark, end_mark, open_list_mark, end_list_mark, nothing_mark, comma_read, calm_read, quoted_mark, string_read, begin, begin_function, alone, fields_read, identifier_read, word_name_read, literal_read, big_literal_read, regex_read, element_read, property_read, member_head_read, fields_mark, named_fields_read, accessor_read, phase_read, directive_read}
 use Rattle.ecma_estree_nodes.proofs.Scan.{all_calm, number_calm}
 use Rattle.ecma_estree_nodes.proofs.Words.{function_kind_calm, class_kind_calm, kind_calm, using_calm, method_calm, unary_calm, update_calm, binary_calm, binary_kind_calm, assign_calm}
-use Rattle.ecma_estree_writer.specs.Estree.{Role, plain, directives, members, attributes, bare, argument, declared, function, class, json, jsons, is_bare, is_attributes, is_directives, function_kind, class_kind, is_zero, skips, next, end_of, expr_end, brace, method_role, link, linked, is_link, is_optional, inner, link_role}
+use Rattle.ecma_estree_writer.specs.Estree.{Role, plain, directives, members, attributes, bare, argument, declared, function, class, written, jsons, is_bare, is_attributes, is_directives, function_kind, class_kind, is_zero, skips, next, end_of, expr_end, brace, method_role, link, linked, is_link, is_optional, inner, link_role}
 use Rattle.ecma_estree_writer.specs.Parts.{nothing, is_namespace_alone, is_import, is_empty}
 use Rattle.ecma_estree_writer.specs.Source.{Source}
 use Rattle.ecma_estree_writer.specs.Words.{bool_word, kind_word, using_word, method_word, unary_word, update_word, binary_word, binary_kind, assign_word}
@@ -25,7 +25,7 @@ Ready (function kind name start) = (all_calm kind ≡ true) × Reads name (read 
 Ready (class kind name name_end) = (all_calm kind ≡ true) × Reads name (read name)
 Ready _ = Unit {0}
 
-nothing_itself : Reads nothing (read nothing)
+nothing_itself : Reads (nothing false) (read (nothing false))
 nothing_itself = by_itself nothing_mark.quiet
 
 either_ready : (b : Bool) → Ready (cond b directives plain)
@@ -45,7 +45,7 @@ inner_ready (linked optional) x = link_ready (is_chain x)
 inner_ready _ x = tt
 
 mutual
-  tree_reads : (t : Source) (r : Role) (x : Tree) → Fits t → Ready r → Reads (json t r x) (nodes t r x)
+  tree_reads : (t : Source) (r : Role) (x : Tree) → Fits t → Ready r → Reads (written false t r x) (nodes t r x)
   tree_reads t r tree.absent f g = neither (is_attributes r) none_read nothing_mark.quiet
   tree_reads t r (tree.list ts) f g = trees_read t r true ts f g
   -- names and literals
@@ -66,9 +66,9 @@ mutual
       (begin t (codes "ObjectExpression") s.lo.0 s.hi.0 f.bounded refl (key_mark (codes "properties") refl) (past open_list_mark (last (tree_reads t plain props f tt)
       (past end_list_mark end_mark.quiet)))))
   tree_reads t r (tree.fn_expr s name fn) f g =
-      (tree_reads t (function (function_kind r) (json t plain name) s.lo.0) fn f (function_kind_calm r, by_itself (tree_reads t plain name f tt)))
+      (tree_reads t (function (function_kind r) (written false t plain name) s.lo.0) fn f (function_kind_calm r, by_itself (tree_reads t plain name f tt)))
   tree_reads t r (tree.class_expr s name body) f g =
-      (tree_reads t (class (class_kind r) (json t plain name) (end_of name)) body f (class_kind_calm r, by_itself (tree_reads t plain name f tt)))
+      (tree_reads t (class (class_kind r) (written false t plain name) (end_of name)) body f (class_kind_calm r, by_itself (tree_reads t plain name f tt)))
   tree_reads t r (tree.paren s e) f g = tree_reads t plain e f tt
   tree_reads t r (tree.meta_prop s meta.ImportMeta) f g =
       begin t (codes "MetaProperty") s.lo.0 s.hi.0 f.bounded refl (key_mark (codes "meta") refl) (both (word_name_read t (codes "import") s.lo.0 (s.lo.0 + 6) f refl)
@@ -173,7 +173,7 @@ mutual
       (past (word_mark (codes "kind") (codes "set") refl refl) end_mark.quiet))))))))))))
   tree_reads t r (tree.method_prop s k fn) f g =
       both (property_read t s true false (is_computed k) f) (past (key_mark (codes "key") refl) (both (tree_reads t plain k f tt) (past (key_mark (codes "value") refl)
-      (last (tree_reads t (method_role t k) fn f (refl, nothing_itself)) (past (word_mark (codes "kind") (codes "init") refl refl) end_mark.quiet)))))
+      (last (tree_reads t (method_role false t k) fn f (refl, nothing_itself)) (past (word_mark (codes "kind") (codes "init") refl refl) end_mark.quiet)))))
   -- patterns
   tree_reads t r (tree.ident_pat s name) f g = identifier_read t s name f
   tree_reads t r (tree.array_pat s elems) f g =
@@ -223,11 +223,11 @@ mutual
   tree_reads t r (tree.method s k fn kind is_static) f g =
       both (member_head_read t (codes "MethodDefinition") s is_static (is_computed k) f refl) (both (tree_reads t plain k f tt)
       (past (word_mark (codes "kind") (method_word kind) refl (method_calm kind)) (past (key_mark (codes "value") refl)
-      (both (tree_reads t (method_role t k) fn f (refl, nothing_itself)) (last (tree_reads t plain fn f tt) end_mark.quiet)))))
+      (both (tree_reads t (method_role false t k) fn f (refl, nothing_itself)) (last (tree_reads t plain fn f tt) end_mark.quiet)))))
   tree_reads t r (tree.private_method s k fn kind is_static) f g =
       both (member_head_read t (codes "MethodDefinition") s is_static false f refl) (both (tree_reads t plain k f tt)
       (past (word_mark (codes "kind") (method_word kind) refl (method_calm kind)) (past (key_mark (codes "value") refl)
-      (both (tree_reads t (method_role t k) fn f (refl, nothing_itself)) (last (tree_reads t plain fn f tt) end_mark.quiet)))))
+      (both (tree_reads t (method_role false t k) fn f (refl, nothing_itself)) (last (tree_reads t plain fn f tt) end_mark.quiet)))))
   tree_reads t r (tree.class_prop s k value is_static ds) f g =
       both (member_head_read t (codes "PropertyDefinition") s is_static (is_computed k) f refl) (both (tree_reads t plain k f tt) (past (key_mark (codes "value") refl)
       (both (tree_reads t plain value f tt) (last (either (is_empty ds) none_read (past (key_mark (codes "decorators") refl) (past open_list_mark
@@ -246,9 +246,9 @@ mutual
   tree_reads t r (tree.empty_member s) f g = none_read
   -- declarations
   tree_reads t r (tree.class_decl name body) f g =
-      (tree_reads t (class (codes "ClassDeclaration") (json t plain name) (end_of name)) body f (refl, by_itself (tree_reads t plain name f tt)))
+      (tree_reads t (class (codes "ClassDeclaration") (written false t plain name) (end_of name)) body f (refl, by_itself (tree_reads t plain name f tt)))
   tree_reads t r (tree.fn_decl name fn) f g =
-      (tree_reads t (function (codes "FunctionDeclaration") (json t plain name) (span_of fn).lo.0) fn f (refl, by_itself (tree_reads t plain name f tt)))
+      (tree_reads t (function (codes "FunctionDeclaration") (written false t plain name) (span_of fn).lo.0) fn f (refl, by_itself (tree_reads t plain name f tt)))
   tree_reads t r (tree.var s kind decls) f g =
       begin t (codes "VariableDeclaration") s.lo.0 s.hi.0 f.bounded refl (key_mark (codes "declarations") refl) (past open_list_mark
       (last (tree_reads t plain decls f tt) (past end_list_mark (past (word_mark (codes "kind") (kind_word kind) refl (kind_calm kind)) end_mark.quiet))))
@@ -315,7 +315,7 @@ mutual
       (last (tree_reads t plain body f tt) end_mark.quiet))))))
   tree_reads t r (tree.expr_stmt s e) f g =
       begin t (codes "ExpressionStatement") s.lo.0 s.hi.0 f.bounded refl (key_mark (codes "expression") refl) (last (tree_reads t plain e f tt)
-      (skip (neither (is_directives r) (directive_read e) none_read) end_mark.quiet))
+      (skip (neither (is_directives r) (directive_read t e) none_read) end_mark.quiet))
   -- imports and exports
   tree_reads t r (tree.import s specifiers src attrs phase) f g =
       begin t (codes "ImportDeclaration") s.lo.0 s.hi.0 f.bounded refl (key_mark (codes "specifiers") refl) (past open_list_mark
@@ -368,7 +368,7 @@ mutual
       begin t (codes "Program") 0 (length t.places.text) f.bounded refl (key_mark (codes "body") refl) (past open_list_mark (both (tree_reads t directives body f tt)
       (past end_list_mark (past (word_mark (codes "sourceType") (codes "module") refl refl) (last (fields_read f) end_mark.quiet)))))
 
-  trees_read : (t : Source) (r : Role) (is_first : Bool) (ts : Trees) → Fits t → Ready r → Reads (jsons t r is_first ts) (all_nodes t r ts)
+  trees_read : (t : Source) (r : Role) (is_first : Bool) (ts : Trees) → Fits t → Ready r → Reads (jsons false t r is_first ts) (all_nodes t r ts)
   trees_read t (argument n) is_first none f g = nothing_mark.quiet
   trees_read t r is_first none f g = none_read
   trees_read t (argument n) is_first (also x xs) f g = either (is_zero n) (tree_reads t plain x f tt) (trees_read t (argument (n - 1)) is_first xs f tt)

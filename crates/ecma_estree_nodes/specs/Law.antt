@@ -5,7 +5,7 @@ use Rattle.ecma_estree_lists.specs.Tokens.{tokens_field}
 use Rattle.ecma_estree_nodes.specs.Nodes.{nodes}
 use Rattle.ecma_estree_nodes.specs.Reading.{IsClosed, IsQuiet, read}
 use Rattle.ecma_estree_text.specs.Places.{Placed}
-use Rattle.ecma_estree_writer.specs.Estree.{json, plain}
+use Rattle.ecma_estree_writer.specs.Estree.{written, plain}
 use Rattle.ecma_estree_writer.specs.Source.{Source}
 use Rattle.swc_ecma_parser_common.specs.declared.comment.Comment.{Comment}
 use Rattle.swc_ecma_parser_model.specs.Tree.{Tree}
@@ -13,7 +13,7 @@ use Rattle.swc_ecma_parser_token.specs.declared.token.TokenAndSpan.{TokenAndSpan
 
 -- from the text of a tree, its nodes: the kind and the place of each, in their order
 abbrev pub ReadsBack : Type 0
-ReadsBack = (t : Source) (x : Tree) → length t.places.text < 2 ^ 63 → IsClosed t.fields → read (json t plain x) ≡ nodes t plain x
+ReadsBack = (t : Source) (x : Tree) → length t.places.text < 2 ^ 63 → IsClosed t.fields → read (written false t plain x) ≡ nodes t plain x
 
 -- a whole may have comments, tokens, both or none: they are no nodes, and leave no string open
 abbrev pub ListsAreQuiet : Type 0

@@ -3,7 +3,7 @@ use Rattle.std.specs.Prelude.{ℕ, List, [], ◌∷◌, ◌++◌, ◌+◌, ◌-�
 use Rattle.ecma_estree_text.specs.Bracket.{bracket}
 use Rattle.ecma_estree_text.specs.Places.{offset}
 use Rattle.ecma_estree_nodes.specs.Reading.{Node, read}
-use Rattle.ecma_estree_writer.specs.Estree.{Role, plain, directives, members, attributes, bare, argument, declared, function, class, json, is_bare, is_attributes, function_kind, class_kind, is_zero, skips, next, end_of, expr_end, brace, method_role, inner, is_link, linked}
+use Rattle.ecma_estree_writer.specs.Estree.{Role, plain, directives, members, attributes, bare, argument, declared, function, class, written, is_bare, is_attributes, function_kind, class_kind, is_zero, skips, next, end_of, expr_end, brace, method_role, inner, is_link, linked}
 use Rattle.ecma_estree_writer.specs.Parts.{is_namespace_alone, is_import, is_empty, text_end}
 use Rattle.ecma_estree_writer.specs.Source.{Source}
 use Rattle.ecma_estree_writer.specs.Words.{binary_kind}
@@ -42,8 +42,8 @@ abbrev mutual
   nodes t r (tree.this s) = at t (codes "ThisExpression") s ∷ []
   nodes t r (tree.array s elems) = at t (codes "ArrayExpression") s ∷ nodes t plain elems
   nodes t r (tree.object s props) = cond (is_attributes r) (nodes t attributes props) (at t (codes "ObjectExpression") s ∷ nodes t plain props)
-  nodes t r (tree.fn_expr s name fn) = nodes t (function (function_kind r) (json t plain name) s.lo.0) fn
-  nodes t r (tree.class_expr s name body) = nodes t (class (class_kind r) (json t plain name) (end_of name)) body
+  nodes t r (tree.fn_expr s name fn) = nodes t (function (function_kind r) (written false t plain name) s.lo.0) fn
+  nodes t r (tree.class_expr s name body) = nodes t (class (class_kind r) (written false t plain name) (end_of name)) body
   nodes t r (tree.paren s e) = nodes t plain e
   nodes t r (tree.meta_prop s meta.ImportMeta) = at t (codes "MetaProperty") s ∷ node_of t (codes "Identifier") s.lo.0 (s.lo.0 + 6) ∷ node_of t (codes "Identifier") (s.hi.0 - 4) s.hi.0 ∷ []
   nodes t r (tree.meta_prop s meta.NewTarget) = at t (codes "MetaProperty") s ∷ node_of t (codes "Identifier") s.lo.0 (s.lo.0 + 3) ∷ node_of t (codes "Identifier") (s.hi.0 - 6) s.hi.0 ∷ []
@@ -113,8 +113,8 @@ abbrev mutual
   nodes t r (tree.static_block s body) = at t (codes "StaticBlock") s ∷ nodes t bare body
   nodes t r (tree.empty_member s) = []
   -- declarations
-  nodes t r (tree.class_decl name body) = nodes t (class (codes "ClassDeclaration") (json t plain name) (end_of name)) body
-  nodes t r (tree.fn_decl name fn) = nodes t (function (codes "FunctionDeclaration") (json t plain name) (span_of fn).lo.0) fn
+  nodes t r (tree.class_decl name body) = nodes t (class (codes "ClassDeclaration") (written false t plain name) (end_of name)) body
+  nodes t r (tree.fn_decl name fn) = nodes t (function (codes "FunctionDeclaration") (written false t plain name) (span_of fn).lo.0) fn
   nodes t r (tree.var s kind decls) = at t (codes "VariableDeclaration") s ∷ nodes t plain decls
   nodes t r (tree.using s is_await decls) = at t (codes "VariableDeclaration") s ∷ nodes t plain decls
   nodes t r (tree.declarator s name init) = at t (codes "VariableDeclarator") s ∷ (nodes t plain name ++ nodes t plain init)

@@ -4,3 +4,5 @@ mod Points
 mod Regexes
 mod Spots
 mod Value
+mod Encoded
+mod Indexed

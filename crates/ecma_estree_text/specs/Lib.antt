@@ -1,7 +1,10 @@
 pub mod Quoted
 pub mod Spots
+pub mod Numbers
 pub mod Places
+pub mod Binary
 pub mod Bracket
 pub mod Number
 pub mod Strings
+pub mod Units
 pub mod Digits

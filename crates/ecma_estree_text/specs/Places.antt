@@ -1,6 +1,8 @@
 -- Places as JavaScript's tools count them: an offset counts code units of UTF-16 (ECMA-262, "The String Type", section 6.1.4), a line is
 -- counted from 1, and a column from 0.
-use Rattle.std.specs.Prelude.{◌≡◌, ℕ, List, [], ◌∷◌, ◌++◌, ◌+◌, ◌≤◌, Bool, cond, codes, decimal, length, take, slice_index}
+use Rattle.std.specs.Prelude.{◌≡◌, ℕ, List, [], ◌∷◌, ◌++◌, ◌+◌, ◌≤◌, Bool, cond, codes, decimal, length, min, nat_lt, not, get_or, take, slice_index, slice_range, ◌&&◌, ◌||◌}
+use Rattle.std.specs.Str.{bytes_eq}
+use Rattle.ecma_estree_text.specs.Binary.{count_word, slice_word, text_words}
 use Rattle.ecma_estree_text.specs.Spots.{unit_count, spot_at}
 use Rattle.ecma_estree_text.specs.declared.spot.Spot.{Spot}
 
@@ -41,3 +43,31 @@ unfoldable pub place_fields : Placed → (start end : ℕ) → List ℕ
 place_fields x start end =
     codes "\"start\":" ++ (decimal (offset x.text start) ++ (codes ",\"end\":" ++ (decimal (offset x.text end)
     ++ (cond x.has_locations (loc_text x start end) [] ++ cond x.has_ranges (range_text x start end) []))))
+
+-- ---- in the binary form
+
+-- a part of a text
+abbrev pub part : List ℕ → (low high : ℕ) → List ℕ
+part text low high = slice_range text (min low (min high (length text))) (min high (length text))
+
+-- whether a byte is the first of a character: those behind it have 128 to 191
+abbrev pub is_boundary : List ℕ → ℕ → Bool
+is_boundary text n = nat_lt (get_or text n 0) 128 || not (nat_lt (get_or text n 0) 192)
+
+-- whether some bytes stand between two offsets, and no character is cut there
+unfoldable pub has_at : List ℕ → (start end : ℕ) → List ℕ → Bool
+has_at text start end bytes = is_boundary text start && (is_boundary text end && bytes_eq (part text start end) bytes)
+
+abbrev pub spot_words : Spot → List ℕ
+spot_words p = count_word p.line ++ count_word p.column
+
+abbrev pub loc_words : Placed → (start end : ℕ) → List ℕ
+loc_words x start end = spot_words (spot_at x.text start) ++ spot_words (spot_at x.text end)
+
+-- a place, between two offsets in bytes: a range is what its two offsets say, and has no words
+unfoldable pub place_words : Placed → (start end : ℕ) → List ℕ
+place_words x start end = count_word (offset x.text start) ++ (count_word (offset x.text end) ++ cond x.has_locations (loc_words x start end) [])
+
+-- a text, which mostly stands between two offsets
+unfoldable pub slice_words : Placed → (text : List ℕ) → (start end : ℕ) → List ℕ
+slice_words x text start end = cond (has_at x.text start end text) (slice_word (offset x.text start) (offset x.text end)) (text_words text)

@@ -239,6 +239,25 @@ fn digits(bytes: &[u8]) -> &[u8]
     }
 }
 
+/// Whether a byte is a decimal digit.
+fn is_decimal_digit(byte: u8) -> bool
+    ensures { result ≡ number.is_decimal_digit byte }
+{
+    b'0' <= byte && byte <= b'9'
+}
+
+/// Whether a number literal is decimal digits alone, which say in JSON what they say here.
+#[tactic(auto, unfolding(crate::specs::Number::is_plain))]
+pub fn is_plain_number(raw: &str) -> bool
+    ensures { result ≡ number.is_plain raw.now }
+{
+    let bytes = raw.as_bytes();
+    if has_leading_zero(bytes) {
+        return false;
+    }
+    bytes.iter().all(|byte| is_decimal_digit(*byte))
+}
+
 /// Writes the value of a number literal, which is given as it is written. One with a radix of its own is written as the integer that it is, in
 /// decimal digits; past 400 of them as `1e400`, since both are infinite to JavaScript.
 #[tactic(auto, unfolding(crate::specs::Number::number_text), using(crate::proofs::Digits::decimal_double))]

@@ -1,11 +1,15 @@
 //! Places as JavaScript's tools count them: offsets, lines and columns.
 
 ghost use Rattle.std.specs.Prelude.{◌≡◌, ◌++◌, ◌<◌, ◌^◌, [], cond, decimal, length, is_some, IfOk, IfSome, OnOk};
-ghost use Rattle.ecma_estree_text.specs.Places.{AreCounts, loc_text, offset, place_fields, range_text, spot_text, spots_text};
+ghost use Rattle.ecma_estree_text.specs.Binary.{slice_word};
+ghost use Rattle.ecma_estree_text.specs.Places as places;
+ghost use Rattle.ecma_estree_text.specs.Places.{AreCounts, loc_text, loc_words, offset, part, place_fields, place_words, range_text, slice_words, spot_text, spot_words, spots_text};
 ghost use Rattle.ecma_estree_text.specs.Spots.{AreSpots, spot_at};
 
+use crate::binary::{SLICE, push_count_word, push_word};
 use crate::number::push_count;
 use crate::spot::{Spot, spots_of, units};
+use crate::units::push_units;
 use std::alloc::{AllocError, Global};
 use std::marker::Model;
 
@@ -14,7 +18,7 @@ use std::marker::Model;
 pub struct Extras {
     /// Lines and columns, as `loc`.
     pub locations: bool,
-    /// The offsets once more, as `range`.
+    /// The offsets once more, as `range`. The binary form has no words for them.
     pub ranges: bool,
 }
 
@@ -96,6 +100,34 @@ fn push_spots(out: &mut Vec<u8>, start: Spot, end: Spot) -> Result<(), AllocErro
     push_spot(out, b",\"loc\":{\"start\":", start)?;
     push_spot(out, b",\"end\":", end)?;
     out.extend_from_slice(b"}")
+}
+
+/// The bytes of a text between two offsets.
+pub fn part_of(text: &str, start: usize, end: usize) -> &[u8]
+    ensures { result.now ≡ part text.now start end }
+{
+    let bytes = text.as_bytes();
+    let end = end.min(bytes.len());
+    let start = start.min(end);
+    &bytes[start..end]
+}
+
+/// Whether a byte of a text is the first of a character; behind the end it is as if it were.
+fn is_boundary(text: &str, position: usize) -> bool
+    ensures { result ≡ places.is_boundary text.now position }
+{
+    match text.as_bytes().get(position) {
+        Some(byte) => *byte < 128 || 192 <= *byte,
+        None => true,
+    }
+}
+
+/// Writes a line and a column as words.
+fn push_spot_words(out: &mut Vec<u8>, spot: Spot) -> Result<(), AllocError>
+    ensures { OnOk result (out.new.items ≡ out.old.items ++ spot_words spot) }
+{
+    push_count_word(out, spot.line)?;
+    push_count_word(out, spot.column)
 }
 
 /// The place of a byte, behind the end that of the end.
@@ -182,6 +214,73 @@ impl<'a> Places<'a> {
         push_labelled(out, b",\"range\":[", self.at(start))?;
         push_labelled(out, b",", self.at(end))?;
         out.extend_from_slice(b"]")
+    }
+
+    /// Whether bytes stand between two offsets, and no character is cut there.
+    #[tactic(auto, unfolding(crate::specs::Places::has_at))]
+    pub fn has_at(&self, start: usize, end: usize, bytes: &[u8]) -> bool
+        ensures { result ≡ places.has_at self.now.text start end bytes.now }
+    {
+        is_boundary(self.text, start)
+            && is_boundary(self.text, end)
+            && part_of(self.text, start, end) == bytes
+    }
+
+    /// Writes a text, which mostly stands between two offsets, as words.
+    #[tactic(auto, unfolding(crate::specs::Places::slice_words))]
+    pub fn push_slice(
+        &self,
+        out: &mut Vec<u8>,
+        text: &[u8],
+        start: usize,
+        end: usize,
+    ) -> Result<(), AllocError>
+        ensures { OnOk result
+            (out.new.items ≡ out.old.items ++ slice_words self.now text.now start end) }
+    {
+        if !self.has_at(start, end, text) {
+            return push_units(out, text);
+        }
+        self.push_slice_of(out, start, end)
+    }
+
+    /// Writes the text between two offsets in bytes as words.
+    pub fn push_slice_of(
+        &self,
+        out: &mut Vec<u8>,
+        start: usize,
+        end: usize,
+    ) -> Result<(), AllocError>
+        ensures { OnOk result
+            (out.new.items
+            ≡ out.old.items ++ slice_word (offset self.now.text start) (offset self.now.text end)) }
+    {
+        push_word(out, SLICE)?;
+        push_count_word(out, self.at(start))?;
+        push_count_word(out, self.at(end))
+    }
+
+    /// Writes the lines of a place as words, if they are written.
+    fn push_loc_words(&self, out: &mut Vec<u8>, start: usize, end: usize) -> Result<(), AllocError>
+        ensures { OnOk result
+            (out.new.items ≡ out.old.items
+            ++ cond self.now.has_locations (loc_words self.now start end) []) }
+    {
+        let Some(spots) = &self.spots else {
+            return Ok(());
+        };
+        push_spot_words(out, spot_of(spots.as_slice(), self.text, start))?;
+        push_spot_words(out, spot_of(spots.as_slice(), self.text, end))
+    }
+
+    /// Writes the words that tell a place, between two offsets in bytes.
+    #[tactic(auto, unfolding(crate::specs::Places::place_words))]
+    pub fn push_words(&self, out: &mut Vec<u8>, start: usize, end: usize) -> Result<(), AllocError>
+        ensures { OnOk result (out.new.items ≡ out.old.items ++ place_words self.now start end) }
+    {
+        push_count_word(out, self.at(start))?;
+        push_count_word(out, self.at(end))?;
+        self.push_loc_words(out, start, end)
     }
 
     /// Writes the fields that tell a place, between two offsets in bytes.

@@ -1,11 +1,16 @@
 //! The value of a string literal: ECMA-262, "Static Semantics: SV" (section 12.9.4.2).
 
 ghost use Rattle.std.specs.Prelude.{◌≡◌, ◌++◌, ◌<◌, ◌≤◌, OnOk, IfOk, IfSome, IsTrue};
+ghost use Rattle.ecma_estree_text.specs.Binary.{said_words, string_words, word};
+ghost use Rattle.ecma_estree_text.specs.Units.{pair_or_unit};
 ghost use Rattle.ecma_estree_text.specs.Number.{digit_value};
+ghost use Rattle.std.specs.List.{flat_map};
 ghost use Rattle.ecma_estree_text.specs.Strings as literal;
 ghost use Rattle.ecma_estree_text.specs.Strings.{IsHigh, four_digits, point_text, points, points_text, string_text};
 
+use crate::binary::{LAST, UNITS, push_word};
 use crate::quoted::{digit_of, push_escaped_bytes, push_quoted_bytes};
+use crate::units::{push_pair_or_unit, push_units};
 use std::alloc::AllocError;
 
 /// Where in an escape a string literal is.
@@ -364,4 +369,51 @@ pub fn push_string(out: &mut Vec<u8>, value: &str, raw: &str) -> Result<(), Allo
         return Ok(());
     }
     push_quoted_bytes(out, value.as_bytes())
+}
+
+/// Writes what one character says as code units.
+fn push_optional_point(out: &mut Vec<u8>, point: Option<u32>) -> Result<(), AllocError>
+    ensures { OnOk result (out.new.items ≡ out.old.items ++ said_words point) }
+{
+    match point {
+        Some(point) => push_pair_or_unit(out, point),
+        None => Ok(()),
+    }
+}
+
+/// Writes what a literal says, which is given as it is written, as code units.
+fn push_said_units(out: &mut Vec<u8>, raw: &str) -> Result<(), AllocError>
+    ensures { OnOk result
+        (out.new.items
+        ≡ out.old.items ++ flat_map word (flat_map pair_or_unit (points raw.now))) }
+{
+    let quote = first_byte(raw.as_bytes());
+    let mut state = Escape::Text;
+    for c in raw.chars() {
+        let point = said(quote, state, c);
+        push_optional_point(out, point)?;
+        state = escape_behind(state, c);
+    }
+    Ok(())
+}
+
+/// Whether the value of a string literal is read from what was written.
+pub fn is_read_from(value: &str, raw: &str) -> bool
+    ensures { result ≡ literal.is_read value.now raw.now }
+{
+    is_read(value.as_bytes(), raw.as_bytes())
+}
+
+/// Writes the value of a string literal as code units, lone surrogates among them. It is given as the tree holds it and as it was written.
+#[tactic(auto, unfolding(crate::specs::Binary::string_words))]
+pub fn push_string_units(out: &mut Vec<u8>, value: &str, raw: &str) -> Result<(), AllocError>
+    ensures { OnOk result
+        (out.new.items ≡ out.old.items ++ string_words value.now raw.now) }
+{
+    if is_read(value.as_bytes(), raw.as_bytes()) {
+        push_word(out, UNITS)?;
+        push_said_units(out, raw)?;
+        return push_word(out, LAST);
+    }
+    push_units(out, value.as_bytes())
 }

@@ -2,10 +2,9 @@
 
 ghost use Rattle.std.specs.Prelude.{◌++◌, ◌<◌, ◌+◌, ◌-◌, codes, OnOk};
 ghost use Rattle.ecma_estree_writer.specs.Parts.{end};
-ghost use Rattle.ecma_estree_writer.specs.Estree.{json, plain};
+ghost use Rattle.ecma_estree_writer.specs.Estree.{written, plain};
 ghost use Rattle.ecma_estree_writer.specs.Writing.{Appends};
-ghost use Rattle.ecma_estree_text.specs.Number.{digits_text, number_text};
-ghost use Rattle.ecma_estree_text.specs.Quoted.{quoted, regex_text};
+ghost use Rattle.ecma_estree_text.specs.Quoted.{regex_text};
 ghost use Rattle.swc_ecma_parser_ast.specs.Parts.{view_option};
 ghost use Rattle.swc_ecma_parser_ast.specs.View.{view_big_int, view_ident, view_lit, view_meta_prop_expr, view_private_name, view_regex, view_str, view_tpl_element};
 ghost use Rattle.ecma_estree_writer.specs.Parts as parts;
@@ -17,65 +16,69 @@ use swc_ecma_parser_ast::{
     Atom, BigInt, Ident, Lit, MetaPropExpr, MetaPropKind, PrivateName, Regex, Span, Str, TplElement,
 };
 
-/// Writes a field that is a text.
-fn write_text(w: &mut Writer<'_>, key: &str, text: &str) -> Result<(), AllocError>
-    ensures { OnOk result (Appends w.old w.new (parts.key key.now ++ quoted text.now)) }
+/// Writes a field that is a text, which mostly is how the node is written.
+fn write_raw<const BINARY: bool>(
+    w: &mut Writer<'_, BINARY>,
+    raw: &str,
+    span: Span,
+) -> Result<(), AllocError>
+    ensures { OnOk result
+        (Appends w.old w.new (parts.raw_field BINARY w.old.source span raw.now)) }
 {
-    w.key(key)?;
-    w.quoted(text)
+    w.key("raw")?;
+    w.own(raw, span.lo.0 as usize, span.hi.0 as usize)
 }
 
 /// Writes a field that is `null`.
-fn write_nothing(w: &mut Writer<'_>, key: &str) -> Result<(), AllocError>
-    ensures { OnOk result (Appends w.old w.new (parts.key key.now ++ parts.nothing)) }
+fn write_nothing<const BINARY: bool>(
+    w: &mut Writer<'_, BINARY>,
+    key: &str,
+) -> Result<(), AllocError>
+    ensures { OnOk result (Appends w.old w.new (parts.key BINARY key.now ++ parts.nothing BINARY)) }
 {
     w.key(key)?;
     w.nothing()
 }
 
 /// Writes a field that is the digits of a big integer literal.
-fn write_digits(w: &mut Writer<'_>, key: &str, raw: &str) -> Result<(), AllocError>
+fn write_digits<const BINARY: bool>(
+    w: &mut Writer<'_, BINARY>,
+    key: &str,
+    raw: &str,
+) -> Result<(), AllocError>
     ensures { OnOk result
         (Appends w.old w.new
-        (parts.key key.now ++ (codes "\"" ++ (digits_text raw.now ++ codes "\"")))) }
+        (parts.key BINARY key.now ++ parts.digits_value BINARY raw.now)) }
 {
     w.key(key)?;
     w.digits(raw)
 }
 
-/// Writes a node of the given kind that has a text as its one field.
-fn write_text_node(
-    w: &mut Writer<'_>,
-    kind: &str,
-    span: Span,
-    key: &str,
-    text: &str,
-) -> Result<(), AllocError>
-    ensures { OnOk result
-        (Appends w.old w.new
-        (parts.node w.old.source kind.now span
-        ++ (parts.key key.now ++ (quoted text.now ++ end)))) }
-{
-    w.open(kind, span)?;
-    write_text(w, key, text)?;
-    w.end()
-}
-
 /// Writes a name.
 #[tactic(auto, unfolding(crate::specs::Parts::identifier))]
-pub fn write_name(w: &mut Writer<'_>, name: &Ident) -> Result<(), AllocError>
-    ensures { OnOk result (Appends w.old w.new (json w.old.source plain (view_ident name.now))) }
+pub fn write_name<const BINARY: bool>(
+    w: &mut Writer<'_, BINARY>,
+    name: &Ident,
+) -> Result<(), AllocError>
+    ensures { OnOk result (Appends w.old w.new (written BINARY w.old.source plain (view_ident name.now))) }
 {
     w.open("Identifier", name.span)?;
     w.key("name")?;
-    w.quoted(name.sym.as_str())?;
+    w.own(
+        name.sym.as_str(),
+        name.span.lo.0 as usize,
+        name.span.hi.0 as usize,
+    )?;
     w.end()
 }
 
 /// Writes a name, or `null`.
-pub fn write_optional_name(w: &mut Writer<'_>, name: &Option<Ident>) -> Result<(), AllocError>
+pub fn write_optional_name<const BINARY: bool>(
+    w: &mut Writer<'_, BINARY>,
+    name: &Option<Ident>,
+) -> Result<(), AllocError>
     ensures { OnOk result
-        (Appends w.old w.new (json w.old.source plain (view_option view_ident name.now))) }
+        (Appends w.old w.new (written BINARY w.old.source plain (view_option view_ident name.now))) }
 {
     match name {
         Some(name) => write_name(w, name),
@@ -84,104 +87,129 @@ pub fn write_optional_name(w: &mut Writer<'_>, name: &Option<Ident>) -> Result<(
 }
 
 /// Writes `#` and a word.
-pub fn write_private_name(w: &mut Writer<'_>, name: &PrivateName) -> Result<(), AllocError>
+pub fn write_private_name<const BINARY: bool>(
+    w: &mut Writer<'_, BINARY>,
+    name: &PrivateName,
+) -> Result<(), AllocError>
     ensures { OnOk result
-        (Appends w.old w.new (json w.old.source plain (view_private_name name.now))) }
+        (Appends w.old w.new (written BINARY w.old.source plain (view_private_name name.now))) }
 {
-    write_text_node(
-        w,
-        "PrivateIdentifier",
-        name.span,
-        "name",
+    w.open("PrivateIdentifier", name.span)?;
+    w.key("name")?;
+    w.slice(
         name.id.sym.as_str(),
-    )
+        name.span.lo.0 as usize + 1,
+        name.span.hi.0 as usize,
+    )?;
+    w.end()
 }
 
 /// Writes a string literal.
 #[tactic(auto, unfolding(crate::specs::Parts::literal))]
-pub fn write_str(w: &mut Writer<'_>, literal: &Str) -> Result<(), AllocError>
-    ensures { OnOk result (Appends w.old w.new (json w.old.source plain (view_str literal.now))) }
+pub fn write_str<const BINARY: bool>(
+    w: &mut Writer<'_, BINARY>,
+    literal: &Str,
+) -> Result<(), AllocError>
+    ensures { OnOk result (Appends w.old w.new (written BINARY w.old.source plain (view_str literal.now))) }
 {
     w.open("Literal", literal.span)?;
     w.key("value")?;
-    w.string(literal.value.as_str(), literal.raw.as_str())?;
-    w.key("raw")?;
-    w.quoted(literal.raw.as_str())?;
+    w.string(literal.value.as_str(), literal.raw.as_str(), literal.span)?;
+    write_raw(w, literal.raw.as_str(), literal.span)?;
     w.end()
 }
 
 /// Writes a literal that is a word.
 #[tactic(auto, unfolding(crate::specs::Parts::literal))]
-fn write_word(w: &mut Writer<'_>, word: &str, span: Span) -> Result<(), AllocError>
+fn write_word<const BINARY: bool>(
+    w: &mut Writer<'_, BINARY>,
+    word: &str,
+    span: Span,
+) -> Result<(), AllocError>
     ensures { OnOk result
-        (Appends w.old w.new (parts.literal w.old.source span word.now word.now)) }
+        (Appends w.old w.new (parts.literal BINARY w.old.source span (parts.constant BINARY word.now) word.now)) }
 {
     w.open("Literal", span)?;
     w.key("value")?;
-    w.raw(word)?;
-    w.key("raw")?;
-    w.quoted(word)?;
+    w.constant(word)?;
+    write_raw(w, word, span)?;
     w.end()
 }
 
 /// Writes a number literal.
 #[tactic(auto, unfolding(crate::specs::Parts::literal))]
-pub fn write_number(w: &mut Writer<'_>, raw: &str, span: Span) -> Result<(), AllocError>
+pub fn write_number<const BINARY: bool>(
+    w: &mut Writer<'_, BINARY>,
+    raw: &str,
+    span: Span,
+) -> Result<(), AllocError>
     ensures { OnOk result
-        (Appends w.old w.new (parts.literal w.old.source span (number_text raw.now) raw.now)) }
+        (Appends w.old w.new (parts.literal BINARY w.old.source span (parts.number_value BINARY w.old.source raw.now span) raw.now)) }
 {
     w.open("Literal", span)?;
     w.key("value")?;
-    w.number(raw)?;
-    w.key("raw")?;
-    w.quoted(raw)?;
+    w.number(raw, span)?;
+    write_raw(w, raw, span)?;
     w.end()
 }
 
 /// Writes a big integer literal. JSON has no such numbers, so its value is `null`.
 #[tactic(auto, unfolding(crate::specs::Parts::big_literal))]
-pub fn write_big_int(w: &mut Writer<'_>, literal: &BigInt) -> Result<(), AllocError>
+pub fn write_big_int<const BINARY: bool>(
+    w: &mut Writer<'_, BINARY>,
+    literal: &BigInt,
+) -> Result<(), AllocError>
     ensures { OnOk result
-        (Appends w.old w.new (json w.old.source plain (view_big_int literal.now))) }
+        (Appends w.old w.new (written BINARY w.old.source plain (view_big_int literal.now))) }
 {
     w.open("Literal", literal.span)?;
     write_nothing(w, "value")?;
-    write_text(w, "raw", literal.raw.as_str())?;
+    write_raw(w, literal.raw.as_str(), literal.span)?;
     write_digits(w, "bigint", literal.raw.as_str())?;
     w.end()
 }
 
 /// Writes the value of a regular expression, for which JSON has no form, and how it is written.
-fn write_regex_value(w: &mut Writer<'_>, literal: &Regex) -> Result<(), AllocError>
+fn write_regex_value<const BINARY: bool>(
+    w: &mut Writer<'_, BINARY>,
+    literal: &Regex,
+) -> Result<(), AllocError>
     ensures { OnOk result
         (Appends w.old w.new
-        (parts.key (codes "value") ++ (codes "{}" ++ (parts.key (codes "raw")
-        ++ quoted (regex_text literal.now.exp literal.now.flags))))) }
+        (parts.key BINARY (codes "value") ++ (parts.constant BINARY (codes "{}") ++ (parts.key BINARY (codes "raw")
+        ++ parts.text_value BINARY (regex_text literal.now.exp literal.now.flags))))) }
 {
     w.key("value")?;
-    w.raw("{}")?;
+    w.constant("{}")?;
     w.key("raw")?;
     w.regex(literal.exp.as_str(), literal.flags.as_str())
 }
 
 /// Writes the parts of a regular expression.
-fn write_regex_parts(w: &mut Writer<'_>, literal: &Regex) -> Result<(), AllocError>
+fn write_regex_parts<const BINARY: bool>(
+    w: &mut Writer<'_, BINARY>,
+    literal: &Regex,
+) -> Result<(), AllocError>
     ensures { OnOk result
         (Appends w.old w.new
-        (parts.key (codes "regex") ++ (parts.first_key (codes "pattern") ++ (quoted literal.now.exp
-        ++ (parts.key (codes "flags") ++ (quoted literal.now.flags ++ end)))))) }
+        (parts.key BINARY (codes "regex") ++ (parts.first_key BINARY (codes "pattern") ++ (parts.text_value BINARY literal.now.exp
+        ++ (parts.key BINARY (codes "flags") ++ (parts.text_value BINARY literal.now.flags ++ end BINARY)))))) }
 {
     w.key("regex")?;
     w.first_key("pattern")?;
-    w.quoted(literal.exp.as_str())?;
-    write_text(w, "flags", literal.flags.as_str())?;
+    w.text(literal.exp.as_str())?;
+    w.key("flags")?;
+    w.text(literal.flags.as_str())?;
     w.end()
 }
 
 /// Writes a regular expression.
 #[tactic(auto, unfolding(crate::specs::Parts::regex_literal))]
-pub fn write_regex(w: &mut Writer<'_>, literal: &Regex) -> Result<(), AllocError>
-    ensures { OnOk result (Appends w.old w.new (json w.old.source plain (view_regex literal.now))) }
+pub fn write_regex<const BINARY: bool>(
+    w: &mut Writer<'_, BINARY>,
+    literal: &Regex,
+) -> Result<(), AllocError>
+    ensures { OnOk result (Appends w.old w.new (written BINARY w.old.source plain (view_regex literal.now))) }
 {
     w.open("Literal", literal.span)?;
     write_regex_value(w, literal)?;
@@ -190,48 +218,65 @@ pub fn write_regex(w: &mut Writer<'_>, literal: &Regex) -> Result<(), AllocError
 }
 
 /// Writes a text, or `null`.
-fn write_optional_text(w: &mut Writer<'_>, text: &Option<Atom>) -> Result<(), AllocError>
-    ensures { OnOk result (Appends w.old w.new (parts.optional_text text.now)) }
+fn write_optional_text<const BINARY: bool>(
+    w: &mut Writer<'_, BINARY>,
+    text: &Option<Atom>,
+    start: usize,
+    end: usize,
+) -> Result<(), AllocError>
+    ensures { OnOk result
+        (Appends w.old w.new (parts.optional_text BINARY w.old.source text.now start end)) }
 {
     match text {
-        Some(text) => w.quoted(text.as_str()),
+        Some(text) => w.own(text.as_str(), start, end),
         None => w.nothing(),
     }
 }
 
 /// Writes how a text of a template is written, and what it says.
-fn write_element_value(w: &mut Writer<'_>, element: &TplElement) -> Result<(), AllocError>
+fn write_element_value<const BINARY: bool>(
+    w: &mut Writer<'_, BINARY>,
+    element: &TplElement,
+    start: usize,
+    end: usize,
+) -> Result<(), AllocError>
     ensures { OnOk result
         (Appends w.old w.new
-        (parts.key (codes "value") ++ (parts.first_key (codes "raw") ++ (quoted element.now.raw
-        ++ (parts.key (codes "cooked") ++ (parts.optional_text element.now.cooked ++ end)))))) }
+        (parts.key BINARY (codes "value") ++ (parts.first_key BINARY (codes "raw") ++ (parts.own_text BINARY w.old.source element.now.raw start end
+        ++ (parts.key BINARY (codes "cooked") ++ (parts.optional_text BINARY w.old.source element.now.cooked start end ++ end BINARY)))))) }
 {
     w.key("value")?;
     w.first_key("raw")?;
-    w.quoted(element.raw.as_str())?;
+    w.own(element.raw.as_str(), start, end)?;
     w.key("cooked")?;
-    write_optional_text(w, &element.cooked)?;
+    write_optional_text(w, &element.cooked, start, end)?;
     w.end()
 }
 
 /// Writes a text of a template, which stands between its marks.
 #[tactic(auto, unfolding(crate::specs::Parts::template_element))]
-pub fn write_template_element(w: &mut Writer<'_>, element: &TplElement) -> Result<(), AllocError>
+pub fn write_template_element<const BINARY: bool>(
+    w: &mut Writer<'_, BINARY>,
+    element: &TplElement,
+) -> Result<(), AllocError>
     ensures { OnOk result
-        (Appends w.old w.new (json w.old.source plain (view_tpl_element element.now))) }
+        (Appends w.old w.new (written BINARY w.old.source plain (view_tpl_element element.now))) }
 {
     let start = element.span.lo.0 as usize + 1;
     let mark_len = if element.tail { 1 } else { 2 };
     let end = (element.span.hi.0 as usize).saturating_sub(mark_len);
     w.open_at("TemplateElement", start, end)?;
-    write_element_value(w, element)?;
+    write_element_value(w, element, start, end)?;
     w.flag("tail", element.tail)?;
     w.end()
 }
 
 /// Writes a literal.
-pub fn write_literal(w: &mut Writer<'_>, literal: &Lit) -> Result<(), AllocError>
-    ensures { OnOk result (Appends w.old w.new (json w.old.source plain (view_lit literal.now))) }
+pub fn write_literal<const BINARY: bool>(
+    w: &mut Writer<'_, BINARY>,
+    literal: &Lit,
+) -> Result<(), AllocError>
+    ensures { OnOk result (Appends w.old w.new (written BINARY w.old.source plain (view_lit literal.now))) }
 {
     match literal {
         Lit::Str(x) => write_str(w, x),
@@ -245,13 +290,13 @@ pub fn write_literal(w: &mut Writer<'_>, literal: &Lit) -> Result<(), AllocError
 
 /// Writes a word of the language as a name.
 #[tactic(auto, unfolding(crate::specs::Parts::word_name))]
-fn write_word_name(
-    w: &mut Writer<'_>,
+fn write_word_name<const BINARY: bool>(
+    w: &mut Writer<'_, BINARY>,
     word: &str,
     start: usize,
     end: usize,
 ) -> Result<(), AllocError>
-    ensures { OnOk result (Appends w.old w.new (parts.word_name w.old.source word.now start end)) }
+    ensures { OnOk result (Appends w.old w.new (parts.word_name BINARY w.old.source word.now start end)) }
 {
     w.open_at("Identifier", start, end)?;
     w.word("name", word)?;
@@ -259,8 +304,8 @@ fn write_word_name(
 }
 
 /// Writes two words of the language with a point between them, of so many bytes.
-fn write_words(
-    w: &mut Writer<'_>,
+fn write_words<const BINARY: bool>(
+    w: &mut Writer<'_, BINARY>,
     span: Span,
     first: &str,
     first_len: usize,
@@ -270,9 +315,9 @@ fn write_words(
     requires { first_len < 100 }
     ensures { OnOk result
         (Appends w.old w.new
-        (parts.node w.old.source (codes "MetaProperty") span ++ (parts.key (codes "meta")
-        ++ (parts.word_name w.old.source first.now span.lo.0 (span.lo.0 + first_len) ++ (parts.key (codes "property")
-        ++ (parts.word_name w.old.source second.now (span.hi.0 - second_len) span.hi.0 ++ parts.end)))))) }
+        (parts.node BINARY w.old.source (codes "MetaProperty") span ++ (parts.key BINARY (codes "meta")
+        ++ (parts.word_name BINARY w.old.source first.now span.lo.0 (span.lo.0 + first_len) ++ (parts.key BINARY (codes "property")
+        ++ (parts.word_name BINARY w.old.source second.now (span.hi.0 - second_len) span.hi.0 ++ parts.end BINARY)))))) }
 {
     let start = span.lo.0 as usize;
     let end = span.hi.0 as usize;
@@ -285,9 +330,12 @@ fn write_words(
 }
 
 /// Writes `import.meta` or `new.target`.
-pub fn write_meta(w: &mut Writer<'_>, meta: &MetaPropExpr) -> Result<(), AllocError>
+pub fn write_meta<const BINARY: bool>(
+    w: &mut Writer<'_, BINARY>,
+    meta: &MetaPropExpr,
+) -> Result<(), AllocError>
     ensures { OnOk result
-        (Appends w.old w.new (json w.old.source plain (view_meta_prop_expr meta.now))) }
+        (Appends w.old w.new (written BINARY w.old.source plain (view_meta_prop_expr meta.now))) }
 {
     match meta.kind {
         MetaPropKind::ImportMeta => write_words(w, meta.span, "import", 6, "meta", 4),

@@ -38,7 +38,7 @@ one_status w v given text a b out other settled h k =
 
 same_tree : (o : Options) (text : List ℕ) (x y : Result Tree Error) (fs gs : List Fault) → parser.IsSame view_tree x fs y gs
     → (out other : List ℕ) → IsTreeAlone o text x out → IsTreeAlone o text y other → out ≡ other
-same_tree o text (Ok x) (Ok y) fs gs s out other h k = one_estree o text (view_tree x) (view_tree y) s.0 out other h k
+same_tree o text (Ok x) (Ok y) fs gs s out other h k = one_estree false o text (view_tree x) (view_tree y) s.0 out other h k
 same_tree o text (Err e) (Err f) fs gs s out other h k = h ∙ sym k
 same_tree o text (Ok x) (Err f) fs gs s out other h k = absurd s
 same_tree o text (Err e) (Ok y) fs gs s out other h k = absurd s

@@ -5,6 +5,7 @@ use Rattle.ecma_answers.specs.declared.options.Options.{Options}
 use Rattle.ecma_answers.specs.declared.outcome.Outcome.{Outcome}
 use Rattle.ecma_answers.specs.declared.findings.Findings.{Findings}
 use Rattle.ecma_answers.specs.declared.parsing.Tree.{Tree}
+use Rattle.ecma_answers.specs.Binary.{IsBinaryAnswer}
 use Rattle.ecma_answers.specs.Listed.{IsAnswer}
 use Rattle.ecma_answers.specs.Outcomes.{outcome_of}
 use Rattle.ecma_answers.specs.Found.{Finds}
@@ -39,6 +40,7 @@ IsTreeAlone o text (Err e) out = out ≡ []
 abbrev pub IsWritten : Wanted → Options → List ℕ → Findings → List ℕ → Type 0
 IsWritten wanted.Tree o text f out = IsTreeAlone o text f.reading.tree out
 IsWritten wanted.Answer o text f out = IsAnswer o text f out
+IsWritten wanted.Binary o text f out = IsBinaryAnswer o text f out
 
 -- A text that was read as it is asked for: how it comes out, and what is written of it. A clean outcome says that the text spells the tree, without
 -- an early error if they are asked for, and a text that does so has that outcome.

@@ -7,7 +7,7 @@ use crate::failure::Failure;
 use crate::given::text_of;
 use crate::options::{EcmaOptions, options_of};
 use crate::room::put;
-use ecma_answers::{Findings, Options, Outcome, answer, find, write};
+use ecma_answers::{Findings, Options, Outcome, answer, binary_answer, find, write};
 use std::alloc::{AllocError, Global};
 
 /// What is written of a text.
@@ -17,6 +17,8 @@ pub(crate) enum Wanted {
     Tree,
     /// The tree and the faults.
     Answer,
+    /// The same in the binary form.
+    Binary,
 }
 
 /// How a text comes out, and what is written of it.
@@ -39,6 +41,7 @@ fn written(
 {
     match (wanted, &found.reading.tree) {
         (Wanted::Answer, _) => answer(alloc, options, text, found),
+        (Wanted::Binary, _) => binary_answer(alloc, options, text, found),
         (Wanted::Tree, Ok(tree)) => write(alloc, options, text, tree),
         (Wanted::Tree, Err(_)) => Ok(Vec::new(alloc)),
     }

@@ -56,6 +56,21 @@ pub extern "C" fn ecma_parse_tree(
     status_of(put_answer(alloc, Wanted::Tree, text, options, out, needed))
 }
 
+/// The tree and the faults of a text in the binary form, which `docs/BINARY.md` describes. `needed` becomes its length.
+#[unsafe(no_mangle)]
+pub extern "C" fn ecma_parse_binary(
+    alloc: Global,
+    text: &[u8],
+    options: &EcmaOptions,
+    out: &mut [u8],
+    needed: &mut usize,
+) -> i32
+    ensures { (end : Result Outcome Failure) × (result ≡ number_of end)
+        × Ends Wanted.Binary options.now text.now end out.old out.new needed.new }
+{
+    status_of(put_answer(alloc, Wanted::Binary, text, options, out, needed))
+}
+
 /// The faults of a text one by one: those that were recorded, the early errors of its tree, and why there is no tree. `needed` becomes their
 /// count, and the length of their words.
 #[unsafe(no_mangle)]

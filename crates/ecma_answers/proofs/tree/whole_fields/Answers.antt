@@ -7,7 +7,7 @@ use Rattle.ecma_answers.proofs.Drawing.{fields_drawn, whole_begins, whole_commen
 use Rattle.ecma_answers.proofs.tree.whole_fields.Goals as goal
 
 pub returns : goal.returns
-returns c =
+returns g c =
     let o = c.args.options in
     let text = c.args.places.now.text in
     let x = view_tree c.args.tree.now in
@@ -19,4 +19,4 @@ returns c =
     let tokens = whole_tokens o text x c.code_goal.result _ c.as_slice-2.result.now source c.code_goal.ensures (c.as_slice-2.ensures.value ∙ c.in_ok-tokens.ensures.tokens) in
     let comments = whole_comments_drawn o x c.code_goal.result input.result.start input.result.src.now text lexer.result.lexer.comments _ _ _ c.as_slice.result.now
     c.code_goal.ensures input.ensures.start given lexer.ensures.comments c.in_ok-tokens.ensures.comments (c.as_slice.ensures.value ∙ c.in_ok-comments.ensures.comments) c.in_ok-comments.ensures.lossy c.in_ok-tokens.ensures.ended in
-    fields_drawn (λ y. y.items) c.written_fields.result language.Whole o text x c.args.places.now c.as_slice.result.now c.as_slice-2.result.now c.requires.places tokens comments c.written_fields.ensures
+    fields_drawn g.row.BINARY (λ y. y.items) c.written_fields.result language.Whole o text x c.args.places.now c.as_slice.result.now c.as_slice-2.result.now c.requires.places tokens comments c.written_fields.ensures

@@ -4,7 +4,7 @@ use Rattle.ecma_estree_exprs.proofs.Steps.{where_ok}
 use Rattle.ecma_estree.proofs.exports.push_empty_list.Goals as goal
 
 pub returns : goal.returns
-returns c =
+returns g c =
     where_ok c.push-3.result c.push-3.ensures (λ h.
     let e1 = c.in_ok-push.ensures in
     let e2 = c.in_ok-push-2.ensures in

@@ -4,4 +4,4 @@ use Rattle.ecma_estree_exprs.proofs.Steps.{where_ok}
 use Rattle.ecma_estree.proofs.exports.write_default.Goals as goal
 
 pub returns-in-Class : goal.returns-in-Class
-returns-in-Class c = where_ok c.write_class.result c.write_class.ensures (λ h. rw c.in-Class.is (rw c.deref.ensures at h))
+returns-in-Class g c = where_ok c.write_class.result c.write_class.ensures (λ h. rw c.in-Class.is (rw c.deref.ensures at h))

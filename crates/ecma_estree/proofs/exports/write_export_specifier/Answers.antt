@@ -3,4 +3,4 @@ use Rattle.std.proofs.Common.{refl}
 use Rattle.ecma_estree.proofs.exports.write_export_specifier.Goals as goal
 
 pub returns-in-Namespace : goal.returns-in-Namespace
-returns-in-Namespace c = rw c.in-Namespace.is c.write_exported.ensures
+returns-in-Namespace g c = rw c.in-Namespace.is c.write_exported.ensures

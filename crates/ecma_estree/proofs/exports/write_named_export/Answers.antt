@@ -2,7 +2,7 @@
 use Rattle.std.proofs.Common.{codes, map, ◌++◌, ◌∙◌}
 use Rattle.ecma_estree_exprs.proofs.Steps.{after, after_two, both, ground, onto, where_ok}
 use Rattle.ecma_estree_writer.specs.Parts.{node, key, end, open_list, end_list, nothing}
-use Rattle.ecma_estree_writer.specs.Estree.{json, plain, attributes}
+use Rattle.ecma_estree_writer.specs.Estree.{written, plain, attributes}
 use Rattle.swc_ecma_parser_ast.specs.Parts.{view_option}
 use Rattle.swc_ecma_parser_ast.specs.View.{view_str, view_object_lit, view_export_specifier}
 use Rattle.swc_ecma_parser_model.specs.Tree.{listed}
@@ -10,13 +10,13 @@ use Rattle.ecma_estree.proofs.Exported.{written_alone}
 use Rattle.ecma_estree.proofs.exports.write_named_export.Goals as goal
 
 pub returns-in-Some : goal.returns-in-Some
-returns-in-Some c =
+returns-in-Some g c =
     let x = c.args.x.now in
     where_ok c.write_namespace_export.result c.write_namespace_export.ensures (λ h.
-    (h.0, rw (written_alone c.args.w.now.source x.span (listed (map view_export_specifier x.specifiers.items)) (view_option view_str x.src) (view_option view_object_lit x.with) c.in-Some.namespace.now (simp c.as_slice.ensures.value at c.in-Some.ensures)) h.1))
+    (h.0, rw (written_alone g.row.BINARY c.args.w.now.source x.span (listed (map view_export_specifier x.specifiers.items)) (view_option view_str x.src) (view_option view_object_lit x.with) c.in-Some.namespace.now (simp c.as_slice.ensures.value at c.in-Some.ensures)) h.1))
 
 pub returns : goal.returns
-returns c =
+returns g c =
     let t = c.args.w.now.source in
     let p = c.args.w.now.pending in
     let x = c.args.x.now in
@@ -32,14 +32,14 @@ returns c =
     let s5 = e5.0 ∙ s4 in
     let s6 = e6.0 ∙ s5 in
     where_ok c.push-2.result c.push-2.ensures (λ h.
-    let x1 = node t (codes "ExportNamedDeclaration") x.span in
-    let x2 = key (codes "declaration") in
-    let x3 = nothing in
-    let x4a = key (codes "specifiers") in
-    let x4b = open_list in
-    let x5 = key (codes "source") ++ (json t plain (view_option view_str x.src) ++ (key (codes "attributes") ++ (open_list ++ (json t attributes (view_option view_object_lit x.with) ++ (end_list ++ end))))) in
-    let x6 = end_list in
-    let x7 = json t plain (listed (map view_export_specifier x.specifiers.items)) in
+    let x1 = node g.row.BINARY t (codes "ExportNamedDeclaration") x.span in
+    let x2 = key g.row.BINARY (codes "declaration") in
+    let x3 = nothing g.row.BINARY in
+    let x4a = key g.row.BINARY (codes "specifiers") in
+    let x4b = open_list g.row.BINARY in
+    let x5 = key g.row.BINARY (codes "source") ++ (written g.row.BINARY t plain (view_option view_str x.src) ++ (key g.row.BINARY (codes "attributes") ++ (open_list g.row.BINARY ++ (written g.row.BINARY t attributes (view_option view_object_lit x.with) ++ (end_list g.row.BINARY ++ end g.row.BINARY))))) in
+    let x6 = end_list g.row.BINARY in
+    let x7 = written g.row.BINARY t plain (listed (map view_export_specifier x.specifiers.items)) in
     let q5 = ground x5 (simp s4 at e5.2) (e4.2 ∙ e3.2 ∙ e2.2 ∙ e1.2) in
     let q6 = onto p x5 x6 e6.2 (q5) in
     let r6 = x6 ++ x5 in

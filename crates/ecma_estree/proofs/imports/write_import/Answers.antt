@@ -2,14 +2,14 @@
 use Rattle.std.proofs.Common.{codes, map, ◌++◌, ◌∙◌}
 use Rattle.ecma_estree_exprs.proofs.Steps.{after, after_two, both, ground, onto, onto_four, where_ok}
 use Rattle.ecma_estree_writer.specs.Parts.{node, key, end, open_list, end_list, phase_field}
-use Rattle.ecma_estree_writer.specs.Estree.{json, plain, attributes}
+use Rattle.ecma_estree_writer.specs.Estree.{written, plain, attributes}
 use Rattle.swc_ecma_parser_ast.specs.Parts.{view_option}
 use Rattle.swc_ecma_parser_ast.specs.View.{view_str, view_import_specifier, view_object_lit}
 use Rattle.swc_ecma_parser_model.specs.Tree.{listed}
 use Rattle.ecma_estree.proofs.imports.write_import.Goals as goal
 
 pub returns : goal.returns
-returns c =
+returns g c =
     let t = c.args.w.now.source in
     let p = c.args.w.now.pending in
     let x = c.args.x.now in
@@ -29,19 +29,19 @@ returns c =
     let s7 = e7.0 ∙ s6 in
     let s8 = e8.0 ∙ s7 in
     where_ok c.push-5.result c.push-5.ensures (λ h.
-    let x1 = node t (codes "ImportDeclaration") x.span in
-    let x2a = key (codes "specifiers") in
-    let x2b = open_list in
-    let x3 = end in
-    let x4 = phase_field x.phase in
-    let x5a = key (codes "attributes") in
-    let x5b = open_list in
-    let x5c = json t attributes (view_option view_object_lit x.with) in
-    let x5d = end_list in
-    let x6 = json t plain (view_str x.src) in
-    let x7 = key (codes "source") in
-    let x8 = end_list in
-    let x9 = json t plain (listed (map view_import_specifier x.specifiers.items)) in
+    let x1 = node g.row.BINARY t (codes "ImportDeclaration") x.span in
+    let x2a = key g.row.BINARY (codes "specifiers") in
+    let x2b = open_list g.row.BINARY in
+    let x3 = end g.row.BINARY in
+    let x4 = phase_field g.row.BINARY x.phase in
+    let x5a = key g.row.BINARY (codes "attributes") in
+    let x5b = open_list g.row.BINARY in
+    let x5c = written g.row.BINARY t attributes (view_option view_object_lit x.with) in
+    let x5d = end_list g.row.BINARY in
+    let x6 = written g.row.BINARY t plain (view_str x.src) in
+    let x7 = key g.row.BINARY (codes "source") in
+    let x8 = end_list g.row.BINARY in
+    let x9 = written g.row.BINARY t plain (listed (map view_import_specifier x.specifiers.items)) in
     let q3 = ground x3 e3.2 (e2.2 ∙ e1.2) in
     let q4 = onto p x3 x4 e4.2 (q3) in
     let r4 = x4 ++ x3 in

@@ -3,7 +3,7 @@ use Rattle.std.proofs.Common.{refl}
 use Rattle.ecma_estree.proofs.imports.write_import_specifier.Goals as goal
 
 pub returns-in-Default : goal.returns-in-Default
-returns-in-Default c = rw c.in-Default.is c.write_local.ensures
+returns-in-Default g c = rw c.in-Default.is c.write_local.ensures
 
 pub returns-in-Namespace : goal.returns-in-Namespace
-returns-in-Namespace c = rw c.in-Namespace.is c.write_local-in-Namespace.ensures
+returns-in-Namespace g c = rw c.in-Namespace.is c.write_local-in-Namespace.ensures

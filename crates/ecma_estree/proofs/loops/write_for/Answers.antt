@@ -2,13 +2,13 @@
 use Rattle.std.proofs.Common.{codes, ◌++◌, ◌∙◌}
 use Rattle.ecma_estree_exprs.proofs.Steps.{after, from, ground, onto, under, where_ok}
 use Rattle.ecma_estree_writer.specs.Parts.{node, key, end}
-use Rattle.ecma_estree_writer.specs.Estree.{json, plain}
+use Rattle.ecma_estree_writer.specs.Estree.{written, plain}
 use Rattle.swc_ecma_parser_ast.specs.Parts.{view_option}
 use Rattle.swc_ecma_parser_ast.specs.View.{view_var_decl_or_expr}
 use Rattle.ecma_estree.proofs.loops.write_for.Goals as goal
 
 pub returns : goal.returns
-returns c =
+returns g c =
     let t = c.args.w.now.source in
     let p = c.args.w.now.pending in
     let x = c.args.x.now in
@@ -30,16 +30,16 @@ returns c =
     let s8 = e8.0 ∙ s7 in
     let s9 = e9.0 ∙ s8 in
     where_ok c.write_optional_init.result c.write_optional_init.ensures (λ h.
-    let x1 = node t (codes "ForStatement") x.span in
-    let x2 = key (codes "init") in
-    let x3 = end in
-    let x4 = json t plain x.body.node.tree in
-    let x5 = key (codes "body") in
-    let x6 = json t plain (view_option (λ b. b.node.tree) x.update) in
-    let x7 = key (codes "update") in
-    let x8 = json t plain (view_option (λ b. b.node.tree) x.test) in
-    let x9 = key (codes "test") in
-    let x10 = json t plain (view_option view_var_decl_or_expr x.init) in
+    let x1 = node g.row.BINARY t (codes "ForStatement") x.span in
+    let x2 = key g.row.BINARY (codes "init") in
+    let x3 = end g.row.BINARY in
+    let x4 = written g.row.BINARY t plain x.body.node.tree in
+    let x5 = key g.row.BINARY (codes "body") in
+    let x6 = written g.row.BINARY t plain (view_option (λ b. b.node.tree) x.update) in
+    let x7 = key g.row.BINARY (codes "update") in
+    let x8 = written g.row.BINARY t plain (view_option (λ b. b.node.tree) x.test) in
+    let x9 = key g.row.BINARY (codes "test") in
+    let x10 = written g.row.BINARY t plain (view_option view_var_decl_or_expr x.init) in
     let q3 = ground x3 e3.2 (e2.2 ∙ e1.2) in
     let q4 = onto p x3 x4 (simp s3 at e4.2) (q3) in
     let r4 = x4 ++ x3 in

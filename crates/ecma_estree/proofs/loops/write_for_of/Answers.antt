@@ -4,7 +4,7 @@ use Rattle.ecma_estree_exprs.proofs.Steps.{where_ok}
 use Rattle.ecma_estree.proofs.loops.write_for_of.Goals as goal
 
 pub returns : goal.returns
-returns c =
+returns g c =
     where_ok c.write_head.result c.write_head.ensures (λ h.
     let e1 = c.in_ok-open.ensures in
     let e2 = c.in_ok-flag.ensures in

@@ -3,4 +3,4 @@ use Rattle.std.proofs.Common.{◌≡◌, ◌++◌}
 use Rattle.ecma_estree.proofs.run.finish.Given as goal
 
 abbrev pub invariant-loop : goal.invariant-loop
-invariant-loop l = l.w.written ++ l.w.pending ≡ l.initial.w.written ++ l.initial.w.pending
+invariant-loop g l = l.w.written ++ l.w.pending ≡ l.initial.w.written ++ l.initial.w.pending

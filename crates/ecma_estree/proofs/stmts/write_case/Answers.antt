@@ -2,14 +2,14 @@
 use Rattle.std.proofs.Common.{codes, map, ◌++◌, ◌∙◌}
 use Rattle.ecma_estree_exprs.proofs.Steps.{after, after_two, both, ground, onto, where_ok}
 use Rattle.ecma_estree_writer.specs.Parts.{node, key, end, open_list, end_list}
-use Rattle.ecma_estree_writer.specs.Estree.{json, plain}
+use Rattle.ecma_estree_writer.specs.Estree.{written, plain}
 use Rattle.swc_ecma_parser_ast.specs.Parts.{view_option}
 use Rattle.swc_ecma_parser_ast.specs.View.{view_stmt}
 use Rattle.swc_ecma_parser_model.specs.Tree.{listed}
 use Rattle.ecma_estree.proofs.stmts.write_case.Goals as goal
 
 pub returns : goal.returns
-returns c =
+returns g c =
     let t = c.args.w.now.source in
     let p = c.args.w.now.pending in
     let x = c.args.x.now in
@@ -25,14 +25,14 @@ returns c =
     let s5 = e5.0 ∙ s4 in
     let s6 = e6.0 ∙ s5 in
     where_ok c.push-4.result c.push-4.ensures (λ h.
-    let x1 = node t (codes "SwitchCase") x.span in
-    let x2a = key (codes "consequent") in
-    let x2b = open_list in
-    let x3 = end in
-    let x4 = json t plain (view_option (λ b. b.node.tree) x.test) in
-    let x5 = key (codes "test") in
-    let x6 = end_list in
-    let x7 = json t plain (listed (map view_stmt c.in-Some.stmts.now.items)) in
+    let x1 = node g.row.BINARY t (codes "SwitchCase") x.span in
+    let x2a = key g.row.BINARY (codes "consequent") in
+    let x2b = open_list g.row.BINARY in
+    let x3 = end g.row.BINARY in
+    let x4 = written g.row.BINARY t plain (view_option (λ b. b.node.tree) x.test) in
+    let x5 = key g.row.BINARY (codes "test") in
+    let x6 = end_list g.row.BINARY in
+    let x7 = written g.row.BINARY t plain (listed (map view_stmt c.in-Some.stmts.now.items)) in
     let q3 = ground x3 e3.2 (e2.2 ∙ e1.2) in
     let q4 = onto p x3 x4 (simp s3 at e4.2) (q3) in
     let r4 = x4 ++ x3 in

@@ -2,13 +2,13 @@
 use Rattle.std.proofs.Common.{codes, ◌++◌, ◌∙◌}
 use Rattle.ecma_estree_exprs.proofs.Steps.{after, both, ground, onto, where_ok}
 use Rattle.ecma_estree_writer.specs.Parts.{node, key, end}
-use Rattle.ecma_estree_writer.specs.Estree.{json, plain}
+use Rattle.ecma_estree_writer.specs.Estree.{written, plain}
 use Rattle.swc_ecma_parser_ast.specs.Parts.{view_option}
 use Rattle.swc_ecma_parser_ast.specs.View.{view_block_stmt, view_catch_clause}
 use Rattle.ecma_estree.proofs.stmts.write_try.Goals as goal
 
 pub returns : goal.returns
-returns c =
+returns g c =
     let t = c.args.w.now.source in
     let p = c.args.w.now.pending in
     let x = c.args.x.now in
@@ -26,14 +26,14 @@ returns c =
     let s6 = e6.0 ∙ s5 in
     let s7 = e7.0 ∙ s6 in
     where_ok c.push-4.result c.push-4.ensures (λ h.
-    let x1 = node t (codes "TryStatement") x.span in
-    let x2 = key (codes "block") in
-    let x3 = end in
-    let x4 = json t plain (view_option view_block_stmt x.finalizer) in
-    let x5 = key (codes "finalizer") in
-    let x6 = json t plain (view_option view_catch_clause x.handler) in
-    let x7 = key (codes "handler") in
-    let x8 = json t plain (view_block_stmt x.block) in
+    let x1 = node g.row.BINARY t (codes "TryStatement") x.span in
+    let x2 = key g.row.BINARY (codes "block") in
+    let x3 = end g.row.BINARY in
+    let x4 = written g.row.BINARY t plain (view_option view_block_stmt x.finalizer) in
+    let x5 = key g.row.BINARY (codes "finalizer") in
+    let x6 = written g.row.BINARY t plain (view_option view_catch_clause x.handler) in
+    let x7 = key g.row.BINARY (codes "handler") in
+    let x8 = written g.row.BINARY t plain (view_block_stmt x.block) in
     let q3 = ground x3 e3.2 (e2.2 ∙ e1.2) in
     let q4 = onto p x3 x4 (simp s3 at e4.2) (q3) in
     let r4 = x4 ++ x3 in

@@ -7,10 +7,10 @@ use Rattle.swc_ecma_parser_model.specs.Tree.{listed}
 use Rattle.ecma_estree_exprs.proofs.chains.write_linked_call.Goals as goal
 
 pub returns : goal.returns
-returns c =
+returns g c =
     where_ok c.push-7.result c.push-7.ensures (λ h.
     let x = c.args.x.now in
-    let whole = linked_call_of_expr c.args.w.now.source x.span c.args.optional x.callee.node.tree (listed (map view_expr_or_spread x.args.items)) in
+    let whole = linked_call_of_expr g.row.BINARY c.args.w.now.source x.span c.args.optional x.callee.node.tree (listed (map view_expr_or_spread x.args.items)) in
     let e1 = c.in_ok-open.ensures in
     let e2 = c.in_ok-key.ensures in
     let e3 = c.in_ok-push.ensures in

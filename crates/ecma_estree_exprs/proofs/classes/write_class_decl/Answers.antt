@@ -2,12 +2,12 @@
 use Rattle.std.proofs.Common.{codes, ◌++◌, ◌∙◌}
 use Rattle.ecma_estree_exprs.proofs.Steps.{after, over, where_ok}
 use Rattle.ecma_estree_writer.specs.Parts.{node, key}
-use Rattle.ecma_estree_writer.specs.Estree.{json, plain, class_rest}
+use Rattle.ecma_estree_writer.specs.Estree.{written, plain, class_rest}
 use Rattle.swc_ecma_parser_ast.specs.View.{view_ident, view_class}
 use Rattle.ecma_estree_exprs.proofs.classes.write_class_decl.Goals as goal
 
 pub returns : goal.returns
-returns c =
+returns g c =
     let t = c.args.w.now.source in
     let p = c.args.w.now.pending in
     let x = c.args.x.now in
@@ -17,10 +17,10 @@ returns c =
     let s2 = e2.0 ∙ e1.0 in
     let s3 = e3.0 ∙ s2 in
     where_ok c.write_rest.result c.write_rest.ensures (λ h.
-    let x1 = node t (codes "ClassDeclaration") x.span in
-    let x2 = key (codes "id") in
-    let x3 = json t plain (view_ident c.args.name.now) in
-    let x4 = class_rest t c.args.name.now.span.hi.0 (view_class x) in
+    let x1 = node g.row.BINARY t (codes "ClassDeclaration") x.span in
+    let x2 = key g.row.BINARY (codes "id") in
+    let x3 = written g.row.BINARY t plain (view_ident c.args.name.now) in
+    let x4 = class_rest g.row.BINARY t c.args.name.now.span.hi.0 (view_class x) in
     let z3 = over c.write_name.new.w.written x4 (simp s3 at h.1) (e3.2 ∙ e2.2 ∙ e1.2) in
     let y3 = x4 in
     let z2 = after y3 p c.key.new.self.written x3 z3 (simp s2 at e3.1) in

@@ -4,7 +4,7 @@ use Rattle.ecma_estree_exprs.proofs.Steps.{where_ok}
 use Rattle.ecma_estree_exprs.proofs.functions.write_method_value.Goals as goal
 
 pub returns : goal.returns
-returns c =
+returns g c =
     where_ok c.write_rest.result c.write_rest.ensures (λ h.
     let e1 = c.in_ok-open_at.ensures in
     let e2 = c.in_ok-key.ensures in

@@ -2,7 +2,7 @@
 use Rattle.std.proofs.Common.{codes, map, false, ◌++◌, ◌∙◌}
 use Rattle.ecma_estree_exprs.proofs.Steps.{after, from, ground, onto, onto_four, under, where_ok}
 use Rattle.ecma_estree_writer.specs.Parts.{key, word_field, end, open_list, end_list}
-use Rattle.ecma_estree_writer.specs.Estree.{json, plain, directives, member_head, accessor}
+use Rattle.ecma_estree_writer.specs.Estree.{written, plain, directives, member_head, accessor}
 use Rattle.swc_ecma_parser_ast.specs.Parts.{view_option}
 use Rattle.swc_ecma_parser_ast.specs.View.{view_prop_name, view_block_stmt, view_param_or_ts_param_prop}
 use Rattle.swc_ecma_parser_model.specs.Tree.{listed}
@@ -10,7 +10,7 @@ use Rattle.swc_ecma_parser_model.specs.Kinds.{is_computed}
 use Rattle.ecma_estree_exprs.proofs.members.write_constructor.Goals as goal
 
 pub returns : goal.returns
-returns c =
+returns g c =
     let t = c.args.w.now.source in
     let p = c.args.w.now.pending in
     let x = c.args.x.now in
@@ -26,19 +26,19 @@ returns c =
     let s5 = e5.0 ∙ s4 in
     let s6 = e6.0 ∙ s5 in
     where_ok c.write_prop_name.result c.write_prop_name.ensures (λ h.
-    let x1 = member_head t (codes "MethodDefinition") x.span false (is_computed (view_prop_name x.key)) in
-    let x2 = end in
-    let x3a = end_list in
-    let x3b = key (codes "body") in
-    let x3c = json t directives (view_option view_block_stmt x.body) in
-    let x3d = end in
-    let x4 = json t plain (listed (map view_param_or_ts_param_prop x.params.items)) in
-    let x5a = key (codes "value") in
-    let x5b = accessor t (view_prop_name x.key) x.span in
-    let x5c = key (codes "params") in
-    let x5d = open_list in
-    let x6 = word_field (codes "kind") (codes "constructor") in
-    let x7 = json t plain (view_prop_name x.key) in
+    let x1 = member_head g.row.BINARY t (codes "MethodDefinition") x.span false (is_computed (view_prop_name x.key)) in
+    let x2 = end g.row.BINARY in
+    let x3a = end_list g.row.BINARY in
+    let x3b = key g.row.BINARY (codes "body") in
+    let x3c = written g.row.BINARY t directives (view_option view_block_stmt x.body) in
+    let x3d = end g.row.BINARY in
+    let x4 = written g.row.BINARY t plain (listed (map view_param_or_ts_param_prop x.params.items)) in
+    let x5a = key g.row.BINARY (codes "value") in
+    let x5b = accessor g.row.BINARY t (view_prop_name x.key) x.span in
+    let x5c = key g.row.BINARY (codes "params") in
+    let x5d = open_list g.row.BINARY in
+    let x6 = word_field g.row.BINARY (codes "kind") (codes "constructor") in
+    let x7 = written g.row.BINARY t plain (view_prop_name x.key) in
     let q2 = ground x2 e2.2 (e1.2) in
     let q3 = onto_four p x2 x3a x3b x3c x3d (simp s2 at e3.2) (q2) in
     let r3 = x3a ++ (x3b ++ (x3c ++ (x3d ++ x2))) in

@@ -4,7 +4,7 @@ use Rattle.ecma_estree_exprs.proofs.Steps.{where_ok}
 use Rattle.ecma_estree_exprs.proofs.members.write_field.Goals as goal
 
 pub returns : goal.returns
-returns c =
+returns g c =
     where_ok c.write_prop_name.result c.write_prop_name.ensures (λ h.
     let e1 = c.in_ok-open_member.ensures in
     let e2 = c.in_ok-push_value.ensures in

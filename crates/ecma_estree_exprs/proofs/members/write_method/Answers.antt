@@ -2,7 +2,7 @@
 use Rattle.std.proofs.Common.{codes, map, ◌++◌, ◌∙◌}
 use Rattle.ecma_estree_exprs.proofs.Steps.{after, from, ground, onto, under, where_ok}
 use Rattle.ecma_estree_writer.specs.Parts.{key, word_field, end, nothing}
-use Rattle.ecma_estree_writer.specs.Estree.{json, plain, function, member_head, decorator_field}
+use Rattle.ecma_estree_writer.specs.Estree.{written, plain, function, member_head, decorator_field}
 use Rattle.ecma_estree_writer.specs.Words.{method_word}
 use Rattle.ecma_estree_text.specs.Bracket.{bracket}
 use Rattle.swc_ecma_parser_ast.specs.View.{view_prop_name, view_decorator, view_function}
@@ -12,7 +12,7 @@ use Rattle.swc_ecma_parser_model.specs.Kinds.{is_computed}
 use Rattle.ecma_estree_exprs.proofs.members.write_method.Goals as goal
 
 pub returns : goal.returns
-returns c =
+returns g c =
     let t = c.args.w.now.source in
     let p = c.args.w.now.pending in
     let x = c.args.x.now in
@@ -28,13 +28,13 @@ returns c =
     let s5 = e5.0 ∙ s4 in
     let s6 = e6.0 ∙ s5 in
     where_ok c.write_prop_name.result c.write_prop_name.ensures (λ h.
-    let x1 = member_head t (codes "MethodDefinition") x.span x.is_static (is_computed (view_prop_name x.key)) in
-    let x2 = end in
-    let x3 = decorator_field t (listed (map view_decorator x.function.value.decorators.items)) in
-    let x4 = json t (function (codes "FunctionExpression") nothing (bracket t.places.text 40 (span_of (view_prop_name x.key)).hi.0)) (view_function x.function.value) in
-    let x5 = key (codes "value") in
-    let x6 = word_field (codes "kind") (method_word x.kind) in
-    let x7 = json t plain (view_prop_name x.key) in
+    let x1 = member_head g.row.BINARY t (codes "MethodDefinition") x.span x.is_static (is_computed (view_prop_name x.key)) in
+    let x2 = end g.row.BINARY in
+    let x3 = decorator_field g.row.BINARY t (listed (map view_decorator x.function.value.decorators.items)) in
+    let x4 = written g.row.BINARY t (function (codes "FunctionExpression") (nothing g.row.BINARY) (bracket t.places.text 40 (span_of (view_prop_name x.key)).hi.0)) (view_function x.function.value) in
+    let x5 = key g.row.BINARY (codes "value") in
+    let x6 = word_field g.row.BINARY (codes "kind") (method_word x.kind) in
+    let x7 = written g.row.BINARY t plain (view_prop_name x.key) in
     let q2 = ground x2 e2.2 (e1.2) in
     let q3 = onto p x2 x3 (simp (s2, c.as_slice.ensures.value, c.deref.ensures) at e3.2) (q2) in
     let r3 = x3 ++ x2 in

@@ -4,7 +4,7 @@ use Rattle.ecma_estree_exprs.proofs.Steps.{where_ok}
 use Rattle.ecma_estree_exprs.proofs.members.write_private_field.Goals as goal
 
 pub returns : goal.returns
-returns c =
+returns g c =
     where_ok c.push_value.result c.push_value.ensures (λ h.
     let e1 = c.in_ok-open_member.ensures in
     let e2 = c.in_ok-write_private_name.ensures in

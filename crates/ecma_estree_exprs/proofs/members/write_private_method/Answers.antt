@@ -2,7 +2,7 @@
 use Rattle.std.proofs.Common.{codes, map, false, ◌++◌, ◌∙◌}
 use Rattle.ecma_estree_exprs.proofs.Steps.{after, both, ground, onto, where_ok}
 use Rattle.ecma_estree_writer.specs.Parts.{key, word_field, end, nothing}
-use Rattle.ecma_estree_writer.specs.Estree.{json, plain, function, member_head, decorator_field}
+use Rattle.ecma_estree_writer.specs.Estree.{written, plain, function, member_head, decorator_field}
 use Rattle.ecma_estree_writer.specs.Words.{method_word}
 use Rattle.ecma_estree_text.specs.Bracket.{bracket}
 use Rattle.swc_ecma_parser_ast.specs.View.{view_decorator, view_function, view_private_name}
@@ -10,7 +10,7 @@ use Rattle.swc_ecma_parser_model.specs.Tree.{listed}
 use Rattle.ecma_estree_exprs.proofs.members.write_private_method.Goals as goal
 
 pub returns : goal.returns
-returns c =
+returns g c =
     let t = c.args.w.now.source in
     let p = c.args.w.now.pending in
     let x = c.args.x.now in
@@ -26,13 +26,13 @@ returns c =
     let s5 = e5.0 ∙ s4 in
     let s6 = e6.0 ∙ s5 in
     where_ok c.push-2.result c.push-2.ensures (λ h.
-    let x1 = member_head t (codes "MethodDefinition") x.span x.is_static false in
-    let x2 = json t plain (view_private_name x.key) in
-    let x3 = word_field (codes "kind") (method_word x.kind) in
-    let x4 = key (codes "value") in
-    let x5 = end in
-    let x6 = decorator_field t (listed (map view_decorator x.function.value.decorators.items)) in
-    let x7 = json t (function (codes "FunctionExpression") nothing (bracket t.places.text 40 x.key.span.hi.0)) (view_function x.function.value) in
+    let x1 = member_head g.row.BINARY t (codes "MethodDefinition") x.span x.is_static false in
+    let x2 = written g.row.BINARY t plain (view_private_name x.key) in
+    let x3 = word_field g.row.BINARY (codes "kind") (method_word x.kind) in
+    let x4 = key g.row.BINARY (codes "value") in
+    let x5 = end g.row.BINARY in
+    let x6 = decorator_field g.row.BINARY t (listed (map view_decorator x.function.value.decorators.items)) in
+    let x7 = written g.row.BINARY t (function (codes "FunctionExpression") (nothing g.row.BINARY) (bracket t.places.text 40 x.key.span.hi.0)) (view_function x.function.value) in
     let q5 = ground x5 e5.2 (e4.2 ∙ e3.2 ∙ e2.2 ∙ e1.2) in
     let q6 = onto p x5 x6 (simp (s5, c.as_slice.ensures.value, c.deref.ensures) at e6.2) (q5) in
     let r6 = x6 ++ x5 in

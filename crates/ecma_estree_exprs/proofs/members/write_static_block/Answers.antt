@@ -2,13 +2,13 @@
 use Rattle.std.proofs.Common.{codes, map, ◌++◌, ◌∙◌}
 use Rattle.ecma_estree_exprs.proofs.Steps.{after, after_two, both, ground, onto, where_ok}
 use Rattle.ecma_estree_writer.specs.Parts.{node, key, end, open_list, end_list}
-use Rattle.ecma_estree_writer.specs.Estree.{json, plain}
+use Rattle.ecma_estree_writer.specs.Estree.{written, plain}
 use Rattle.swc_ecma_parser_ast.specs.View.{view_stmt}
 use Rattle.swc_ecma_parser_model.specs.Tree.{listed}
 use Rattle.ecma_estree_exprs.proofs.members.write_static_block.Goals as goal
 
 pub returns : goal.returns
-returns c =
+returns g c =
     let t = c.args.w.now.source in
     let p = c.args.w.now.pending in
     let x = c.args.x.now in
@@ -20,12 +20,12 @@ returns c =
     let s3 = e3.0 ∙ s2 in
     let s4 = e4.0 ∙ s3 in
     where_ok c.push-3.result c.push-3.ensures (λ h.
-    let x1 = node t (codes "StaticBlock") x.span in
-    let x2a = key (codes "body") in
-    let x2b = open_list in
-    let x3 = end in
-    let x4 = end_list in
-    let x5 = json t plain (listed (map view_stmt c.in-Some.stmts.now.items)) in
+    let x1 = node g.row.BINARY t (codes "StaticBlock") x.span in
+    let x2a = key g.row.BINARY (codes "body") in
+    let x2b = open_list g.row.BINARY in
+    let x3 = end g.row.BINARY in
+    let x4 = end_list g.row.BINARY in
+    let x5 = written g.row.BINARY t plain (listed (map view_stmt c.in-Some.stmts.now.items)) in
     let q3 = ground x3 e3.2 (e2.2 ∙ e1.2) in
     let q4 = onto p x3 x4 e4.2 (q3) in
     let r4 = x4 ++ x3 in

@@ -2,12 +2,12 @@
 use Rattle.std.proofs.Common.{codes, ◌++◌, ◌∙◌}
 use Rattle.ecma_estree_exprs.proofs.Steps.{after, from, ground, onto, under, where_ok}
 use Rattle.ecma_estree_writer.specs.Parts.{node, key, end}
-use Rattle.ecma_estree_writer.specs.Estree.{json, plain}
+use Rattle.ecma_estree_writer.specs.Estree.{written, plain}
 use Rattle.swc_ecma_parser_ast.specs.View.{view_prop_name}
 use Rattle.ecma_estree_exprs.proofs.objects.write_attribute.Goals as goal
 
 pub returns : goal.returns
-returns c =
+returns g c =
     let t = c.args.w.now.source in
     let p = c.args.w.now.pending in
     let x = c.in-KeyValue.x in
@@ -21,12 +21,12 @@ returns c =
     let s4 = e4.0 ∙ s3 in
     let s5 = e5.0 ∙ s4 in
     where_ok c.write_prop_name.result c.write_prop_name.ensures (λ h.
-    let x1 = node t (codes "ImportAttribute") x.span in
-    let x2 = key (codes "key") in
-    let x3 = end in
-    let x4 = json t plain x.value.node.tree in
-    let x5 = key (codes "value") in
-    let x6 = json t plain (view_prop_name x.key) in
+    let x1 = node g.row.BINARY t (codes "ImportAttribute") x.span in
+    let x2 = key g.row.BINARY (codes "key") in
+    let x3 = end g.row.BINARY in
+    let x4 = written g.row.BINARY t plain x.value.node.tree in
+    let x5 = key g.row.BINARY (codes "value") in
+    let x6 = written g.row.BINARY t plain (view_prop_name x.key) in
     let q3 = ground x3 e3.2 (e2.2 ∙ e1.2) in
     let q4 = onto p x3 x4 (simp s3 at e4.2) (q3) in
     let r4 = x4 ++ x3 in

@@ -2,13 +2,13 @@
 use Rattle.std.proofs.Common.{codes, ◌++◌, ◌∙◌}
 use Rattle.ecma_estree_exprs.proofs.Steps.{after, from, ground, onto, under, where_ok}
 use Rattle.ecma_estree_writer.specs.Parts.{node, key, word_field, end}
-use Rattle.ecma_estree_writer.specs.Estree.{json, plain}
+use Rattle.ecma_estree_writer.specs.Estree.{written, plain}
 use Rattle.ecma_estree_writer.specs.Words.{assign_word}
 use Rattle.swc_ecma_parser_ast.specs.View.{view_assign_target}
 use Rattle.ecma_estree_exprs.proofs.operators.write_assign.Goals as goal
 
 pub returns : goal.returns
-returns c =
+returns g c =
     let t = c.args.w.now.source in
     let p = c.args.w.now.pending in
     let x = c.args.x.now in
@@ -24,13 +24,13 @@ returns c =
     let s5 = e5.0 ∙ s4 in
     let s6 = e6.0 ∙ s5 in
     where_ok c.write_target.result c.write_target.ensures (λ h.
-    let x1 = node t (codes "AssignmentExpression") x.span in
-    let x2 = word_field (codes "operator") (assign_word x.op) in
-    let x3 = key (codes "left") in
-    let x4 = end in
-    let x5 = json t plain x.right.node.tree in
-    let x6 = key (codes "right") in
-    let x7 = json t plain (view_assign_target x.left.value) in
+    let x1 = node g.row.BINARY t (codes "AssignmentExpression") x.span in
+    let x2 = word_field g.row.BINARY (codes "operator") (assign_word x.op) in
+    let x3 = key g.row.BINARY (codes "left") in
+    let x4 = end g.row.BINARY in
+    let x5 = written g.row.BINARY t plain x.right.node.tree in
+    let x6 = key g.row.BINARY (codes "right") in
+    let x7 = written g.row.BINARY t plain (view_assign_target x.left.value) in
     let q4 = ground x4 e4.2 (e3.2 ∙ e2.2 ∙ e1.2) in
     let q5 = onto p x4 x5 (simp s4 at e5.2) (q4) in
     let r5 = x5 ++ x4 in

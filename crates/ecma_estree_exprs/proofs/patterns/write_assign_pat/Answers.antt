@@ -4,7 +4,7 @@ use Rattle.ecma_estree_exprs.proofs.Steps.{where_ok}
 use Rattle.ecma_estree_exprs.proofs.patterns.write_assign_pat.Goals as goal
 
 pub returns : goal.returns
-returns c =
+returns g c =
     where_ok c.push-4.result c.push-4.ensures (λ h.
     let e1 = c.in_ok-open.ensures in
     let e2 = c.in_ok-key.ensures in

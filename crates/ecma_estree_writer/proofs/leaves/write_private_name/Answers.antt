@@ -2,4 +2,4 @@
 use Rattle.ecma_estree_writer.proofs.leaves.write_private_name.Goals as goal
 
 pub returns : goal.returns
-returns c = rw (← c.as_str.ensures) c.write_text_node.ensures
+returns g c = rw (← c.as_str.ensures) c.write_text_node.ensures
