@@ -14,6 +14,8 @@ const FLAGS = {
 };
 
 const EXTRAS = { locations: 0x100, ranges: 0x200, comments: 0x400, tokens: 0x800 };
+const NO_EARLY_ERRORS = 0x1000;
+const PLAIN = 0x2000;
 
 /** What fits the stack of an engine: scripts/nests.js measures it. */
 const DEFAULT_LIMIT = 300;
@@ -30,7 +32,7 @@ const FAILURES = {
   '-4': 'the text is too long',
 };
 
-/** acorn's options that are taken, each with what is done with a value: `npm/README.md` has the table. */
+/** The package's own options that are not numbers' names, and acorn's that are taken, each with what is done with a value: `npm/README.md` has the tables. */
 const ACORN = {
   ecmaVersion: value => value === 'latest' || (Number.isInteger(value) && value >= 3),
   sourceFile: value => typeof value === 'string' || value == null,
@@ -38,6 +40,8 @@ const ACORN = {
   onComment: value => isSink(value),
   onToken: value => isSink(value),
   throwFaults: value => isFlag(value),
+  earlyErrors: value => isFlag(value),
+  plain: value => isFlag(value),
   allowHashBang: value => isFlag(value),
   allowReturnOutsideFunction: value => isFlag(value),
   allowReserved: value => !value,
@@ -79,6 +83,8 @@ function bitsOf(flags, rest) {
   if (rest.allowReturnOutsideFunction) bits |= FLAGS.allowReturnOutsideFunction;
   if (rest.onComment) bits |= EXTRAS.comments;
   if (rest.onToken) bits |= EXTRAS.tokens;
+  if (rest.earlyErrors === false) bits |= NO_EARLY_ERRORS;
+  if (rest.plain) bits |= PLAIN;
   return bits;
 }
 
@@ -105,9 +111,9 @@ function guessOf(length, bits) {
 const place = (line, column) => ({ line, column: column - 1 });
 
 function faultOf(told) {
-  const { kind, message, start, end, byteStart, byteEnd, line, column, endLine, endColumn, note } = told;
+  const { severity, kind, message, start, end, byteStart, byteEnd, line, column, endLine, endColumn, note } = told;
   const words = kind === 'TooDeep' ? 'this nests deeper than the `limit`, which is at most 1000 levels' : message;
-  const fault = { kind, message: words, start, end, byteStart, byteEnd, loc: { start: place(line, column), end: place(endLine, endColumn) } };
+  const fault = { ...(severity && { severity }), kind, message: words, start, end, byteStart, byteEnd, loc: { start: place(line, column), end: place(endLine, endColumn) } };
   if (note) fault.note = faultOf(note);
   return fault;
 }
@@ -129,10 +135,20 @@ function each(root, visit) {
   }
 }
 
-/** Gives big integers their values, which JSON has no form for. */
+/** A regular expression, or `null` where this engine has none for it. */
+function expressionOf({ pattern, flags }) {
+  try {
+    return new RegExp(pattern, flags);
+  } catch {
+    return null;
+  }
+}
+
+/** Gives big integers and regular expressions their values, which JSON has no form for. */
 function restore(tree) {
   each(tree, node => {
     if (node.bigint !== undefined) node.value = BigInt(node.bigint);
+    else if (node.type === 'Literal' && node.regex) node.value = expressionOf(node.regex);
   });
 }
 
@@ -149,12 +165,19 @@ function resultOf(status, json) {
   const { tree, faults: told, more } = JSON.parse(json);
   const faults = told.map(faultOf);
   if (tree === null) throw errorOf(faults.pop(), faults);
-  if (json.includes('"bigint":"')) restore(tree);
+  if (json.includes('"bigint":"') || json.includes('"regex":{')) restore(tree);
   return more ? { tree, faults, more } : { tree, faults };
+}
+
+/** The kinds that acorn's options leave out. */
+function leftOut({ allowSuperOutsideMethod, checkPrivateFields }) {
+  return [...(allowSuperOutsideMethod ? ['MisplacedSuper', 'MisplacedSuperCall'] : []), ...(checkPrivateFields === false ? ['PrivateUndeclared'] : [])];
 }
 
 /** What acorn's options ask for besides, done on the finished tree. */
 function finished(result, options = {}) {
+  const kinds = leftOut(options);
+  if (kinds.length > 0) result.faults = result.faults.filter(it => !kinds.includes(it.kind));
   const { tree, faults } = result;
   const { sourceFile, directSourceFile, onComment, onToken, throwFaults } = options;
   if (throwFaults && faults.length > 0) throw errorOf(faults[0], faults);

@@ -34,9 +34,16 @@ export interface PrivateIdentifier extends BaseNode {
 
 export interface Literal extends BaseNode {
   type: 'Literal';
-  value: string | number | boolean | bigint | null;
+  value: string | number | boolean | bigint | RegExp | null;
   raw: string;
   bigint?: string;
+  regex?: { pattern: string; flags: string };
+}
+
+export interface TemplateElement extends BaseNode {
+  type: 'TemplateElement';
+  value: { raw: string; cooked: string | null };
+  tail: boolean;
 }
 
 export interface ThisExpression extends BaseNode {
@@ -332,7 +339,7 @@ export interface UpdateExpression extends BaseNode {
 
 export interface BinaryExpression extends BaseNode {
   type: 'BinaryExpression';
-  left: Expression;
+  left: Expression | PrivateIdentifier;
   operator: BinaryOperator;
   right: Expression;
 }
@@ -368,14 +375,31 @@ export interface MemberExpression extends BaseNode {
   object: Expression | Super;
   property: Expression | PrivateIdentifier;
   computed: boolean;
-  optional: false;
+  optional: boolean;
 }
 
 export interface CallExpression extends BaseNode {
   type: 'CallExpression';
   callee: Expression | Super;
   arguments: (Expression | SpreadElement)[];
-  optional: false;
+  optional: boolean;
+}
+
+export interface ChainExpression extends BaseNode {
+  type: 'ChainExpression';
+  expression: MemberExpression | CallExpression;
+}
+
+export interface TemplateLiteral extends BaseNode {
+  type: 'TemplateLiteral';
+  expressions: Expression[];
+  quasis: TemplateElement[];
+}
+
+export interface TaggedTemplateExpression extends BaseNode {
+  type: 'TaggedTemplateExpression';
+  tag: Expression;
+  quasi: TemplateLiteral;
 }
 
 export interface NewExpression extends BaseNode {
@@ -499,6 +523,9 @@ export type Expression =
   | SequenceExpression
   | MemberExpression
   | CallExpression
+  | ChainExpression
+  | TemplateLiteral
+  | TaggedTemplateExpression
   | NewExpression
   | ImportExpression
   | MetaProperty
@@ -555,6 +582,7 @@ export type Node =
   | Pattern
   | Program
   | PrivateIdentifier
+  | TemplateElement
   | Super
   | StaticBlock
   | SwitchCase

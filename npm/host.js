@@ -4,8 +4,8 @@
 /** An instance that has grown beyond this is let go behind its call. 100 KB of text take up to 75 MB, which a new instance would have to grow again. */
 const KEPT_BYTES = 128 * 1024 * 1024;
 
-/** The options, four numbers of 32 bits of which the last has all faults told, and behind them the length of the answer. */
-const OPTIONS = 16;
+/** The options, how many bytes they have and four numbers of 32 bits, of which the last has all faults told; behind them the length of the answer. */
+const OPTIONS = 24;
 
 const STATUS_TOO_SHORT = -1;
 const STATUS_OUT_OF_MEMORY = -2;
@@ -47,7 +47,8 @@ function host(module, guessOf, memory, decode = bytes => new TextDecoder().decod
     const to = room(it, bytes);
     if (at === 0 || from === 0 || to === 0) return { status: STATUS_OUT_OF_MEMORY, needed: 0, bytes: new Uint8Array(0) };
     new Uint8Array(it.memory.buffer).set(text, from);
-    new Uint32Array(it.memory.buffer, at, 4).set([goal, limit, bits, most]);
+    new BigUint64Array(it.memory.buffer, at, 1)[0] = BigInt(OPTIONS);
+    new Uint32Array(it.memory.buffer, at + 8, 4).set([goal, limit, bits, most]);
     const addresses = [from, text.length, at, to, bytes, at + OPTIONS].map(BigInt);
     const status = it.ecma_parse(...addresses);
     const needed = Number(new BigUint64Array(it.memory.buffer, at + OPTIONS, 1)[0]);

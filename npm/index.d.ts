@@ -2,7 +2,7 @@ import type { Node, Program } from './estree';
 
 export * from './estree';
 
-/** What is read besides ECMA-262. */
+/** What is read besides ECMA-262. Import attributes are a flag of the plain language; elsewhere they are always read. */
 export type Flag =
   | 'decorators'
   | 'decoratorsBeforeExport'
@@ -21,9 +21,14 @@ export interface Options {
   sourceType?: 'script' | 'module' | 'program' | 'auto';
   /** How many levels deep the text may nest: 300 by default, which fit Node's stack; 200 fit a worker's in a browser; 1,000 at most. */
   limit?: number;
-  /** How many faults are told at most: 1,000 by default, and 0 for all. Why there is no tree is told in any case. */
+  /** How many faults and early errors are told at most: 1,000 by default, and 0 for all. Why there is no tree is told in any case. */
   maxFaults?: number;
   flags?: Flag[];
+  /**
+   * Whether regular expressions, templates, optional chains, `new.target`, `#a in b`, names with escapes, old octal forms and comments as in
+   * HTML are left out, and import attributes are read by their flag alone. By default all of ECMA-262 is read.
+   */
+  plain?: boolean;
   /** Whether nodes have `loc`: lines from 1, columns from 0. */
   locations?: boolean;
   /** Whether nodes have `range`. */
@@ -32,6 +37,8 @@ export interface Options {
   comments?: boolean;
   /** Whether the tree has `tokens`. */
   tokens?: boolean;
+  /** Whether early errors are told that are found in the finished tree, as a name that is declared twice: so by default. */
+  earlyErrors?: boolean;
   /** Whether the first fault is thrown, as acorn throws a `SyntaxError`, in the place of a list of faults. */
   throwFaults?: boolean;
 
@@ -46,6 +53,10 @@ export interface Options {
   onToken?: Piece[] | ((token: Piece) => void) | null;
   allowHashBang?: boolean;
   allowReturnOutsideFunction?: boolean;
+  /** Leaves out early errors of `super` outside of methods. */
+  allowSuperOutsideMethod?: boolean | null;
+  /** `false` leaves out early errors of private names that no class around declares. */
+  checkPrivateFields?: boolean | null;
 }
 
 /** A line from 1 and a column from 0, in code units of UTF-16. */
@@ -65,7 +76,9 @@ export interface Piece {
 }
 
 export interface Fault {
-  /** The name of its kind, as of `swc_ecma_parser`. */
+  /** `fault` where the parser recorded it and went on, `error` for an early error of the tree, `refused` for why there is no tree. */
+  severity: 'fault' | 'error' | 'refused';
+  /** The name of its kind, as of `swc_ecma_parser`; that of an early error as of docs/EARLY.md. */
   kind: string;
   /** What is wrong and what would be right. */
   message: string;
@@ -77,7 +90,7 @@ export interface Fault {
   byteEnd: number;
   loc: { start: Position; end: Position };
   /** An earlier place that the fault speaks of. */
-  note?: Omit<Fault, 'kind' | 'note'>;
+  note?: Omit<Fault, 'severity' | 'kind' | 'note'>;
 }
 
 /** Why there is no tree. The message ends with the line and the column. */
@@ -100,8 +113,8 @@ export interface Refusal extends SyntaxError {
 export class StackOverflowError extends RangeError {}
 
 /**
- * The tree of a text as ESTree, in acorn's form, and the faults beside it: none where the text is a script, a module or a program of the
- * language. Where there are more faults than `maxFaults`, `more` says how many.
+ * The tree of a text as ESTree, in acorn's form, and the faults and early errors beside it: none where the text is a script, a module or a
+ * program of the language. Where there are more faults than `maxFaults`, `more` says how many.
  *
  * @throws {Refusal} where there is no tree, or, with `throwFaults`, where there is a fault
  * @throws {StackOverflowError} where the engine's stack ends

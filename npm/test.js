@@ -37,6 +37,32 @@ test('of a text that is neither what is told is of the one that it looks like', 
   assert.throws(() => parse("import a from 'a'; with (b) c; d("), { kind: 'Eof', pos: 33 });
 });
 
+test('early errors stand beside the tree, with the earlier place', () => {
+  const { tree, faults } = parse('let a; let a; break', { sourceType: 'script' });
+  assert.strictEqual(tree.body.length, 3);
+  assert.deepStrictEqual(faults.map(it => [it.severity, it.kind, it.start]), [['fault', 'TS1105', 14], ['error', 'DeclaredTwice', 11]]);
+  assert.deepStrictEqual([faults[1].note.start, faults[1].note.end], [4, 5]);
+  assert.deepStrictEqual(parse('let a; let a', { earlyErrors: false }).faults, []);
+  assert.throws(() => parse('let a; let a', { throwFaults: true }), { kind: 'DeclaredTwice', pos: 11 });
+});
+
+test("acorn's options leave early errors out", () => {
+  assert.strictEqual(parse('super.a').faults.length, 1);
+  assert.strictEqual(parse('super.a', { allowSuperOutsideMethod: true }).faults.length, 0);
+  assert.strictEqual(parse('a.#b').faults.length, 1);
+  assert.strictEqual(parse('a.#b', { checkPrivateFields: false }).faults.length, 0);
+});
+
+test('no name is said to be undeclared where a part of the text stands in no tree', () => {
+  const { faults } = parse('let b c; export { a };', { sourceType: 'module' });
+  assert.deepStrictEqual(faults.map(it => it.severity), ['fault']);
+});
+
+test('so many faults and early errors are told as are asked for', () => {
+  const { faults, more } = parse('let a; let a; let a; break', { sourceType: 'script', maxFaults: 2 });
+  assert.deepStrictEqual([faults.map(it => it.severity), more], [['fault', 'error'], 1]);
+});
+
 test('a program is a module where an export stands in it', () => {
   assert.strictEqual(parse('export default 1', { sourceType: 'program' }).tree.sourceType, 'module');
   assert.strictEqual(parse('a', { sourceType: 'program' }).tree.sourceType, 'script');
@@ -50,6 +76,16 @@ test('a fault stands beside the tree, with both offsets', () => {
   assert.deepStrictEqual({ kind, start, end, byteStart, byteEnd, loc }, {
     kind: 'TS1105', start: 6, end: 11, byteStart: 8, byteEnd: 13, loc: { start: { line: 1, column: 6 }, end: { line: 1, column: 11 } },
   });
+});
+
+test('the whole language is read, or the plain one', () => {
+  for (const text of ['/a/', '`a`', 'a?.b', 'function f() { new.target }', 'class A { #a; b() { #a in c } }', '\\u0061', '017', '<!-- a']) {
+    assert.deepStrictEqual(parse(text, { sourceType: 'script' }).faults, []);
+    assert.throws(() => parse(text, { sourceType: 'script', plain: true }), SyntaxError);
+  }
+  assert.deepStrictEqual(parse('/a[/]/g').tree.body[0].expression.value, /a[/]/g);
+  assert.strictEqual(parse("import a from 'a' with { type: 'json' }").tree.body[0].attributes.length, 1);
+  assert.throws(() => parse('a', { plain: 1 }), TypeError);
 });
 
 test('a refusal is thrown, with its place', () => {

@@ -1,9 +1,9 @@
 'use strict';
-// Which fields of a node hold nodes, in the order of the text, and a walk by them.
+// Which fields of a node hold nodes, in the order of the text (but of a template its texts first), and a walk by them.
 
 const visitorKeys = {
   Program: ['body'],
-  Identifier: [], PrivateIdentifier: [], Literal: [], ThisExpression: [], Super: [], Invalid: [],
+  Identifier: [], PrivateIdentifier: [], Literal: [], TemplateElement: [], ThisExpression: [], Super: [], Invalid: [],
   ExpressionStatement: ['expression'],
   BlockStatement: ['body'], StaticBlock: ['body'],
   EmptyStatement: [], DebuggerStatement: [],
@@ -34,6 +34,8 @@ const visitorKeys = {
   ConditionalExpression: ['test', 'consequent', 'alternate'],
   SequenceExpression: ['expressions'],
   MemberExpression: ['object', 'property'], CallExpression: ['callee', 'arguments'], NewExpression: ['callee', 'arguments'],
+  ChainExpression: ['expression'],
+  TemplateLiteral: ['quasis', 'expressions'], TaggedTemplateExpression: ['tag', 'quasi'],
   ImportExpression: ['source', 'options'], MetaProperty: ['meta', 'property'],
   YieldExpression: ['argument'], AwaitExpression: ['argument'],
   ImportDeclaration: ['specifiers', 'source', 'attributes'], ImportAttribute: ['key', 'value'],

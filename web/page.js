@@ -9,8 +9,9 @@ const FLAGS = {
   autoAccessors: 'accessor',
   explicitResourceManagement: 'using',
 };
+const LANGUAGE = { plain: 'plain language' };
 const EXTRAS = { locations: 'lines and columns', ranges: 'ranges', comments: 'comments', tokens: 'tokens' };
-const BOXES = { ...FLAGS, ...EXTRAS };
+const BOXES = { ...LANGUAGE, ...FLAGS, ...EXTRAS };
 const FIRST = 'while (a) b;\nbreak\n';
 /** The options that an address does not tell. */
 const FIRST_OPTIONS = { goal: 'auto', limit: 200 };
@@ -27,7 +28,7 @@ for (const [name, label] of Object.entries(BOXES)) {
 
 function optionsNow() {
   const options = { sourceType: $('goal').value, limit: Number($('limit').value), flags: Object.keys(FLAGS).filter(it => $(it).checked) };
-  for (const name of Object.keys(EXTRAS)) options[name] = $(name).checked;
+  for (const name of Object.keys({ ...LANGUAGE, ...EXTRAS })) options[name] = $(name).checked;
   return options;
 }
 

@@ -32,6 +32,7 @@ static uint8_t *read_all(size_t *length)
 /* Tells each fault in a line, by asking how much room they take and then for them. */
 static int32_t tell(const uint8_t *text, size_t length, const EcmaOptions *options)
 {
+    static const char *const severities[] = {"fault", "error", "refused"};
     EcmaNeeded needed;
     EcmaFault none;
     uint8_t no_word;
@@ -46,7 +47,7 @@ static int32_t tell(const uint8_t *text, size_t length, const EcmaOptions *optio
     for (size_t at = 0; status >= 0 && at < needed.faults; at++) {
         const EcmaFault *it = &faults[at];
         printf("%llu:%llu: %s [%.*s]: %.*s\n", (unsigned long long)it->start.line, (unsigned long long)it->start.column,
-               it->is_refusal ? "refused" : "fault", (int)it->kind_length, (const char *)words + it->kind_at, (int)it->message_length,
+               severities[it->severity], (int)it->kind_length, (const char *)words + it->kind_at, (int)it->message_length,
                (const char *)words + it->message_at);
     }
     if (status >= 0 && needed.more > 0)
@@ -77,7 +78,7 @@ static int32_t write_tree(const uint8_t *text, size_t length, const EcmaOptions 
 
 int main(int count, char **words)
 {
-    EcmaOptions options = {ECMA_AUTO, 1000, 0, 1000};
+    EcmaOptions options = {sizeof options, ECMA_AUTO, 1000, 0, 1000};
     static const char *const goals[] = {"script", "module", "program"};
     for (uint32_t goal = ECMA_SCRIPT; goal <= ECMA_PROGRAM; goal++)
         if (count > 1 && !strcmp(words[1], goals[goal]))

@@ -1,6 +1,6 @@
 // Compares a client over the trees of `ecma-check` with the same client over those of its own parser.
 'use strict';
-const { acornTree, unreadForm } = require('./acorn');
+const { acornTree } = require('./acorn');
 const { Refusal, treeOf } = require('./program');
 const { textsOf } = require('./files');
 
@@ -29,6 +29,7 @@ function firstDifference(ours, own) {
 
 // A difference is the client's own where it says the same over a tree by acorn.
 async function classOf(client, ours, text, goal, file) {
+    if (client.hasParser) return 'this tree';
     const third = await said(() => client.over((inner) => acornTree(inner, goal, client.words), text, goal, file));
     return third === ours ? 'as over a tree by acorn' : 'this tree';
 }
@@ -53,14 +54,14 @@ async function compareFile(client, sums, one) {
         return await compareAs(client, sums, one, goal);
     } catch (error) {
         if (!(error instanceof Refusal)) throw error;
-        add(sums.skipped, unreadForm(one.text, goal) ?? `a refusal: ${error.kind}`);
+        add(sums.skipped, error.reason);
         return 'skipped';
     }
 }
 
 function print(client, count, sums) {
     for (const [kind, number] of sums.classes) console.log(`  different, ${kind}: ${number}`);
-    for (const [kind, number] of sums.skipped) console.log(`  skipped for ${kind}: ${number}`);
+    for (const [kind, number] of sums.skipped) console.log(`  skipped, refused: ${kind}: ${number}`);
     console.log(`  not read by its own parser: ${count.unread}, failed with either: ${count.failed}`);
     console.log(`${client.name}: ${count.equal} equal, ${count.different} different, ${count.skipped} skipped`);
 }
@@ -72,6 +73,7 @@ function print(client, count, sums) {
 //   over      what it makes of a text by a function that makes a tree
 //   own       what it makes of a text by its own parser
 //   words     which fields a tree has to have, as `ecma-check` is asked for them
+//   hasParser whether `over` has a parser of its own over this program, and takes no other trees
 async function compare(client, folders = process.argv.slice(2)) {
     const sums = { skipped: new Map(), classes: new Map() };
     const count = { equal: 0, different: 0, skipped: 0, failed: 0, unread: 0 };

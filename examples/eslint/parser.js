@@ -16,6 +16,9 @@ const VISITOR_KEYS = unionWith({
     PropertyDefinition: ['decorators'],
 });
 
+// What hangs on a node and holds no node.
+const AROUND = new Set(['comments', 'tokens', 'loc', 'range', 'regex']);
+
 // What is asked for by the settings of ESLint: a goal, and proposals by the names that `ecma-check --enable` has for them.
 function askedBy({ sourceType, ecmaFeatures = {}, enable = [] }) {
     const returns = ecmaFeatures.globalReturn || sourceType === 'commonjs';
@@ -35,6 +38,31 @@ function trim(program) {
     }
 }
 
+// The nodes of a tree.
+function* nodesOf(tree) {
+    const waiting = [tree];
+    while (waiting.length) {
+        const node = waiting.pop();
+        if (node.type) yield node;
+        for (const key of Object.keys(node)) {
+            const part = node[key];
+            if (part && typeof part === 'object' && !AROUND.has(key)) waiting.push(part);
+        }
+    }
+}
+
+// ESLint has a text of a template with its marks: one character before it, and one or two behind it.
+function widenTemplates(program) {
+    for (const node of nodesOf(program)) {
+        if (node.type !== 'TemplateElement') continue;
+        const behind = node.tail ? 1 : 2;
+        node.start = node.range[0] -= 1;
+        node.end = node.range[1] += behind;
+        node.loc.start.column -= 1;
+        node.loc.end.column += behind;
+    }
+}
+
 // A refusal as ESLint takes it: a line from 1, a column from 1.
 function refused({ message, kind, start, loc }) {
     return Object.assign(new SyntaxError(`${message} [${kind}]`), { kind, index: start, lineNumber: loc.start.line, column: loc.start.column + 1 });
@@ -47,6 +75,7 @@ function parserOver(read) {
         const { tree, faults, refusal } = read(text, askedBy(options));
         if (refusal) throw refused(refusal);
         trim(tree);
+        widenTemplates(tree);
         return { ast: tree, services: { faults }, visitorKeys: VISITOR_KEYS };
     };
 }

@@ -35,7 +35,7 @@ static napi_value answer(napi_env env, napi_callback_info info)
 {
     size_t count = 5, length = 0, needed = 0;
     napi_value words[5], pair, number, json;
-    EcmaOptions options = {0};
+    EcmaOptions options = {sizeof options, 0, 0, 0, 0};
     uint8_t *out = NULL;
     int32_t status = ECMA_OUT_OF_MEMORY;
     napi_get_cb_info(env, info, &count, words, NULL, NULL);

@@ -12,18 +12,23 @@ GOALS = {'script': 0, 'module': 1, 'program': 2, 'auto': 3}
 FLAGS = {
     'decorators': 0x1, 'decorators_before_export': 0x2, 'export_default_from': 0x4, 'import_attributes': 0x8,
     'return_outside_function': 0x10, 'auto_accessors': 0x20, 'explicit_resource_management': 0x40,
-    'locations': 0x100, 'ranges': 0x200, 'comments': 0x400, 'tokens': 0x800,
+    'locations': 0x100, 'ranges': 0x200, 'comments': 0x400, 'tokens': 0x800, 'no_early_errors': 0x1000,
+    'plain': 0x2000,
 }
 TOO_SHORT, OUT_OF_MEMORY = -1, -2
+VERSION = 3
 
 
 class Options(ctypes.Structure):
-    _fields_ = [('goal', ctypes.c_uint32), ('limit', ctypes.c_uint32), ('flags', ctypes.c_uint32), ('max_faults', ctypes.c_uint32)]
+    _fields_ = [('struct_size', ctypes.c_uint64), ('goal', ctypes.c_uint32), ('limit', ctypes.c_uint32), ('flags', ctypes.c_uint32), ('max_faults', ctypes.c_uint32)]
 
 
 def load(path):
     """The call of a library."""
-    call = ctypes.CDLL(path).ecma_parse
+    library = ctypes.CDLL(path)
+    if library.ecma_version() != VERSION:
+        raise ValueError(f'{path} has another version')
+    call = library.ecma_parse
     call.restype = ctypes.c_int32
     call.argtypes = [ctypes.c_char_p, ctypes.c_size_t, ctypes.POINTER(Options), ctypes.c_char_p, ctypes.c_size_t,
                      ctypes.POINTER(ctypes.c_size_t)]
@@ -43,7 +48,7 @@ def called(call, text, options):
 
 def parse(call, text, goal='auto', limit=1000, flags=(), max_faults=1000):
     """The status, the tree, which is None where there is none, the faults, and how many more there are."""
-    asked = Options(GOALS[goal], limit, sum(FLAGS[it] for it in flags), max_faults)
+    asked = Options(ctypes.sizeof(Options), GOALS[goal], limit, sum(FLAGS[it] for it in flags), max_faults)
     status, written = called(call, text.encode(), asked)
     if status == OUT_OF_MEMORY:
         raise MemoryError

@@ -10,6 +10,7 @@ use std::process::ExitCode;
 /// What is asked for: `include/ecma.h` says what the numbers mean.
 #[repr(C)]
 struct EcmaOptions {
+    struct_size: u64,
     goal: u32,
     limit: u32,
     flags: u32,
@@ -65,7 +66,7 @@ fn main() -> ExitCode {
     };
     let mut text = String::new();
     io::stdin().read_to_string(&mut text).expect("standard input is UTF-8");
-    let options = EcmaOptions { goal, limit: 1000, flags: 0, max_faults: 1000 };
+    let options = EcmaOptions { struct_size: size_of::<EcmaOptions>() as u64, goal, limit: 1000, flags: 0, max_faults: 1000 };
     match parse(&text, &options) {
         Ok((status, json)) => {
             io::stdout().write_all(json.as_bytes()).expect("standard output takes it");

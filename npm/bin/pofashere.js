@@ -13,12 +13,14 @@ const { faultText, plain } = require('../text.js');
 
 const { answer } = parserOf(moduleOf, decode);
 
-const USAGE = `usage: pofashere [--script|--module|--program] [--limit N] [--enable FLAG].. [--format text|json|estree]
-                 [--locations] [--ranges] [--comments] [--tokens] [--max-faults N] [FILE..]`;
+const USAGE = `usage: pofashere [--script|--module|--program] [--plain] [--limit N] [--enable FLAG].. [--format text|json|estree]
+                 [--locations] [--ranges] [--comments] [--tokens] [--max-faults N] [--no-early] [FILE..]`;
 const WORDS = {
   script: { type: 'boolean' }, module: { type: 'boolean' }, program: { type: 'boolean' },
+  plain: { type: 'boolean' },
   limit: { type: 'string' }, enable: { type: 'string', multiple: true }, format: { type: 'string', default: 'text' },
   'max-faults': { type: 'string', default: '1000' },
+  'no-early': { type: 'boolean' },
   locations: { type: 'boolean' }, ranges: { type: 'boolean' }, comments: { type: 'boolean' }, tokens: { type: 'boolean' },
   help: { type: 'boolean', short: 'h' }, version: { type: 'boolean', short: 'V' },
 };
@@ -49,7 +51,7 @@ function asked(words) {
   for (const flag of flags) if (!Object.hasOwn(FLAGS, flag)) throw new Usage(`--enable takes no '${flag}'`);
   const { locations, ranges, comments, tokens } = values;
   const maxFaults = number(values['max-faults'], 'max-faults', 2 ** 32 - 1);
-  const options = { sourceType: goals[0] ?? 'auto', maxFaults, flags, locations, ranges, comments, tokens };
+  const options = { sourceType: goals[0] ?? 'auto', maxFaults, earlyErrors: !values['no-early'], flags, plain: values.plain, locations, ranges, comments, tokens };
   if (values.limit !== undefined) options.limit = number(values.limit, 'limit', 1000);
   const files = positionals.length > 0 ? positionals : ['-'];
   if (values.format === 'estree' && files.length > 1) throw new Usage('--format estree takes one file');
@@ -91,7 +93,7 @@ function faultJson(file, { kind, message, start, end, byteStart, byteEnd, loc, n
 /** What is told of a file, each by the function of the format. */
 function* lines(file, text, { faults, more, refusal }, format) {
   const one = format === 'json' ? (fault, word) => faultJson(file, fault, word) : (fault, word) => faultText(file, text, fault, word);
-  for (const fault of faults) yield one(fault, 'fault');
+  for (const fault of faults) yield one(fault, fault.severity);
   if (more > 0) yield format === 'json' ? JSON.stringify({ file, severity: 'more', count: more }) + '\n' : `${plain(file)}: note: more faults: ${more}; --max-faults 0 reports all\n`;
   if (refusal) yield one(refusal, 'refused');
 }

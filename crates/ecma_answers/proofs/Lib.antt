@@ -1,6 +1,7 @@
 mod Choosing
 mod Deciding
 mod Drawing
+mod Finding
 mod Listing
 pub mod Same
 pub mod Written

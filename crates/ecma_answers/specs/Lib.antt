@@ -1,5 +1,7 @@
 pub mod Chosen
+pub mod Languages
 pub mod Spelled
+pub mod Found
 pub mod Outcomes
 pub mod Written
 pub mod Capped

@@ -5,7 +5,9 @@ use Rattle.swc_ecma_parser.specs.Same as parser
 use Rattle.ecma_answers.specs.declared.options.Goal.{Goal}
 use Rattle.ecma_answers.specs.declared.options.Goal.TheVariants as goal
 use Rattle.ecma_answers.specs.declared.options.Options.{Options}
+use Rattle.ecma_answers.specs.declared.findings.Findings.{Findings}
 use Rattle.ecma_answers.specs.declared.parsing.Reading.{Reading}
+use Rattle.ecma_answers.specs.Found.{Finds}
 use Rattle.ecma_answers.specs.Outcomes.{outcome_of}
 use Rattle.ecma_answers.specs.Spelled.{Decides, view_tree}
 
@@ -27,8 +29,14 @@ IsSettled o = IsSettledIn o.goal
 abbrev pub OneReading : Type 0
 OneReading = (o : Options) (text : List ℕ) (r q : Reading) → IsSettled o → Decides o text r → Decides o text q → AreSame r q
 
--- and come out in the same way: so a text is too deep for all readings or for none
+-- where the same is read, the same early errors are found
+abbrev pub OneFinding : Type 0
+OneFinding =
+    (o : Options) (text : List ℕ) (f g : Findings) → IsSettled o → Finds o text f → Finds o text g
+    → f.early.items ≡ g.early.items
+
+-- and it comes out in the same way: so a text is too deep for all calls or for none
 abbrev pub OneOutcome : Type 0
 OneOutcome =
-    (o : Options) (text : List ℕ) (r q : Reading) → IsSettled o → Decides o text r → Decides o text q
-    → outcome_of r.tree r.faults.items ≡ outcome_of q.tree q.faults.items
+    (o : Options) (text : List ℕ) (f g : Findings) → IsSettled o → Finds o text f → Finds o text g
+    → outcome_of f.reading.tree f.reading.faults.items f.early.items ≡ outcome_of g.reading.tree g.reading.faults.items g.early.items

@@ -3,9 +3,10 @@
 ghost use Rattle.std.specs.Prelude.{◌≡◌};
 ghost use Rattle.ecma_answers.specs.Capped as capped;
 
+use ecma_events::EarlyError;
 use swc_ecma_parser::error::Error;
 
-/// How many recorded faults are told where nothing else is asked for.
+/// How many faults and early errors are told where nothing else is asked for.
 pub const MAX_FAULTS: u32 = 1000;
 
 /// The first of the recorded faults, so many at most; all of them, where that is 0.
@@ -19,12 +20,24 @@ pub fn front(faults: &[Error], most: u32) -> &[Error]
     &faults[..most as usize]
 }
 
-/// How many recorded faults stand behind those.
-pub fn left_out(faults: &[Error], most: u32) -> usize
-    ensures { result ≡ capped.left_out most faults.now }
+/// The first of the early errors that are told behind so many faults.
+#[tactic(auto, using(std::proofs::lemmas::List::take_all))]
+pub fn early_front(early: &[EarlyError], faults: usize, most: u32) -> &[EarlyError]
+    ensures { result.now ≡ capped.early_front most faults early.now }
+{
+    let room = (most as usize).saturating_sub(faults);
+    if most == 0 || early.len() <= room {
+        return early;
+    }
+    &early[..room]
+}
+
+/// How many of so many faults and early errors stand behind those that are told.
+pub fn left_out(count: usize, most: u32) -> usize
+    ensures { result ≡ capped.left_out most count }
 {
     if most == 0 {
         return 0;
     }
-    faults.len().saturating_sub(most as usize)
+    count.saturating_sub(most as usize)
 }

@@ -4,15 +4,45 @@ ghost use Rattle.std.specs.Prelude.{◌≡◌};
 ghost use Rattle.swc_ecma_parser_error.specs.Kind.{faults_of, kind_of};
 ghost use Rattle.ecma_answers.specs.Chosen as spec;
 ghost use Rattle.ecma_answers.specs.Chosen.{told_of};
+ghost use Rattle.ecma_answers.specs.Spelled as spelled;
+ghost use Rattle.ecma_answers.specs.Spelled.{view_tree};
 
-use crate::parsing::Reading;
-use swc_ecma_parser::error::{Error, SyntaxError};
+use crate::parsing::{Reading, Tree};
+use swc_ecma_parser::ast::Program;
+use swc_ecma_parser::error::{Error, PResult, SyntaxError};
 
 /// Whether a tree was read, and no fault stands beside it.
 pub(crate) fn is_clean(reading: &Reading) -> bool
     ensures { result ≡ spec.is_clean (told_of reading.now) }
 {
     reading.tree.is_ok() && reading.faults.is_empty()
+}
+
+/// Whether a tree is a module's.
+pub(crate) fn is_module(tree: &Tree) -> bool
+    ensures { result ≡ spelled.is_module (view_tree tree.now) }
+{
+    match tree {
+        Tree::Module(_) | Tree::Program(Program::Module(_)) => true,
+        Tree::Script(_) | Tree::Program(Program::Script(_)) => false,
+    }
+}
+
+/// Whether what was read is a module.
+fn has_module(tree: &PResult<Tree>) -> bool
+    ensures { result ≡ spelled.has_module tree.now }
+{
+    match tree {
+        Ok(tree) => is_module(tree),
+        Err(_) => false,
+    }
+}
+
+/// Whether a module was read, and no fault stands beside it.
+pub(crate) fn is_clean_module(reading: &Reading) -> bool
+    ensures { result ≡ spelled.is_clean_module reading.now }
+{
+    is_clean(reading) && has_module(&reading.tree)
 }
 
 /// Whether a fault of a script says that it is a module's text.

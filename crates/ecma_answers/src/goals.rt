@@ -1,24 +1,24 @@
 //! A text, read as what is asked for.
 
-ghost use Rattle.std.specs.Prelude.{◌≡◌, ◌<◌, ◌^◌, false, IfOk, length};
+ghost use Rattle.std.specs.Prelude.{◌≡◌, ◌<◌, ◌^◌, false, true, IfOk, length};
 ghost use Rattle.swc_ecma_parser_error.specs.Kind.{kind_of};
 ghost use Rattle.swc_ecma_parser_exactness.specs.Decides.{Lasts};
 ghost use Rattle.swc_ecma_parser_grammar.specs.language.Programs as programs;
-ghost use Rattle.swc_ecma_parser_lexer.specs.Source as lexer;
 ghost use Rattle.ecma_answers.specs.declared.parsing.Tree.TheVariants as tree;
+ghost use Rattle.ecma_answers.specs.Languages.{seen, source_of};
 ghost use Rattle.ecma_answers.specs.Outcomes as outcomes;
-ghost use Rattle.ecma_answers.specs.Spelled.{Decides, IsChosen, IsEither, IsReadAs, source_of, without_await, wrapped};
+ghost use Rattle.ecma_answers.specs.Spelled.{Decides, IsChosen, IsEither, IsProgram, IsReadAs, IsTurned, IsWholeProgram, module_source, script_source, without_await, wrapped};
 
-use crate::choice::{chosen, is_clean};
-use crate::options::{Goal, Options};
+use crate::choice::{chosen, is_clean, is_clean_module};
+use crate::options::{Goal, Language, Options};
 use crate::parsing::{Reading, Tree};
+use crate::source::{AnyLexer, lexer_of};
 use std::alloc::{AllocError, Global};
 use swc_ecma_parser::ast::{Module, Program, Script};
-use swc_ecma_parser::common::BytePos;
 use swc_ecma_parser::error::{Error, PResult, SyntaxError};
 use swc_ecma_parser::headline::{read_module, read_program, read_script};
-use swc_ecma_parser::input::{Context, Syntax, Tokens};
-use swc_ecma_parser::lexer::{Lexer, StringInput};
+use swc_ecma_parser::input::{Context, Tokens};
+use swc_ecma_parser_whole_lexer::Goal as CodeGoal;
 
 /// Whether a kind of fault says that memory ran out.
 fn is_out_of_memory(kind: &SyntaxError) -> bool
@@ -123,23 +123,20 @@ fn as_program<I: Tokens>(alloc: Global, tokens: I, limit: u32) -> Result<Reading
     lasting(of_program(read_program(alloc, tokens, limit)))
 }
 
-/// A lexer at the start of a text.
-fn lexer_of<'a>(alloc: Global, syntax: Syntax, text: &'a str) -> Lexer<'a>
+/// The tokens of a text as the code of a script or of a module.
+fn tokens_of<'a>(alloc: Global, options: Options, goal: CodeGoal, text: &'a str) -> AnyLexer<'a>
     requires { length text.now < 2 ^ 32 }
-    ensures { lexer.source_of result.place result.context result.syntax result.faults
-        ≡ source_of syntax text.now }
+    ensures { seen result ≡ source_of options.language goal options.syntax text.now }
 {
-    let input = StringInput::new(text, BytePos(0), BytePos(text.len() as u32));
-    Lexer::new(alloc, syntax, input, false)
+    lexer_of(alloc, options.language, goal, options.syntax, text)
 }
 
-/// The same of a script in whose own code `await` is no operator.
-fn script_lexer_of<'a>(alloc: Global, syntax: Syntax, text: &'a str) -> Lexer<'a>
+/// Those of a script in whose own code `await` is no operator.
+fn script_tokens_of<'a>(alloc: Global, options: Options, text: &'a str) -> AnyLexer<'a>
     requires { length text.now < 2 ^ 32 }
-    ensures { lexer.source_of result.place result.context result.syntax result.faults
-        ≡ without_await (source_of syntax text.now) }
+    ensures { seen result ≡ without_await (script_source options text.now) }
 {
-    let mut tokens = lexer_of(alloc, syntax, text);
+    let mut tokens = tokens_of(alloc, options, CodeGoal::Script, text);
     let context = tokens.ctx();
     tokens.set_ctx(Context {
         in_parameters: true,
@@ -156,9 +153,10 @@ fn read_again(
     script: Reading,
 ) -> Result<Reading, AllocError>
     requires { length text.now < 2 ^ 32 }
-    ensures { IfOk result (IsChosen false options.limit (source_of options.syntax text.now) script) }
+    ensures { IfOk result
+        (IsChosen false options.limit (module_source options text.now) script) }
 {
-    let tokens = lexer_of(alloc, options.syntax, text);
+    let tokens = tokens_of(alloc, options, CodeGoal::Module, text);
     match as_module(alloc, tokens, options.limit) {
         Ok(other) => Ok(chosen(script, other)),
         Err(error) => {
@@ -171,14 +169,60 @@ fn read_again(
 /// Reads a text as a script or as a module, whichever it turns out to be.
 fn read_either(alloc: Global, options: Options, text: &str) -> Result<Reading, AllocError>
     requires { length text.now < 2 ^ 32 }
-    ensures { IfOk result (IsEither options.limit (source_of options.syntax text.now)) }
+    ensures { IfOk result
+        (IsEither options.limit (script_source options text.now) (module_source options text.now)) }
 {
-    let tokens = script_lexer_of(alloc, options.syntax, text);
+    let tokens = script_tokens_of(alloc, options, text);
     let script = as_script(alloc, tokens, options.limit)?;
     if is_clean(&script) {
         return Ok(script);
     }
     read_again(alloc, options, text, script)
+}
+
+/// Reads a text anew as a program, with the tokens of a module.
+fn read_anew(
+    alloc: Global,
+    options: Options,
+    text: &str,
+    first: Reading,
+) -> Result<Reading, AllocError>
+    requires { length text.now < 2 ^ 32 }
+    ensures { IfOk result
+        (IsTurned true options.limit (module_source options text.now) first) }
+{
+    first.discard();
+    let tokens = tokens_of(alloc, options, CodeGoal::Module, text);
+    as_program(alloc, tokens, options.limit)
+}
+
+/// Reads a text as a program of the whole language. What turns out to be a module has no comments as in HTML, so it is read anew without them.
+fn read_whole_program(alloc: Global, options: Options, text: &str) -> Result<Reading, AllocError>
+    requires { length text.now < 2 ^ 32 }
+    ensures { IfOk result
+        (IsWholeProgram options.limit (script_source options text.now) (module_source options text.now)) }
+{
+    let tokens = tokens_of(alloc, options, CodeGoal::Script, text);
+    let first = as_program(alloc, tokens, options.limit)?;
+    if is_clean_module(&first) {
+        return read_anew(alloc, options, text, first);
+    }
+    Ok(first)
+}
+
+/// Reads a text as a program.
+fn read_as_program(alloc: Global, options: Options, text: &str) -> Result<Reading, AllocError>
+    requires { length text.now < 2 ^ 32 }
+    ensures { IfOk result
+        (IsProgram options.language options.limit (script_source options text.now) (module_source options text.now)) }
+{
+    match options.language {
+        Language::Whole => read_whole_program(alloc, options, text),
+        Language::Plain => {
+            let tokens = tokens_of(alloc, options, CodeGoal::Script, text);
+            as_program(alloc, tokens, options.limit)
+        }
+    }
 }
 
 /// Reads a text. A tree is read with no fault beside it exactly where the text spells it within the limit, and what is read is a function of
@@ -189,9 +233,17 @@ pub fn read(alloc: Global, options: Options, text: &str) -> Result<Reading, Allo
 {
     let limit = options.limit;
     match options.goal {
-        Goal::Script => as_script(alloc, lexer_of(alloc, options.syntax, text), limit),
-        Goal::Module => as_module(alloc, lexer_of(alloc, options.syntax, text), limit),
-        Goal::Program => as_program(alloc, lexer_of(alloc, options.syntax, text), limit),
+        Goal::Script => as_script(
+            alloc,
+            tokens_of(alloc, options, CodeGoal::Script, text),
+            limit,
+        ),
+        Goal::Module => as_module(
+            alloc,
+            tokens_of(alloc, options, CodeGoal::Module, text),
+            limit,
+        ),
+        Goal::Program => read_as_program(alloc, options, text),
         Goal::Auto => read_either(alloc, options, text),
     }
 }

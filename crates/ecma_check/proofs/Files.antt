@@ -4,12 +4,15 @@ use Rattle.std.specs.Prelude.{IfErr, IfOk, IfSome, OnOk}
 use Rattle.std.specs.Borrow.{Bor}
 use Rattle.std.specs.Io.KnownBytes.{Appends}
 use Rattle.std.proofs.lemmas.List.{map-append, map_more}
+use Rattle.swc_ecma_parser_error.specs.declared.error.Error.{Error}
 use Rattle.swc_ecma_parser_model.specs.Tree as model
 use Rattle.ecma_page.specs.declared.frame.Frame.{Frame}
-use Rattle.ecma_answers.specs.declared.parsing.Outcome.{Outcome}
-use Rattle.ecma_answers.specs.declared.parsing.Outcome.TheVariants as outcome
+use Rattle.ecma_answers.specs.declared.outcome.Outcome.{Outcome}
+use Rattle.ecma_answers.specs.declared.outcome.Outcome.TheVariants as outcome
 use Rattle.ecma_answers.specs.Outcomes.{outcome_of}
-use Rattle.ecma_answers.specs.Spelled.{Spells, view_tree}
+use Rattle.ecma_events.specs.declared.early_error.EarlyError.{EarlyError}
+use Rattle.ecma_answers.specs.Found.{IsClean}
+use Rattle.ecma_answers.specs.Spelled.{view_tree}
 use Rattle.ecma_check.specs.declared.check.Checked.{Checked}
 use Rattle.ecma_check.specs.declared.command.Settings.{Settings}
 use Rattle.ecma_check.specs.declared.fault.Fault.{Fault}
@@ -122,9 +125,10 @@ answered_more s files i d known left later before mid after quiet loud louder to
 module _ (s : Settings) (e : Entry) where
   spelled_of : (t : Result (List ℕ) Fault) → e.text ≡ t → IsEntryOf s e t → IsCleanEntry e → IsSpelled s e
   spelled_of (Ok text) same h c =
-      let (reading, decides, a) = h.is_checked in
+      let (f, finds, a) = h.is_checked in
       let clean : IsCleanAnswer (Ok (h.checked.outcome, h.checked.faults)) = subst IsCleanAnswer h.answer c in
-      let (y, is, none, spells) = none_told s.options text reading.tree reading.faults.items decides.spelled (sym (ap sum.refusals a.outcome) ∙ clean.0) (sym a.faults ∙ clean.1) in
+      let (y, is, none, no_error, spells) =
+      none_told s.options text f.reading.tree f.reading.faults.items f.early.items finds.decides.spelled finds.early (sym (ap sum.refusals a.outcome) ∙ clean.0) (sym a.faults ∙ clean.1) in
       (text, view_tree y, same, spells)
   spelled_of (Err f) same h c = absurd (subst IsCleanAnswer h.answer c)
 
@@ -135,9 +139,10 @@ module _ (s : Settings) (e : Entry) where
   clean_of : (t : Result (List ℕ) Fault) → e.text ≡ t → IsEntryOf s e t → IsSpelled s e → IsCleanEntry e
   clean_of (Ok text) same h spelled =
       let (given, x, is, spells) = spelled in
-      let (reading, decides, a) = h.is_checked in
+      let (f, finds, a) = h.is_checked in
       let one_text : given ≡ text = ap (λ r. text_or r given) (sym is ∙ same) in
-      let (clean, none) = spelled_none_told s.options text reading.tree reading.faults.items decides.spelled x (subst (λ z. Spells s.options z x) one_text spells) in
+      let (clean, none) =
+      spelled_none_told s.options text f.reading.tree f.reading.faults.items f.early.items finds.decides.spelled finds.early x (subst (λ z. IsClean s.options z x) one_text spells) in
       subst IsCleanAnswer (sym h.answer) (ap sum.refusals (a.outcome ∙ clean), a.faults ∙ none)
   clean_of (Err f) same h spelled =
       let (given, x, is, spells) = spelled in
@@ -170,24 +175,27 @@ whole_run s names known left before mid after quiet loud total h k = record {
 
 module _ (s : Settings) (before after : Option (List ℕ)) (e : Entry) (total : Sum) (sums : total ≡ added sum.empty e.answer) (dash : e.file ≡ codes "-") (written : Appends before after ((e.out ++ []) ++ summed s.format total)) where
   input_shows : (xs : List ℕ) (t : Result (List ℕ) Fault) → IsEntryOf s e t → IfOk t (λ text. text ≡ xs) → sum.status total ≡ 0
-      → (x : model.Tree) × Spells s.options xs x × Shows s xs x before after
+      → (x : model.Tree) × IsClean s.options xs x × Shows s xs x before after
   input_shows xs (Err f) h from z =
       let clean = each_of sum.empty (e ∷ []) (zero_of (added sum.empty e.answer) (subst (λ t. sum.status t ≡ 0) sums z)) in
       absurd (subst IsCleanAnswer h.answer clean.1.0)
   input_shows xs (Ok text) h from z =
       let zero = each_of sum.empty (e ∷ []) (zero_of (added sum.empty e.answer) (subst (λ t. sum.status t ≡ 0) sums z)) in
       let clean : IsCleanAnswer (Ok (h.checked.outcome, h.checked.faults)) = subst IsCleanAnswer h.answer zero.1.0 in
-      let (reading, decides, a) = h.is_checked in
-      let (y, is, none, spells) = none_told s.options text reading.tree reading.faults.items decides.spelled (sym (ap sum.refusals a.outcome) ∙ clean.0) (sym a.faults ∙ clean.1) in
-      let out_of : h.checked.outcome ≡ outcome.Clean = a.outcome ∙ ap (λ t. outcome_of t reading.faults.items) is ∙ ap (outcome_of (Ok y)) none in
+      let (f, finds, a) = h.is_checked in
+      let (y, is, none, no_error, spells) =
+      none_told s.options text f.reading.tree f.reading.faults.items f.early.items finds.decides.spelled finds.early (sym (ap sum.refusals a.outcome) ∙ clean.0) (sym a.faults ∙ clean.1) in
+      let out_of : h.checked.outcome ≡ outcome.Clean =
+      a.outcome ∙ ap (λ t. outcome_of t f.reading.faults.items f.early.items) is ∙ ap (λ (es : List Error). outcome_of (Ok y) es f.early.items) none ∙ ap (outcome_of (Ok y) []) no_error in
       let all : total ≡ one = sums ∙ ap (added sum.empty) h.answer ∙ sum_of_one h.checked.outcome h.checked.faults out_of clean.1 in
-      let printed = subst (λ es. IsPrinted s.format s.options h.frame e.file text (Ok y) es h.checked.printed.out.items h.checked.printed.notes.items) none
-      (subst (λ t. IsPrinted s.format s.options h.frame e.file text t reading.faults.items h.checked.printed.out.items h.checked.printed.notes.items) is a.printed) in
-      let named = subst (λ n. IsPrinted s.format s.options h.frame n text (Ok y) [] h.checked.printed.out.items h.checked.printed.notes.items) dash printed in
+      let printed = subst (λ (ks : List EarlyError). IsPrinted s.format s.options h.frame e.file text (Ok y) [] ks h.checked.printed.out.items h.checked.printed.notes.items) no_error
+      (subst (λ (es : List Error). IsPrinted s.format s.options h.frame e.file text (Ok y) es f.early.items h.checked.printed.out.items h.checked.printed.notes.items) none
+      (subst (λ t. IsPrinted s.format s.options h.frame e.file text t f.reading.faults.items f.early.items h.checked.printed.out.items h.checked.printed.notes.items) is a.printed)) in
+      let named = subst (λ n. IsPrinted s.format s.options h.frame n text (Ok y) [] [] h.checked.printed.out.items h.checked.printed.notes.items) dash printed in
       let front = subst (λ z. Appends before after (z ++ summed s.format total)) (append-nil e.out ∙ h.out) written in
       let behind = subst (λ t. Appends before after (h.checked.printed.out.items ++ summed s.format t)) all front in
       let shows = shown s.options text before after s.format h.frame y h.checked.printed.out.items h.checked.printed.notes.items named behind in
-      subst (λ z. (x : model.Tree) × Spells s.options z x × Shows s z x before after) from (view_tree y, spells, shows)
+      subst (λ z. (x : model.Tree) × IsClean s.options z x × Shows s z x before after) from (view_tree y, spells, shows)
 
 first_text : (known : Option (List ℕ)) (xs : List ℕ) (e : Entry) → known ≡ Some xs → BeginsWith known (e ∷ []) → e.file ≡ codes "-" → IfOk e.text (λ text. text ≡ xs)
 first_text known xs e same h dash = known_text e.text (subst (λ k. IfOk e.text (λ text. IfSome k (λ ys. text ≡ ys))) same (h dash))
@@ -199,7 +207,7 @@ first_text known xs e same h dash = known_text e.text (subst (λ k. IfOk e.text 
 module _ (s : Settings) (known before after quiet loud : Option (List ℕ)) (total : Sum) where
   clean_input : (es : List Entry) → map (λ (e : Entry). e.file) es ≡ codes "-" ∷ [] → Each (IsEntry s) es → BeginsWith known es → total ≡ sum_from sum.empty es
       → Appends before after (outs es ++ summed s.format total) → sum.status total ≡ 0
-      → IfSome known (λ xs. (x : model.Tree) × Spells s.options xs x × Shows s xs x before after)
+      → IfSome known (λ xs. (x : model.Tree) × IsClean s.options xs x × Shows s xs x before after)
   clean_input [] names each begins sums written z = cc
   clean_input (e ∷ d ∷ es) names each begins sums written z = cc
   clean_input (e ∷ []) names each begins sums written z = of_known known refl
@@ -207,18 +215,18 @@ module _ (s : Settings) (known before after quiet loud : Option (List ℕ)) (tot
       dash : e.file ≡ codes "-"
       dash = ap (λ ns. get_or ns 0 []) names
 
-      of_known : (k : Option (List ℕ)) → known ≡ k → IfSome k (λ xs. (x : model.Tree) × Spells s.options xs x × Shows s xs x before after)
+      of_known : (k : Option (List ℕ)) → known ≡ k → IfSome k (λ xs. (x : model.Tree) × IsClean s.options xs x × Shows s xs x before after)
       of_known None same = tt
       of_known (Some xs) same = input_shows s before after e total sums dash written xs e.text each.0 (first_text known xs e same begins dash) z
 
   -- a text that spells a tree ends with 0, or with the status of a file that is not read
   spelled_or : (e : Entry) (t : Result (List ℕ) Fault) → e.text ≡ t → IsEntryOf s e t → (xs : List ℕ) → IfOk t (λ text. text ≡ xs) → total ≡ added sum.empty e.answer
-      → (IsSpelled s e → sum.status total ≡ 0) → (x : model.Tree) → Spells s.options xs x → (sum.status total ≡ 0) ⊎ (sum.status total ≡ 3)
-  spelled_or e (Ok text) same h xs from sums spelled x p = inl (spelled (text, x, same, subst (λ z. Spells s.options z x) (sym from) p))
+      → (IsSpelled s e → sum.status total ≡ 0) → (x : model.Tree) → IsClean s.options xs x → (sum.status total ≡ 0) ⊎ (sum.status total ≡ 3)
+  spelled_or e (Ok text) same h xs from sums spelled x p = inl (spelled (text, x, same, subst (λ z. IsClean s.options z x) (sym from) p))
   spelled_or e (Err f) same h xs from sums spelled x p = inr (ap sum.status (sums ∙ ap (added sum.empty) h.answer))
 
   spelled_input : (es : List Entry) → map (λ (e : Entry). e.file) es ≡ codes "-" ∷ [] → Each (IsEntry s) es → BeginsWith known es → total ≡ sum_from sum.empty es
-      → (Each (IsSpelled s) es → sum.status total ≡ 0) → IfSome known (λ xs. (x : model.Tree) → Spells s.options xs x → (sum.status total ≡ 0) ⊎ (sum.status total ≡ 3))
+      → (Each (IsSpelled s) es → sum.status total ≡ 0) → IfSome known (λ xs. (x : model.Tree) → IsClean s.options xs x → (sum.status total ≡ 0) ⊎ (sum.status total ≡ 3))
   spelled_input [] names each begins sums spelled = cc
   spelled_input (e ∷ d ∷ es) names each begins sums spelled = cc
   spelled_input (e ∷ []) names each begins sums spelled = of_known known refl
@@ -226,7 +234,7 @@ module _ (s : Settings) (known before after quiet loud : Option (List ℕ)) (tot
       dash : e.file ≡ codes "-"
       dash = ap (λ ns. get_or ns 0 []) names
 
-      of_known : (k : Option (List ℕ)) → known ≡ k → IfSome k (λ xs. (x : model.Tree) → Spells s.options xs x → (sum.status total ≡ 0) ⊎ (sum.status total ≡ 3))
+      of_known : (k : Option (List ℕ)) → known ≡ k → IfSome k (λ xs. (x : model.Tree) → IsClean s.options xs x → (sum.status total ≡ 0) ⊎ (sum.status total ≡ 3))
       of_known None same = tt
       of_known (Some xs) same = spelled_or e e.text refl each.0 xs (first_text known xs e same begins dash) sums (λ one. spelled (one, tt))
 
@@ -244,7 +252,7 @@ module _ (s : Settings) (names : List (List ℕ)) (known before after quiet loud
     spelled = λ dash. of_known known;
   }
     where
-      of_known : (k : Option (List ℕ)) → IfSome k (λ xs. (x : model.Tree) → Spells s.options xs x → (n ≡ 0) ⊎ (n ≡ 3))
+      of_known : (k : Option (List ℕ)) → IfSome k (λ xs. (x : model.Tree) → IsClean s.options xs x → (n ≡ 0) ⊎ (n ≡ 3))
       of_known None = tt
       of_known (Some xs) = λ x p. inr h
 

@@ -1,7 +1,7 @@
 -- A sum is clean where each of its files is.
 use Rattle.std.proofs.Common.{◌≡◌, ◌∙◌, ap, ℕ, ◌+◌, ◌-◌, ◌^◌, ◌==◌, min, Bool, true, false, if◌then◌else◌, List, [], ◌∷◌, ◌++◌, Result, Ok, Err, suc, refl, arith}
 use Rattle.std.proofs.lemmas.Bool.Decides.{nat_tests}
-use Rattle.ecma_answers.specs.declared.parsing.Outcome.{Outcome}
+use Rattle.ecma_answers.specs.declared.outcome.Outcome.{Outcome}
 use Rattle.ecma_check.specs.declared.fault.Fault.{Fault}
 use Rattle.ecma_check.specs.declared.sum.Sum.{Sum}
 use Rattle.ecma_check.specs.Runs.{Each, Entry, added, sum_from}

@@ -22,7 +22,7 @@ summed format.Json s = []
 summed format.Estree s = []
 summed format.Html s = []
 
--- a page of standard input with its tree, and no fault
+-- a page of standard input with its tree, of which nothing is told
 pub record ShowsPage (o : Options) (text : List ℕ) (x : Tree) (out : List ℕ) : Type 0 where
   pub frame : Frame
   pub page : Page
@@ -32,7 +32,7 @@ pub record ShowsPage (o : Options) (text : List ℕ) (x : Tree) (out : List ℕ)
   pub faults : page.faults.now ≡ []
   pub bytes : out ≡ page_text frame page
 
--- what is written of standard input, whose text spells a tree
+-- what is written of standard input, whose text is clean
 abbrev pub ShowsIn : Format → Options → (text : List ℕ) → Tree → List ℕ → Type 0
 ShowsIn format.Text o text x out = out ≡ sum.line (record sum.empty { files = 1 })
 ShowsIn format.Json o text x out = out ≡ []

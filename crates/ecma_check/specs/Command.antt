@@ -11,6 +11,8 @@ use Rattle.swc_ecma_parser_input.specs.declared.syntax.Syntax.TheVariants as syn
 use Rattle.swc_ecma_parser_input.specs.Setting.{plain, plain_setting}
 use Rattle.ecma_answers.specs.declared.options.Goal.{Goal}
 use Rattle.ecma_answers.specs.declared.options.Goal.TheVariants as goal
+use Rattle.ecma_answers.specs.declared.options.Language.{Language}
+use Rattle.ecma_answers.specs.declared.options.Language.TheVariants as language
 use Rattle.ecma_answers.specs.declared.options.Options.{Options}
 use Rattle.ecma_check.specs.declared.command.Format.{Format}
 use Rattle.ecma_check.specs.declared.command.Format.TheVariants as format
@@ -25,6 +27,10 @@ IsUnset f name = one_text f name ≡ Some (codes "false")
 
 abbrev pub IsFlag : Found → (name : List ℕ) → Bool → Type 0
 IsFlag f name b = (IsSet f name → b ≡ true) × (IsUnset f name → b ≡ false)
+
+-- what a word turns off
+abbrev pub IsNoFlag : Found → (name : List ℕ) → Bool → Type 0
+IsNoFlag f name b = (IsSet f name → b ≡ false) × (IsUnset f name → b ≡ true)
 
 -- the format of a name; text, where there is none
 abbrev pub format_named : Option (List ℕ) → Format
@@ -75,6 +81,10 @@ IsGoal f g =
     × (IsUnset f (codes "script") → IsUnset f (codes "module") → IsSet f (codes "program") → g ≡ goal.Program)
     × (IsUnset f (codes "script") → IsUnset f (codes "module") → IsUnset f (codes "program") → g ≡ goal.Auto)
 
+-- the language that a file is read in: the plain one, where that word stands there; else the whole one
+abbrev pub IsLanguage : Found → Language → Type 0
+IsLanguage f l = (IsSet f (codes "plain") → l ≡ language.Plain) × (IsUnset f (codes "plain") → l ≡ language.Whole)
+
 -- one of three at most is so
 abbrev pub is_at_most_one : (first second third : Bool) → Bool
 is_at_most_one first second third = not (first && second || first && third || second && third)
@@ -103,6 +113,7 @@ pub record IsMost (f : Found) (n : ℕ) : Type 0 where
 
 -- what the words ask of each file
 pub record AreOptions (f : Found) (o : Options) : Type 0 where
+  pub language : IsLanguage f o.language
   pub goal : IsGoal f o.goal
   pub limit : IsLimit f o.limit
   pub settings : o.syntax ≡ syntax_named (option_map raw_values (matched_of f (codes "enable")))
@@ -110,6 +121,7 @@ pub record AreOptions (f : Found) (o : Options) : Type 0 where
   pub ranges : IsFlag f (codes "ranges") o.extras.ranges
   pub comments : IsFlag f (codes "comments") o.comments
   pub tokens : IsFlag f (codes "tokens") o.tokens
+  pub early : IsNoFlag f (codes "no-early") o.early
   pub max_faults : IsMost f o.max_faults
 
 -- the files that words name; standard input, where they name none

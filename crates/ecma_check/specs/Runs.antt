@@ -3,8 +3,8 @@ use Rattle.std.specs.Prelude.{◌≡◌, ℕ, List, [], ◌∷◌, ◌++◌, ◌
 use Rattle.std.specs.Io.KnownBytes.{Appends}
 use Rattle.swc_ecma_parser_model.specs.Tree.{Tree}
 use Rattle.ecma_page.specs.declared.frame.Frame.{Frame}
-use Rattle.ecma_answers.specs.declared.parsing.Outcome.{Outcome}
-use Rattle.ecma_answers.specs.Spelled.{Spells}
+use Rattle.ecma_answers.specs.declared.outcome.Outcome.{Outcome}
+use Rattle.ecma_answers.specs.Found.{IsClean}
 use Rattle.ecma_check.specs.declared.call.Call.{Call}
 use Rattle.ecma_check.specs.declared.call.Call.TheVariants as call
 use Rattle.ecma_check.specs.declared.check.Checked.{Checked}
@@ -86,12 +86,13 @@ pub record AreAnswered (s : Settings) (names : List (List ℕ)) (known left befo
   pub written : Appends before mid (outs entries)
   pub told : Appends quiet loud (noted entries)
 
--- the text of a file was read, and it spells a tree
+-- the text of a file was read, and it spells a tree, which has no early error if they are asked for
 abbrev pub IsSpelled : Settings → Entry → Type 0
-IsSpelled s e = (text : List ℕ) × (x : Tree) × (e.text ≡ Ok text) × Spells s.options text x
+IsSpelled s e = (text : List ℕ) × (x : Tree) × (e.text ≡ Ok text) × IsClean s.options text x
 
 -- A run that comes to its end. Of each file that is read, what is written is what its text comes to; of one that is not, the line that says why.
--- The line that sums up comes last. The sum is clean exactly where each file is read and its text spells a tree.
+-- The line that sums up comes last. The sum is clean exactly where each file is read and its text spells a tree, which has no early error if they
+-- are asked for.
 pub record IsRun (s : Settings) (names : List (List ℕ)) (known before after quiet loud : Option (List ℕ)) (total : Sum) : Type 0 where
   pub entries : List Entry
   pub files : map (λ e. e.file) entries ≡ names
@@ -104,11 +105,12 @@ pub record IsRun (s : Settings) (names : List (List ℕ)) (known before after qu
   pub spelled : Each (IsSpelled s) entries → sum.status total ≡ 0
 
 -- How a run over files ends: it comes to its end and its status is that of the sum, or it is cut off with 3. Of a run over standard input alone:
--- a status of 0 says that its text spells a tree, and what is written; a text that spells one ends with 0, or with 3.
+-- a status of 0 says that its text spells a tree, without an early error if they are asked for, and what is written; a text that does so ends with
+-- 0, or with 3.
 pub record EndsRun (s : Settings) (names : List (List ℕ)) (known before after quiet loud : Option (List ℕ)) (n : ℕ) : Type 0 where
   pub whole : ((total : Sum) × (n ≡ sum.status total) × IsRun s names known before after quiet loud total) ⊎ (n ≡ 3)
-  pub clean : names ≡ codes "-" ∷ [] → n ≡ 0 → IfSome known (λ xs. (x : Tree) × Spells s.options xs x × Shows s xs x before after)
-  pub spelled : names ≡ codes "-" ∷ [] → IfSome known (λ xs. (x : Tree) → Spells s.options xs x → (n ≡ 0) ⊎ (n ≡ 3))
+  pub clean : names ≡ codes "-" ∷ [] → n ≡ 0 → IfSome known (λ xs. (x : Tree) × IsClean s.options xs x × Shows s xs x before after)
+  pub spelled : names ≡ codes "-" ∷ [] → IfSome known (λ xs. (x : Tree) → IsClean s.options xs x → (n ≡ 0) ⊎ (n ≡ 3))
 
 -- How a call ends. What asks for no run reads nothing; a text that is asked for is written, or the status is 3.
 abbrev pub Ends : Call → (known before after quiet loud : Option (List ℕ)) → (n : ℕ) → Type 0

@@ -1,7 +1,7 @@
 -- What the files of a run come to: how it adds up, the line that sums it up, and its status.
 use Rattle.std.specs.Prelude.{ℕ, List, ◌+◌, ◌-◌, ◌^◌, ◌++◌, ◌==◌, min, if◌then◌else◌, codes, decimal}
-use Rattle.ecma_answers.specs.declared.parsing.Outcome.{Outcome}
-use Rattle.ecma_answers.specs.declared.parsing.Outcome.TheVariants as outcome
+use Rattle.ecma_answers.specs.declared.outcome.Outcome.{Outcome}
+use Rattle.ecma_answers.specs.declared.outcome.Outcome.TheVariants as outcome
 use Rattle.ecma_check.specs.declared.sum.Sum.{Sum}
 
 -- a count and more, which stops at the greatest number of 64 bits

@@ -1,13 +1,15 @@
--- What is told of a text: the first faults that were recorded, how many more there are, and why there is no tree.
-use Rattle.std.specs.Prelude.{ℕ, List, [], ◌++◌, ◌==◌, if◌then◌else◌, true, false, codes, decimal, Result, Ok, Err}
+-- What is told of a text: the first of the faults that were recorded and of the early errors, how many more there are, and why there is no tree.
+use Rattle.std.specs.Prelude.{ℕ, List, [], ◌++◌, ◌+◌, ◌==◌, length, if◌then◌else◌, true, false, codes, decimal, Result, Ok, Err}
 use Rattle.std.specs.List.{flat_map}
 use Rattle.swc_ecma_parser_error.specs.declared.error.Error.{Error}
 use Rattle.ecma_estree_text.specs.Places.{Placed}
 use Rattle.ecma_estree_text.specs.Quoted.{quoted}
+use Rattle.ecma_events.specs.declared.early_error.EarlyError.{EarlyError}
+use Rattle.ecma_faults.specs.Early.{early_json, early_text}
 use Rattle.ecma_faults.specs.Json.{fault_json}
 use Rattle.ecma_faults.specs.Shown.{name_text}
 use Rattle.ecma_faults.specs.Text.{fault_text}
-use Rattle.ecma_answers.specs.Capped.{front, left_out}
+use Rattle.ecma_answers.specs.Capped.{early_front, front, left_out}
 use Rattle.ecma_check.specs.declared.command.Format.{Format}
 use Rattle.ecma_check.specs.declared.command.Format.TheVariants as format
 
@@ -25,6 +27,16 @@ fault_in format.Estree p file word e = fault_text p file word e
 -- faults one behind another
 abbrev pub faults_in : Format → Placed → (file : List ℕ) → List Error → List ℕ
 faults_in f p file es = flat_map (fault_in f p file (codes "fault")) es
+
+-- an early error in a format, and early errors one behind another
+abbrev pub early_in : Format → Placed → (file : List ℕ) → EarlyError → List ℕ
+early_in format.Json p file k = early_json p file k
+early_in format.Html p file k = early_json p file k
+early_in format.Text p file k = early_text p file k
+early_in format.Estree p file k = early_text p file k
+
+abbrev pub errors_in : Format → Placed → (file : List ℕ) → List EarlyError → List ℕ
+errors_in f p file ks = flat_map (early_in f p file) ks
 
 -- why there is no tree, if there is none
 abbrev pub refusal_in : {X : Type 0} → Format → Placed → (file : List ℕ) → Result X Error → List ℕ
@@ -48,10 +60,11 @@ counted_in format.Estree file n = more_text file n
 abbrev pub more_in : Format → (file : List ℕ) → ℕ → List ℕ
 more_in f file n = if n == 0 then [] else counted_in f file n
 
--- some faults that were recorded, how many more there are, and why there is no tree
-abbrev pub listed_in : {X : Type 0} → Format → Placed → (file : List ℕ) → Result X Error → List Error → (more : ℕ) → List ℕ
-listed_in f p file tree es more = faults_in f p file es ++ (more_in f file more ++ refusal_in f p file tree)
+-- some faults that were recorded, some early errors, how many more there are, and why there is no tree
+abbrev pub listed_in : {X : Type 0} → Format → Placed → (file : List ℕ) → Result X Error → List Error → List EarlyError → (more : ℕ) → List ℕ
+listed_in f p file tree es ks more = faults_in f p file es ++ (errors_in f p file ks ++ (more_in f file more ++ refusal_in f p file tree))
 
--- of the faults that were recorded the first, as many as are asked for; why there is no tree comes last, and in any case
-abbrev pub told_in : {X : Type 0} → Format → (most : ℕ) → Placed → (file : List ℕ) → Result X Error → List Error → List ℕ
-told_in f most p file tree es = listed_in f p file tree (front most es) (left_out most es)
+-- of the faults that were recorded and of the early errors behind them the first, as many as are asked for; why there is no tree comes last, and
+-- in any case
+abbrev pub told_in : {X : Type 0} → Format → (most : ℕ) → Placed → (file : List ℕ) → Result X Error → List Error → List EarlyError → List ℕ
+told_in f most p file tree es ks = listed_in f p file tree (front most es) (early_front most (length es) ks) (left_out most (length es + length ks))

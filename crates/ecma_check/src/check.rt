@@ -2,13 +2,13 @@
 
 ghost use Rattle.std.specs.Prelude.{◌≡◌, ◌<◌, ◌^◌, length, IfOk};
 ghost use Rattle.ecma_page.specs.declared.frame.Frame.{Frame as PageFrame};
-ghost use Rattle.ecma_check.specs.Printed.{IsChecked, IsCheckedReading, IsPrinted, IsTreeLine};
+ghost use Rattle.ecma_check.specs.Printed.{IsChecked, IsCheckedFinding, IsPrinted, IsTreeLine};
 
 use crate::command::{Format, Settings};
 use crate::fault::Fault;
 use crate::page::page_of;
 use crate::told::told;
-use ecma_answers::{Options, Outcome, Reading, Tree, read, write};
+use ecma_answers::{Findings, Options, Outcome, Tree, find, write};
 use ecma_page::{FRAME, Frame};
 use std::alloc::{AllocError, Global};
 use swc_ecma_parser::error::PResult;
@@ -26,7 +26,7 @@ pub struct Printed {
 #[derive(Drop)]
 pub struct Checked {
     pub outcome: Outcome,
-    /// How many faults were recorded.
+    /// How many faults were recorded, and how many early errors there are.
     pub faults: usize,
     pub printed: Printed,
 }
@@ -51,21 +51,22 @@ fn tree_line(
     }
 }
 
-/// What is printed of a text that was read. Pages have the frame that is given.
+/// What is printed of a text of which this was found. Pages have the frame that is given.
 fn printed_of(
     alloc: Global,
     frame: &Frame,
     settings: Settings,
     file: &str,
     text: &str,
-    reading: &Reading,
+    found: &Findings,
 ) -> Result<Printed, AllocError>
     requires { length text.now < 2 ^ 32 }
     ensures { IfOk result
         (λ it. IsPrinted settings.format settings.options frame.now file.now text.now
-        reading.now.tree reading.now.faults.items it.out.items it.notes.items) }
+        found.now.reading.tree found.now.reading.faults.items found.now.early.items
+        it.out.items it.notes.items) }
 {
-    let told = told(alloc, settings, file, text, reading)?;
+    let told = told(alloc, settings, file, text, found)?;
     let none = Vec::new(alloc);
     let options = settings.options;
     match settings.format {
@@ -74,7 +75,7 @@ fn printed_of(
             notes: none,
         }),
         Format::Estree => Ok(Printed {
-            out: tree_line(alloc, options, text, &reading.tree)?,
+            out: tree_line(alloc, options, text, &found.reading.tree)?,
             notes: told,
         }),
         Format::Html => Ok(Printed {
@@ -84,7 +85,7 @@ fn printed_of(
                 options,
                 file,
                 text,
-                &reading.tree,
+                &found.reading.tree,
                 told.as_slice(),
             )?,
             notes: none,
@@ -92,22 +93,22 @@ fn printed_of(
     }
 }
 
-/// What a text comes to that was read.
-fn checked_reading(
+/// What a text comes to of which this was found.
+fn checked_finding(
     alloc: Global,
     frame: &Frame,
     settings: Settings,
     file: &str,
     text: &str,
-    reading: &Reading,
+    found: &Findings,
 ) -> Result<Checked, AllocError>
     requires { length text.now < 2 ^ 32 }
-    ensures { IfOk result (IsCheckedReading settings frame.now file.now text.now reading.now) }
+    ensures { IfOk result (IsCheckedFinding settings frame.now file.now text.now found.now) }
 {
-    let printed = printed_of(alloc, frame, settings, file, text, reading)?;
+    let printed = printed_of(alloc, frame, settings, file, text, found)?;
     Ok(Checked {
-        outcome: reading.outcome(),
-        faults: reading.faults.len(),
+        outcome: found.outcome(),
+        faults: found.reading.faults.len() + found.early.len(),
         printed,
     })
 }
@@ -123,9 +124,9 @@ fn checked_of(
     requires { length text.now < 2 ^ 32 }
     ensures { IfOk result (IsChecked settings frame.now file.now text.now) }
 {
-    let reading = read(alloc, settings.options, text)?;
-    let checked = checked_reading(alloc, frame, settings, file, text, &reading);
-    reading.discard();
+    let found = find(alloc, settings.options, text)?;
+    let checked = checked_finding(alloc, frame, settings, file, text, &found);
+    found.discard();
     checked
 }
 

@@ -4,17 +4,17 @@ ghost use Rattle.std.specs.Prelude.{◌≡◌, ◌==◌, IfErr, IfOk, OnOk, code
 ghost use Rattle.std.specs.List.{slice_split};
 ghost use Rattle.clap.specs.Words.{first_value, found_of, matched_of, raw_values};
 ghost use Rattle.ecma_check.specs.Command as spec;
-ghost use Rattle.ecma_check.specs.Command.{AreOptions, IsGoal, IsLimit, IsMost, IsOneGoal, names_in, syntax_named};
+ghost use Rattle.ecma_check.specs.Command.{AreOptions, IsGoal, IsLanguage, IsLimit, IsMost, IsOneGoal, names_in, syntax_named};
 
 use crate::fault::Fault;
 use clap::{Arg, ArgAction, ArgMatches, Command, Error};
-use ecma_answers::{Goal, MAX_FAULTS, MAX_LIMIT, Options};
+use ecma_answers::{Goal, Language, MAX_FAULTS, MAX_LIMIT, Options};
 use ecma_estree_text::Extras;
 use std::alloc::{AllocError, Global};
 use swc_ecma_parser::input::{EsSyntax, Syntax};
 
 /// The version of the program, that of the package in npm/.
-const VERSION: &str = "0.1.0";
+const VERSION: &str = "0.4.0";
 
 /// What is printed.
 #[derive(Clone, Copy, Debug, PartialEq, Eq)]
@@ -60,7 +60,25 @@ fn max_faults<'a>(alloc: Global) -> Arg<'a> {
         .long("max-faults")
         .value_name("N")
         .value_parser(clap::value_parser!(u32))
-        .help("how many faults are told of a file, 1000 by default; 0 for all")
+        .help("how many faults and early errors are told of a file, 1000 by default; 0 for all")
+}
+
+/// Whether early errors are left out.
+fn no_early<'a>(alloc: Global) -> Arg<'a> {
+    flag(
+        alloc,
+        "no-early",
+        "tells what the parser records alone, and looks for no further early errors in a tree",
+    )
+}
+
+/// Whether the language is the plain one.
+fn plain<'a>(alloc: Global) -> Arg<'a> {
+    flag(
+        alloc,
+        "plain",
+        "reads no regular expressions, templates, optional chains, new.target, #a in b, names with escapes, old octal forms nor comments as in HTML, as ecma-parse does; without it all of ECMA-262 is read",
+    )
 }
 
 /// What is read besides ECMA-262.
@@ -70,7 +88,7 @@ fn enable<'a>(alloc: Global) -> Arg<'a> {
         .value_name("FLAG,..")
         .action(ArgAction::Append)
         .help(
-            "reads a proposal, or lets something pass: decorators, decorators-before-export, export-default-from, import-attributes, return-outside-function, auto-accessors, explicit-resource-management",
+            "reads a proposal, or lets something pass: decorators, decorators-before-export, export-default-from, import-attributes, return-outside-function, auto-accessors, explicit-resource-management; import attributes are a flag with --plain alone",
         )
 }
 
@@ -125,8 +143,10 @@ fn command<'a>(alloc: Global) -> Result<Command<'a>, AllocError> {
     );
     let command = with_goals(alloc, command)?;
     let command = command
+        .arg(plain(alloc))?
         .arg(limit(alloc))?
         .arg(max_faults(alloc))?
+        .arg(no_early(alloc))?
         .arg(enable(alloc))?
         .arg(format_word(alloc))?;
     with_extras(alloc, command)?.arg(files(alloc))
@@ -162,6 +182,17 @@ fn goal_of(matches: &ArgMatches<'_>) -> Goal
         Goal::Program
     } else {
         Goal::Auto
+    }
+}
+
+/// The language that a file is read in.
+fn language_of(matches: &ArgMatches<'_>) -> Language
+    ensures { IsLanguage (found_of matches.now) result }
+{
+    if matches.get_flag("plain") {
+        Language::Plain
+    } else {
+        Language::Whole
     }
 }
 
@@ -325,6 +356,7 @@ fn options_of(matches: &ArgMatches<'_>, syntax: Syntax) -> Options
     ensures { AreOptions (found_of matches.now) result }
 {
     Options {
+        language: language_of(matches),
         goal: goal_of(matches),
         limit: limit_of(matches),
         syntax,
@@ -334,6 +366,7 @@ fn options_of(matches: &ArgMatches<'_>, syntax: Syntax) -> Options
         },
         comments: matches.get_flag("comments"),
         tokens: matches.get_flag("tokens"),
+        early: !matches.get_flag("no-early"),
         max_faults: max_faults_of(matches),
     }
 }

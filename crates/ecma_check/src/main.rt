@@ -10,8 +10,6 @@ mod read;
 mod run;
 mod sum;
 mod tell;
-#[cfg(test)]
-mod tests;
 mod told;
 mod words;
 

@@ -38,7 +38,7 @@ fn checked_file<R: Files + AllocGlobal, I: Read>(
     check(rt.alloc(), settings, file, text.as_str())
 }
 
-/// What a file comes to: how its text comes out, and how many faults were recorded.
+/// What a file comes to: how its text comes out, and how many faults and early errors there are.
 fn answer_of(checked: &Result<Checked, Fault>) -> Result<(Outcome, usize), Fault>
     ensures read { IfOk checked.now (λ it. result ≡ Ok (it.outcome, it.faults)) }
     ensures unread { IfErr checked.now (λ fault. result ≡ Err fault) }
@@ -199,7 +199,7 @@ fn print<W: Write, E: Write>(alloc: Global, output: &mut W, errors: &mut E, text
     }
 }
 
-/// Does what the words ask for, with a reader and two writers. It answers the status: 0 where each file is clean, 1 where one has faults, 2 where
+/// Does what the words ask for, with a reader and two writers. It answers the status: 0 where each file is clean, 1 where one has faults or early errors, 2 where
 /// one has no tree, 3 where one cannot be read, nothing can be written, or the words are no command.
 pub fn run<R: Files + AllocGlobal, I: Read, W: Write, E: Write>(
     rt: &R,

@@ -12,6 +12,7 @@ use std::alloc::{AllocError, Global};
 #[derive(Clone, Copy, Debug)]
 pub struct Sum {
     pub files: usize,
+    /// Faults that were recorded, and early errors.
     pub faults: usize,
     pub refused: usize,
     pub unread: usize,

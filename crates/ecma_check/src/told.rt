@@ -1,12 +1,13 @@
-//! What is told of a text: the first faults that were recorded, how many more there are, and why there is no tree.
+//! What is told of a text: the first of the faults that were recorded and of the early errors, how many more there are, and why there is no tree.
 
 ghost use Rattle.std.specs.Prelude.{◌≡◌, ◌<◌, ◌++◌, ◌^◌, length, IfOk, OnOk};
-ghost use Rattle.ecma_check.specs.Told.{counted_in, fault_in, faults_in, lined, listed_in, more_in, more_json, more_text, refusal_in, told_in};
+ghost use Rattle.ecma_check.specs.Told.{counted_in, early_in, errors_in, fault_in, faults_in, lined, listed_in, more_in, more_json, more_text, refusal_in, told_in};
 
 use crate::command::{Format, Settings};
-use ecma_answers::{Reading, Tree, front, left_out};
+use ecma_answers::{Findings, Tree, early_front, front, left_out};
 use ecma_estree_text::{push_count, push_quoted};
-use ecma_faults::{Source, push_json, push_name, push_text};
+use ecma_events::EarlyError;
+use ecma_faults::{Source, push_early_json, push_early_text, push_json, push_name, push_text};
 use std::alloc::{AllocError, Global};
 use swc_ecma_parser::error::{Error, PResult};
 
@@ -43,6 +44,42 @@ fn push_faults(
 {
     for fault in faults {
         push_fault(out, format, file, source, "fault", fault)?;
+    }
+    Ok(())
+}
+
+/// Writes one early error in the format that is asked for.
+fn push_early(
+    out: &mut Vec<u8>,
+    format: Format,
+    file: &str,
+    source: &Source<'_>,
+    error: EarlyError,
+) -> Result<(), AllocError>
+    requires { length source.now.text < 2 ^ 32 }
+    ensures { OnOk result
+        (out.new.items ≡ out.old.items ++ early_in format source.now file.now error) }
+{
+    match format {
+        Format::Json | Format::Html => push_early_json(out, file, source, error),
+        Format::Text | Format::Estree => push_early_text(out, file, source, error),
+    }
+}
+
+/// Writes early errors.
+fn push_errors(
+    out: &mut Vec<u8>,
+    format: Format,
+    file: &str,
+    source: &Source<'_>,
+    errors: &[EarlyError],
+) -> Result<(), AllocError>
+    requires { length source.now.text < 2 ^ 32 }
+    ensures { OnOk result (out.new.items
+        ≡ out.old.items ++ errors_in format source.now file.now errors.now) }
+{
+    for error in errors {
+        push_early(out, format, file, source, *error)?;
     }
     Ok(())
 }
@@ -113,10 +150,11 @@ fn push_refusal(
     }
 }
 
-/// Faults of a text, how many more there are, and why there is no tree.
+/// Faults and early errors of a text, how many more there are, and why there is no tree.
 #[derive(Clone, Copy)]
 struct Listing<'a> {
     faults: &'a [Error],
+    early: &'a [EarlyError],
     more: usize,
     tree: &'a PResult<Tree>,
 }
@@ -133,11 +171,12 @@ fn listed_of(
     ensures { IfOk result
         (λ out. out.items
         ≡ listed_in format (lined text.now) file.now listing.entry.tree.now
-        listing.entry.faults.now listing.entry.more) }
+        listing.entry.faults.now listing.entry.early.now listing.entry.more) }
 {
     let mut out = Vec::new(alloc);
     let source = Source::new(alloc, text)?;
     push_faults(&mut out, format, file, &source, listing.faults)?;
+    push_errors(&mut out, format, file, &source, listing.early)?;
     push_more(&mut out, format, file, listing.more)?;
     push_refusal(&mut out, format, file, &source, listing.tree)?;
     Ok(out)
@@ -155,9 +194,13 @@ fn listed(
     ensures { IfOk result
         (λ out. out.items
         ≡ listed_in format (lined text.now) file.now listing.entry.tree.now
-        listing.entry.faults.now listing.entry.more) }
+        listing.entry.faults.now listing.entry.early.now listing.entry.more) }
 {
-    if listing.tree.is_ok() && listing.faults.is_empty() && listing.more == 0 {
+    if listing.tree.is_ok()
+        && listing.faults.is_empty()
+        && listing.early.is_empty()
+        && listing.more == 0
+    {
         return Ok(Vec::new(alloc));
     }
     listed_of(alloc, format, file, text, listing)
@@ -169,20 +212,22 @@ pub fn told(
     settings: Settings,
     file: &str,
     text: &str,
-    reading: &Reading,
+    found: &Findings,
 ) -> Result<Vec<u8>, AllocError>
     requires { length text.now < 2 ^ 32 }
     ensures { IfOk result
         (λ out. out.items
         ≡ told_in settings.format settings.options.max_faults (lined text.now) file.now
-        reading.now.tree reading.now.faults.items) }
+        found.now.reading.tree found.now.reading.faults.items found.now.early.items) }
 {
     let most = settings.options.max_faults;
-    let faults = reading.faults.as_slice();
+    let faults = found.reading.faults.as_slice();
+    let early = found.early.as_slice();
     let listing = Listing {
         faults: front(faults, most),
-        more: left_out(faults, most),
-        tree: &reading.tree,
+        early: early_front(early, faults.len(), most),
+        more: left_out(faults.len() + early.len(), most),
+        tree: &found.reading.tree,
     };
     listed(alloc, settings.format, file, text, listing)
 }

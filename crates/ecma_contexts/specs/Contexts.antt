@@ -24,12 +24,13 @@ pub record Contexts : Type 0 where
   pub here : Context
   pub around : List Context
 
--- a function that has its own `arguments`, `super`, `await` and `yield`: of a class or an object, a constructor, or none of these
+-- a function that has its own `arguments`, `super`, `new.target`, `await` and `yield`: of a class or an object, a constructor, or none of these
 abbrev pub in_function : Context → Code → (super_calls super_members : Bool) → Context
 in_function c code super_calls super_members = record c {
   is_strict = c.is_strict || code.is_directed;
   super_calls = super_calls;
   super_members = super_members;
+  has_new_target = true;
   bans_arguments = false;
   bans_await = false;
   bans_yield = code.is_generator;
@@ -62,7 +63,15 @@ in_code c kind.Constructor code = in_constructor c code
 
 -- the value of a field or a static block (15.7.1)
 abbrev pub in_field : Context → Context
-in_field c = record c { super_calls = false; super_members = true; bans_arguments = true; bans_await = true; bans_yield = true; bans_await_names = false }
+in_field c = record c {
+  super_calls = false;
+  super_members = true;
+  has_new_target = true;
+  bans_arguments = true;
+  bans_await = true;
+  bans_yield = true;
+  bans_await_names = false;
+}
 
 -- what is known of the code of a region; `await` of the top level is a module's (16.1, 16.2)
 abbrev pub inside : Context → Region → Context
@@ -139,6 +148,13 @@ told c (event.super_member s) = told_if (not c.super_members) error.MisplacedSup
 -- `await` and `yield` in parameters (15.3.1, 15.5.1, 15.9.1), in fields and in static blocks (15.7.1), `await` in a script (16.1)
 told c (event.await s) = told_if c.bans_await error.MisplacedAwait s
 told c (event.yield s) = told_if c.bans_yield error.MisplacedYield s
+-- `new.target` stands in functions, in fields and in static blocks; an arrow has that of the code around it (16.1.1, 16.2.1.1)
+told c (event.new_target s) = told_if (not c.has_new_target) error.MisplacedNewTarget s
+-- strict code has no number and no escape in an old form (12.9.3.1, 12.9.4.1)
+told c (event.old_number s) = told_if c.is_strict error.OldNumberInStrict s
+told c (event.old_string s) = told_if c.is_strict error.OldEscapeInStrict s
+-- a regular expression has each flag once, and not both `u` and `v` (13.2.7.1)
+told c (event.wrong_flags s) = error_at error.WrongFlags s ∷ []
 -- no static member is named `prototype` (15.7.1)
 told c (event.prototype s) = error_at error.StaticPrototype s ∷ []
 -- an object has one `__proto__: value` (13.2.5.1)
@@ -172,6 +188,7 @@ outermost = record {
   is_derived = false;
   super_calls = false;
   super_members = false;
+  has_new_target = false;
   bans_arguments = false;
   bans_await = false;
   bans_yield = false;

@@ -156,6 +156,21 @@ fn tell(errors: &mut Vec<EarlyError>, c: Context, event: &Event<'_>) -> Result<(
         }
         Event::Await(span) => tell_if(errors, c.bans_await, EarlyErrorKind::MisplacedAwait, span),
         Event::Yield(span) => tell_if(errors, c.bans_yield, EarlyErrorKind::MisplacedYield, span),
+        Event::NewTarget(span) => {
+            tell_if(
+                errors,
+                !c.has_new_target,
+                EarlyErrorKind::MisplacedNewTarget,
+                span,
+            )
+        }
+        Event::OldNumber(span) => {
+            tell_if(errors, c.is_strict, EarlyErrorKind::OldNumberInStrict, span)
+        }
+        Event::OldString(span) => {
+            tell_if(errors, c.is_strict, EarlyErrorKind::OldEscapeInStrict, span)
+        }
+        Event::WrongFlags(span) => tell_if(errors, true, EarlyErrorKind::WrongFlags, span),
         Event::Prototype(span) => tell_if(errors, true, EarlyErrorKind::StaticPrototype, span),
         Event::SecondProto(span) => tell_if(errors, true, EarlyErrorKind::SecondProto, span),
         Event::Enter(_, _)
@@ -187,6 +202,10 @@ fn follow(contexts: &mut Contexts, event: &Event<'_>) -> Result<(), AllocError>
         | Event::SuperMember(_)
         | Event::Await(_)
         | Event::Yield(_)
+        | Event::NewTarget(_)
+        | Event::OldNumber(_)
+        | Event::OldString(_)
+        | Event::WrongFlags(_)
         | Event::PrivateMember(_, _, _)
         | Event::PrivateUse(_)
         | Event::Prototype(_)

@@ -19,6 +19,8 @@ pub(crate) struct Context {
     pub(crate) super_calls: bool,
     /// Whether `super.a` has its place here.
     pub(crate) super_members: bool,
+    /// Whether `new.target` has its place here.
+    pub(crate) has_new_target: bool,
     pub(crate) bans_arguments: bool,
     pub(crate) bans_await: bool,
     pub(crate) bans_yield: bool,
@@ -44,7 +46,7 @@ impl Model for Contexts {
     ghost view = { λ c. record { here = c.here; around = c.around.items } };
 }
 
-/// A function that has its own `arguments`, `super`, `await` and `yield`.
+/// A function that has its own `arguments`, `super`, `new.target`, `await` and `yield`.
 fn in_function(c: Context, code: Code, super_calls: bool, super_members: bool) -> Context
     ensures { result ≡ rule.in_function c code super_calls super_members }
 {
@@ -52,6 +54,7 @@ fn in_function(c: Context, code: Code, super_calls: bool, super_members: bool) -
         is_strict: c.is_strict || code.is_directed,
         super_calls,
         super_members,
+        has_new_target: true,
         bans_arguments: false,
         bans_await: false,
         bans_yield: code.is_generator,
@@ -96,6 +99,7 @@ fn in_field(c: Context) -> Context
     Context {
         super_calls: false,
         super_members: true,
+        has_new_target: true,
         bans_arguments: true,
         bans_await: true,
         bans_yield: true,
@@ -148,6 +152,7 @@ impl Contexts {
                 is_derived: false,
                 super_calls: false,
                 super_members: false,
+                has_new_target: false,
                 bans_arguments: false,
                 bans_await: false,
                 bans_yield: false,

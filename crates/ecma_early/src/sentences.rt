@@ -5,6 +5,48 @@ ghost use Rattle.ecma_early.specs.Sentences.{name_of, note_of, sentence_of};
 
 use ecma_events::EarlyErrorKind;
 
+/// The sentence of a kind, from a list of all.
+macro_rules! sentence_among {
+    ($of:expr, { $($kind:ident: $sentence:literal,)* }) => {
+        match $of {
+            $(EarlyErrorKind::$kind => $sentence,)*
+        }
+    };
+}
+
+/// The sentence of a kind.
+macro_rules! sentence {
+    ($of:expr) => {
+        sentence_among!($of, {
+            DeclaredTwice: "this name is already declared; rename one of the two, or assign to it (ECMA-262, 14.2.1)",
+            EqualParameters: "another parameter has this name; rename one of the two (ECMA-262, 15.1.1)",
+            LetDeclared: "`let`, `const` and `using` cannot declare the name `let`; choose another name (ECMA-262, 14.3.1.1)",
+            MissingInitializer: "a `const` declaration must have an initializer; give it one, or declare with `let` (ECMA-262, 14.3.1.1)",
+            BoundInStrict: "strict code cannot declare `eval` or `arguments`; choose another name (ECMA-262, 13.1.1)",
+            AssignedInStrict: "strict code cannot assign to `eval` or `arguments`; assign to another name (ECMA-262, 13.15.1)",
+            ReservedInStrict: "this word is reserved in strict code; choose another name (ECMA-262, 13.1.1)",
+            NameDeleted: "strict code cannot delete a name; delete a member, or assign `undefined` (ECMA-262, 13.5.1.1)",
+            PrivateDeleted: "a private member cannot be deleted; assign `undefined` to it (ECMA-262, 13.5.1.1)",
+            WithInStrict: "`with` is not allowed in strict code; name the object of each member (ECMA-262, 14.11.1)",
+            MisplacedSuperCall: "`super(..)` outside of the constructor of a class that extends another (ECMA-262, 15.7.1)",
+            MisplacedSuper: "`super` outside of methods and fields; write a method in place of the function (ECMA-262, 15.2.1)",
+            ArgumentsInField: "`arguments` in a field or a static block; use it in a method (ECMA-262, 15.7.1)",
+            MisplacedAwait: "`await` is not allowed here; use it in the body of an async function, or at the top level of a module (ECMA-262, 15.7.1, 15.9.1 and 16.1)",
+            MisplacedYield: "`yield` is not allowed here; use it in the body of a generator (ECMA-262, 15.5.1)",
+            MisplacedNewTarget: "`new.target` outside of functions, fields and static blocks; use it in a function (ECMA-262, 16.1.1)",
+            OldNumberInStrict: "a number cannot begin with 0 and a digit in strict code; write `0o10` for 8, or remove the 0 (ECMA-262, 12.9.3.1)",
+            OldEscapeInStrict: "an old escape such as `\\1` is not allowed in strict code; write `\\x01` for the character, or remove the `\\` (ECMA-262, 12.9.4.1)",
+            WrongFlags: "the flags of a regular expression are d, g, i, m, s, u, v and y, each at most once, and `u` and `v` exclude each other (ECMA-262, 13.2.7.1)",
+            StaticPrototype: "a static member cannot be named `prototype`; choose another name (ECMA-262, 15.7.1)",
+            SecondProto: "this object already has a `__proto__`; remove one of the two (ECMA-262, 13.2.5.1)",
+            PrivateTwice: "this class already declares this private name; rename one of the two (ECMA-262, 15.7.1)",
+            PrivateUndeclared: "no class around this declares this private name; declare it, or correct its spelling (ECMA-262, 16.1.1)",
+            ExportedTwice: "this name is already exported; remove one of the two (ECMA-262, 16.2.1.1)",
+            ExportUndeclared: "this module does not declare this name; declare it, or write `from` and the module that it comes from (ECMA-262, 16.2.1.1)",
+        })
+    };
+}
+
 /// The name of a kind, as the code spells it.
 pub fn name(kind: EarlyErrorKind) -> &'static str
     ensures { result.now ≡ name_of kind }
@@ -25,6 +67,10 @@ pub fn name(kind: EarlyErrorKind) -> &'static str
         EarlyErrorKind::ArgumentsInField => "ArgumentsInField",
         EarlyErrorKind::MisplacedAwait => "MisplacedAwait",
         EarlyErrorKind::MisplacedYield => "MisplacedYield",
+        EarlyErrorKind::MisplacedNewTarget => "MisplacedNewTarget",
+        EarlyErrorKind::OldNumberInStrict => "OldNumberInStrict",
+        EarlyErrorKind::OldEscapeInStrict => "OldEscapeInStrict",
+        EarlyErrorKind::WrongFlags => "WrongFlags",
         EarlyErrorKind::StaticPrototype => "StaticPrototype",
         EarlyErrorKind::SecondProto => "SecondProto",
         EarlyErrorKind::PrivateTwice => "PrivateTwice",
@@ -38,71 +84,7 @@ pub fn name(kind: EarlyErrorKind) -> &'static str
 pub fn sentence(kind: EarlyErrorKind) -> &'static str
     ensures { result.now ≡ sentence_of kind }
 {
-    match kind {
-        EarlyErrorKind::DeclaredTwice => {
-            "this name is declared already; rename one of the two, or assign to it (ECMA-262, 14.2.1)"
-        }
-        EarlyErrorKind::EqualParameters => {
-            "another parameter has this name; rename one of the two (ECMA-262, 15.1.1)"
-        }
-        EarlyErrorKind::LetDeclared => {
-            "`let`, `const` and `using` declare no `let`; choose another name (ECMA-262, 14.3.1.1)"
-        }
-        EarlyErrorKind::MissingInitializer => {
-            "what `const` declares has no initializer; give it one, or declare by `let` (ECMA-262, 14.3.1.1)"
-        }
-        EarlyErrorKind::BoundInStrict => {
-            "strict code binds no `eval` and no `arguments`; choose another name (ECMA-262, 13.1.1)"
-        }
-        EarlyErrorKind::AssignedInStrict => {
-            "strict code assigns to no `eval` and no `arguments`; assign to another name (ECMA-262, 13.15.1)"
-        }
-        EarlyErrorKind::ReservedInStrict => {
-            "strict code reserves this word; choose another name (ECMA-262, 13.1.1)"
-        }
-        EarlyErrorKind::NameDeleted => {
-            "strict code deletes no names; delete a member, or assign `undefined` (ECMA-262, 13.5.1.1)"
-        }
-        EarlyErrorKind::PrivateDeleted => {
-            "a private member is not deleted; assign `undefined` to it (ECMA-262, 13.5.1.1)"
-        }
-        EarlyErrorKind::WithInStrict => {
-            "`with` stands in strict code; write out whose members are meant (ECMA-262, 14.11.1)"
-        }
-        EarlyErrorKind::MisplacedSuperCall => {
-            "`super(..)` stands outside of the constructor of a class that extends another (ECMA-262, 15.7.1)"
-        }
-        EarlyErrorKind::MisplacedSuper => {
-            "`super` stands outside of methods and fields; write a method in place of the function (ECMA-262, 15.2.1)"
-        }
-        EarlyErrorKind::ArgumentsInField => {
-            "`arguments` stands in a field or a static block; use it in a method (ECMA-262, 15.7.1)"
-        }
-        EarlyErrorKind::MisplacedAwait => {
-            "`await` stands in a script, a parameter, a field or a static block; wait in the body of an async function or in a module (ECMA-262, 15.7.1, 15.9.1 and 16.1)"
-        }
-        EarlyErrorKind::MisplacedYield => {
-            "`yield` stands in a parameter, a field or a static block; yield in the body of a generator (ECMA-262, 15.5.1)"
-        }
-        EarlyErrorKind::StaticPrototype => {
-            "a static member is named `prototype`; choose another name (ECMA-262, 15.7.1)"
-        }
-        EarlyErrorKind::SecondProto => {
-            "this object has a `__proto__` already; take one of the two away (ECMA-262, 13.2.5.1)"
-        }
-        EarlyErrorKind::PrivateTwice => {
-            "this class declares this private name already; rename one of the two (ECMA-262, 15.7.1)"
-        }
-        EarlyErrorKind::PrivateUndeclared => {
-            "no class around declares this private name; declare it, or correct its spelling (ECMA-262, 16.1.1)"
-        }
-        EarlyErrorKind::ExportedTwice => {
-            "this name is exported already; take one of the two away (ECMA-262, 16.2.1.1)"
-        }
-        EarlyErrorKind::ExportUndeclared => {
-            "this module declares no such name; declare it, or write `from` and the module that it comes from (ECMA-262, 16.2.1.1)"
-        }
-    }
+    sentence!(kind)
 }
 
 /// What stands at the earlier place of an error that has one.
@@ -110,8 +92,8 @@ pub fn note(kind: EarlyErrorKind) -> &'static str
     ensures { result.now ≡ note_of kind }
 {
     match kind {
-        EarlyErrorKind::ExportedTwice => "it is exported here first",
+        EarlyErrorKind::ExportedTwice => "first exported here",
         EarlyErrorKind::EqualParameters => "the other parameter",
-        _ => "it is declared here",
+        _ => "declared here",
     }
 }

@@ -5,7 +5,7 @@ ghost use Rattle.ecma_estree_writer.specs.Estree.{jsons, plain, directives, memb
 ghost use Rattle.ecma_estree_writer.specs.Work.{work_text};
 ghost use Rattle.ecma_estree_writer.specs.Writing.{Writes};
 ghost use Rattle.swc_ecma_parser_ast.specs.Parts.{view_option};
-ghost use Rattle.swc_ecma_parser_ast.specs.View.{view_class_member, view_declarator, view_decorator, view_export_specifier, view_expr_or_spread, view_import_specifier, view_module_item, view_object_pat_prop, view_param, view_param_or_ts_param_prop, view_pat, view_prop_or_spread, view_stmt, view_switch_case};
+ghost use Rattle.swc_ecma_parser_ast.specs.View.{view_class_member, view_declarator, view_decorator, view_export_specifier, view_expr_or_spread, view_import_specifier, view_module_item, view_object_pat_prop, view_param, view_param_or_ts_param_prop, view_pat, view_prop_or_spread, view_stmt, view_switch_case, view_tpl_element};
 ghost use Rattle.swc_ecma_parser_model.specs.Tree.{trees};
 ghost use Rattle.swc_ecma_parser_model.specs.Directive.{is_string_statement};
 ghost use Rattle.ecma_estree_writer.specs.Parts as parts;
@@ -18,7 +18,7 @@ use std::alloc::AllocError;
 use swc_ecma_parser_ast::{
     ClassMember, Decorator, ExportSpecifier, ExprBox, ExprOrSpread, ImportSpecifier, ModuleItem,
     ObjectPatProp, Param, ParamOrTsParamProp, Pat, PatBox, PropOrSpread, Stmt, SwitchCase,
-    VarDeclarator,
+    TplElement, VarDeclarator,
 };
 
 /// Has the first part of what is left of a list written, behind a comma where another stands before it, and then the rest.
@@ -50,6 +50,22 @@ pub(crate) fn write_exprs<'a>(
 {
     match parts.split_first() {
         Some((x, rest)) => write_next(w, is_first, Work::Expr(x), Work::Exprs(rest, false)),
+        None => Ok(()),
+    }
+}
+
+/// Writes the texts of a template.
+pub(crate) fn write_quasis<'a>(
+    w: &mut Writer<'a>,
+    parts: &'a [TplElement],
+    is_first: bool,
+) -> Result<(), AllocError>
+    ensures { OnOk result
+        (Writes w.old w.new
+        (jsons w.old.source plain is_first (trees (map view_tpl_element parts.now)))) }
+{
+    match parts.split_first() {
+        Some((x, rest)) => write_next(w, is_first, Work::Quasi(x), Work::Quasis(rest, false)),
         None => Ok(()),
     }
 }

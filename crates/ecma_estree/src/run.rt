@@ -14,9 +14,12 @@ use crate::stmts::{
 };
 use ecma_estree_exprs::{
     write_accessor, write_argument, write_attribute, write_class_body, write_class_member,
-    write_decorator, write_expr, write_method_value, write_part, write_pat, write_pat_part,
+    write_decorator, write_expr, write_linked, write_method_value, write_part, write_pat,
+    write_pat_part, write_template,
 };
-use ecma_estree_writer::{Work, Writer, write_name, write_private_name, write_str};
+use ecma_estree_writer::{
+    Work, Writer, write_name, write_private_name, write_str, write_template_element,
+};
 use std::alloc::AllocError;
 use swc_ecma_parser_ast::{ExprBox, PatBox, StmtBox, Str};
 
@@ -77,6 +80,10 @@ fn step<'a>(w: &mut Writer<'a>, work: Work<'a>) -> Result<(), AllocError>
         Work::Str(x) => write_str(w, x),
         Work::Directive(x) => write_directive_field(w, x),
         Work::Expr(x) => write_boxed_expr(w, x),
+        Work::Link(x) => write_linked(w, x),
+        Work::Template(x) => write_template(w, x),
+        Work::Quasi(x) => write_template_element(w, x),
+        Work::Quasis(xs, is_first) => lists::write_quasis(w, xs, is_first),
         Work::Exprs(xs, is_first) => lists::write_exprs(w, xs, is_first),
         Work::Elements(xs, is_first) => lists::write_elements(w, xs, is_first),
         Work::Argument(x) => write_argument(w, x),

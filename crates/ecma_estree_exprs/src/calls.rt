@@ -17,7 +17,10 @@ use swc_ecma_parser_ast::{
 };
 
 /// Has the name of a member written.
-fn push_member_prop<'a>(w: &mut Writer<'a>, prop: &'a MemberProp) -> Result<(), AllocError>
+pub(crate) fn push_member_prop<'a>(
+    w: &mut Writer<'a>,
+    prop: &'a MemberProp,
+) -> Result<(), AllocError>
     ensures { OnOk result
         (Pushes w.old w.new (json w.old.source plain (view_member_prop prop.now))) }
 {
@@ -29,7 +32,7 @@ fn push_member_prop<'a>(w: &mut Writer<'a>, prop: &'a MemberProp) -> Result<(), 
 }
 
 /// Whether a member is named in brackets.
-fn is_computed(prop: &MemberProp) -> bool
+pub(crate) fn is_computed(prop: &MemberProp) -> bool
     ensures { result ≡ kinds.is_computed (view_member_prop prop.now) }
 {
     match prop {

@@ -6,6 +6,7 @@ ghost use Rattle.ecma_estree_writer.specs.Writing.{Writes};
 ghost use Rattle.swc_ecma_parser_ast.specs.View.{view_expr};
 
 use crate::calls::{write_call, write_member, write_new, write_super_member};
+use crate::chains::write_chain;
 use crate::classes::write_class;
 use crate::functions::{write_arrow, write_function_expr};
 use crate::objects::{write_array, write_object};
@@ -13,7 +14,8 @@ use crate::operators::{
     write_assign, write_await, write_binary, write_conditional, write_sequence, write_unary,
     write_update, write_yield,
 };
-use ecma_estree_writer::{Work, Writer, write_literal, write_meta, write_name};
+use crate::templates::{write_tagged_template, write_template};
+use ecma_estree_writer::{Work, Writer, write_literal, write_meta, write_name, write_private_name};
 use std::alloc::AllocError;
 use swc_ecma_parser_ast::Expr;
 
@@ -45,6 +47,10 @@ pub fn write_expr<'a>(w: &mut Writer<'a>, expr: &'a Expr) -> Result<(), AllocErr
         Expr::MetaProp(x) => write_meta(w, x),
         Expr::Await(x) => write_await(w, x),
         Expr::Paren(x) => w.push(Work::Expr(&x.expr)),
+        Expr::Tpl(x) => write_template(w, x),
+        Expr::TaggedTpl(x) => write_tagged_template(w, x),
+        Expr::OptChain(x) => write_chain(w, x),
+        Expr::PrivateName(x) => write_private_name(w, x),
         Expr::Invalid(x) => w.leaf("Invalid", x.span),
     }
 }

@@ -3,6 +3,7 @@
 #![tactic(auto)]
 
 mod calls;
+mod chains;
 mod classes;
 mod exprs;
 mod functions;
@@ -10,8 +11,10 @@ mod members;
 mod objects;
 mod operators;
 mod patterns;
+mod templates;
 
 pub use calls::write_argument;
+pub use chains::write_linked;
 pub use classes::{write_class, write_class_body, write_class_decl};
 pub use exprs::write_expr;
 pub use functions::{
@@ -21,3 +24,4 @@ pub use members::write_class_member;
 pub use objects::{write_attribute, write_part};
 pub use operators::push_optional;
 pub use patterns::{write_pat, write_pat_part};
+pub use templates::write_template;

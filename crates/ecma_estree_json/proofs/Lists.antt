@@ -5,17 +5,17 @@ use Rattle.std.specs.Str.{bytes_eq}
 use Rattle.ecma_estree_json.specs.Json as form
 use Rattle.ecma_estree_json.specs.Json.{Json, Jsons, Fields}
 use Rattle.ecma_estree_json.specs.Law.{AddsFields}
-use Rattle.ecma_estree_json.specs.Lists.{entry, comment, all_comments, token, all_tokens, comments, tokens, ListsAreFields}
+use Rattle.ecma_estree_json.specs.Lists.{entry, regex_fields, comment, all_comments, token, all_tokens, comments, tokens, ListsAreFields}
 use Rattle.ecma_estree_json.specs.Made.{done, field, object, none, item, list, word, text}
 use Rattle.ecma_estree_json.specs.Parts.{appended}
 use Rattle.ecma_estree_json.specs.Reading.{first, more_fields, fields}
 use Rattle.ecma_estree_json.proofs.Chars.{all_simple}
 use Rattle.ecma_estree_json.proofs.Numbers.{stops}
-use Rattle.ecma_estree_json.proofs.Values.{Value, Spells, Opens, Continues, text_spells}
-use Rattle.ecma_estree_json.proofs.Objects.{whole, named_text, named_long, named_onto, fields_step, field_leaves, end_leaves, object_starts, none_opens, none_continues, item_opens, item_continues, list_starts}
-use Rattle.ecma_estree_json.proofs.Pieces.{Listed, none_listed, starts_at, spells_at, type_leaves, place_leaves, stop_of}
+use Rattle.ecma_estree_json.proofs.Values.{Value, Spells, Leaves, Opens, Continues, text_spells}
+use Rattle.ecma_estree_json.proofs.Objects.{whole, named_text, named_long, named_onto, fields_step, field_leaves, inner_leaves, end_leaves, object_starts, none_opens, none_continues, item_opens, item_continues, list_starts}
+use Rattle.ecma_estree_json.proofs.Pieces.{Listed, none_listed, starts_at, spells_at, leaves_at, quoted_spells, type_leaves, place_leaves, stop_of}
 use Rattle.ecma_estree_lists.specs.Comments.{kind_word, comment_text, next_comment, comment_list, comments_field}
-use Rattle.ecma_estree_lists.specs.Tokens.{keyword_type, name_type, word_type, token_type, is_passed, value_text, token_head, token_tail, written, token_text, comma, step_text, is_first_behind, hash_behind, token_list, tokens_field}
+use Rattle.ecma_estree_lists.specs.Tokens.{keyword_type, name_type, word_type, token_type, is_passed, value_text, regex_field, token_head, token_tail, written, token_text, comma, step_text, is_first_behind, hash_behind, token_list, tokens_field}
 use Rattle.ecma_estree_text.specs.Places.{Placed, offset, loc_text, range_text, place_fields}
 use Rattle.ecma_estree_text.specs.Quoted.{quoted, wrapped}
 use Rattle.swc_ecma_parser_common.specs.declared.comment.Comment.{Comment}
@@ -33,26 +33,38 @@ use Rattle.swc_ecma_parser_token.specs.declared.token.Word.TheVariants as word_f
 -- ---- one comment or token
 
 -- what stands behind the value
-abbrev behind_value : Placed → (a b : ℕ) → List ℕ
-behind_value p a b =
+abbrev behind_value : Placed → (a b : ℕ) → (more : List ℕ) → List ℕ
+behind_value p a b more =
     codes ",\"start\":" ++ (decimal (offset p.text a) ++ (codes ",\"end\":" ++ (decimal (offset p.text b)
-    ++ (cond p.has_locations (loc_text p a b) [] ++ (cond p.has_ranges (range_text p a b) [] ++ codes "}")))))
+    ++ (cond p.has_locations (loc_text p a b) [] ++ (cond p.has_ranges (range_text p a b) [] ++ (more ++ codes "}"))))))
 
-abbrev entry_text : Placed → (kind value : List ℕ) → (a b : ℕ) → List ℕ
-entry_text p kind value a b = codes "{\"type\":\"" ++ (kind ++ 34 ∷ (codes ",\"value\":" ++ (wrapped value ++ behind_value p a b)))
+abbrev entry_text : Placed → (kind value : List ℕ) → (a b : ℕ) → (more : List ℕ) → List ℕ
+entry_text p kind value a b more = codes "{\"type\":\"" ++ (kind ++ 34 ∷ (codes ",\"value\":" ++ (wrapped value ++ behind_value p a b more)))
 
-entry_spells : (p : Placed) (kind value : List ℕ) (a b : ℕ) → length p.text < 2 ^ 63 → all_simple kind ≡ true → Spells (entry_text p kind value a b) (entry p kind value a b)
+entry_spells : (p : Placed) (kind value : List ℕ) (a b : ℕ) (more : List ℕ) {rest : Option Fields} → length p.text < 2 ^ 63 → all_simple kind ≡ true
+    → Leaves (more ++ codes "}") rest [] → Spells (entry_text p kind value a b more) (entry p kind value a b rest)
 unfolding entry
-entry_spells p kind value a b h k =
-    whole (object_starts (type_leaves kind k (field_leaves (codes "value") refl (text_spells value) (place_leaves p a b h end_leaves))))
+entry_spells p kind value a b more h k l =
+    whole (object_starts (type_leaves kind k (field_leaves (codes "value") refl (text_spells value) (place_leaves p a b h l))))
 
-comment_layout : (p : Placed) (c : Comment) → comment_text p c ≡ entry_text p (kind_word c.kind) c.text c.span.lo.0 c.span.hi.0
+regex_layout : (exp flags : List ℕ) → (codes ",\"regex\":{\"flags\":" ++ (quoted flags ++ (codes ",\"pattern\":" ++ (quoted exp ++ codes "}")))) ++ codes "}"
+    ≡ codes ",\"regex\":{\"flags\":" ++ (quoted flags ++ (codes ",\"pattern\":" ++ (quoted exp ++ codes "}}")))
+regex_layout exp flags = simp append_assoc
+
+regex_leaves : (t : Token) → Leaves (regex_field t ++ codes "}") (regex_fields t) []
+unfolding regex_field regex_fields
+regex_leaves (token_form.Regex exp flags) =
+    leaves_at (regex_layout exp flags) (inner_leaves (codes "regex") refl (object_starts (field_leaves (codes "flags") refl (quoted_spells flags)
+    (field_leaves (codes "pattern") refl (quoted_spells exp) end_leaves))) end_leaves)
+regex_leaves _ = end_leaves
+
+comment_layout : (p : Placed) (c : Comment) → comment_text p c ≡ entry_text p (kind_word c.kind) c.text c.span.lo.0 c.span.hi.0 []
 unfolding place_fields quoted
 comment_layout p c = simp append_assoc
 
-written_layout : (p : Placed) (kind value : List ℕ) (a b : ℕ) → written p kind value a b ≡ entry_text p kind value a b
+written_layout : (p : Placed) (kind value : List ℕ) (a b : ℕ) (more : List ℕ) → written p kind value a b more ≡ entry_text p kind value a b more
 unfolding written token_head token_tail place_fields
-written_layout p kind value a b = simp append_assoc
+written_layout p kind value a b more = simp append_assoc
 
 kind_simple : (k : CommentKind) → all_simple (kind_word k) ≡ true
 unfolding kind_word
@@ -60,7 +72,7 @@ kind_simple kind.Line = refl
 kind_simple kind.Block = refl
 
 comment_spells : (p : Placed) (c : Comment) → length p.text < 2 ^ 63 → Spells (comment_text p c) (comment p c)
-comment_spells p c h = spells_at (comment_layout p c) (entry_spells p (kind_word c.kind) c.text c.span.lo.0 c.span.hi.0 h (kind_simple c.kind))
+comment_spells p c h = spells_at (comment_layout p c) (entry_spells p (kind_word c.kind) c.text c.span.lo.0 c.span.hi.0 [] h (kind_simple c.kind) end_leaves)
 
 keyword_simple : (k : Keyword) → all_simple (keyword_type k) ≡ true
 unfolding keyword_type
@@ -82,6 +94,7 @@ word_simple word_form.Null = refl
 word_simple word_form.True = refl
 word_simple word_form.False = refl
 word_simple (word_form.Ident bs) = name_simple bs
+word_simple (word_form.Escaped bs) = name_simple bs
 
 type_simple : (t : Token) → all_simple (token_type t) ≡ true
 unfolding token_type
@@ -90,11 +103,11 @@ type_simple _ = refl
 
 token_spells : (p : Placed) (hash : Option Span) (t : TokenAndSpan) → length p.text < 2 ^ 63 → Spells (token_text p hash t) (token p hash t)
 token_spells p None t h =
-    spells_at (written_layout p (token_type t.token) (value_text p.text t.token t.span) t.span.lo.0 t.span.hi.0)
-    (entry_spells p (token_type t.token) (value_text p.text t.token t.span) t.span.lo.0 t.span.hi.0 h (type_simple t.token))
+    spells_at (written_layout p (token_type t.token) (value_text p.text t.token t.span) t.span.lo.0 t.span.hi.0 (regex_field t.token))
+    (entry_spells p (token_type t.token) (value_text p.text t.token t.span) t.span.lo.0 t.span.hi.0 (regex_field t.token) h (type_simple t.token) (regex_leaves t.token))
 token_spells p (Some mark) t h =
-    spells_at (written_layout p (codes "PrivateIdentifier") (value_text p.text t.token t.span) mark.lo.0 t.span.hi.0)
-    (entry_spells p (codes "PrivateIdentifier") (value_text p.text t.token t.span) mark.lo.0 t.span.hi.0 h refl)
+    spells_at (written_layout p (codes "PrivateIdentifier") (value_text p.text t.token t.span) mark.lo.0 t.span.hi.0 [])
+    (entry_spells p (codes "PrivateIdentifier") (value_text p.text t.token t.span) mark.lo.0 t.span.hi.0 [] h refl end_leaves)
 
 -- ---- all of them
 

@@ -5,22 +5,22 @@ use Rattle.ecma_estree_json.specs.Json.{Json, Jsons, Fields}
 use Rattle.ecma_estree_json.specs.Law.{AddsFields}
 use Rattle.ecma_estree_json.specs.Made.{done, field, object, none, item, list, null, flag, word, text, number, count}
 use Rattle.ecma_estree_json.specs.Parts.{Form, spot, loc_field, range_field, place, parenthesis, decorators_field, directive_text, directive_field, phase_fields, appended, and_fields}
-use Rattle.ecma_estree_json.specs.Parts.{node_at as node_json, identifier as identifier_json, word_name as word_name_json, literal as literal_json, big_literal as big_literal_json, property as property_json, member as member_json, function_fields as function_fields_json, accessor as accessor_json}
+use Rattle.ecma_estree_json.specs.Parts.{node_at as node_json, identifier as identifier_json, word_name as word_name_json, literal as literal_json, big_literal as big_literal_json, optional_text as optional_text_json, regex_literal as regex_literal_json, template_element as template_element_json, property as property_json, member as member_json, function_fields as function_fields_json, accessor as accessor_json}
 use Rattle.ecma_estree_json.specs.Reading.{First, first, refused, is_numeral, behind_mark, more_fields}
 use Rattle.ecma_estree_json.proofs.Bounds.{offset_small, IsSmall, spot_small}
 use Rattle.ecma_estree_json.proofs.Chars.{all_simple}
 use Rattle.ecma_estree_json.proofs.Numbers.{stops}
-use Rattle.ecma_estree_json.proofs.Values.{Value, Leaving, Spells, Starts, Leaves, Opens, Continues, no_value, no_start, no_fields, no_opens, no_continues, leaves_some, null_spells, true_spells, false_spells, text_spells, word_spells, number_spells, decimal_spells, mark_not}
+use Rattle.ecma_estree_json.proofs.Values.{Value, Leaving, Spells, Starts, Leaves, Opens, Continues, no_value, no_start, no_fields, no_opens, no_continues, leaves_some, spells_some, null_spells, true_spells, false_spells, text_spells, word_spells, number_spells, decimal_spells, mark_not}
 use Rattle.ecma_estree_json.proofs.Objects.{whole, named_text, field_leaves, inner_leaves, end_leaves, object_starts, none_opens, none_continues, item_opens, item_continues, one_opens, list_starts}
 use Rattle.ecma_estree_json.proofs.Words.{digits_simple}
 use Rattle.ecma_estree_text.specs.Bracket.{bracket}
 use Rattle.ecma_estree_text.specs.Number.{digits_text}
 use Rattle.ecma_estree_text.specs.Places.{Placed, offset, spot_text, spots_text, loc_text, range_text, place_fields}
-use Rattle.ecma_estree_text.specs.Quoted.{quoted, inner_quoted}
+use Rattle.ecma_estree_text.specs.Quoted.{quoted, inner_quoted, regex_text}
 use Rattle.ecma_estree_text.specs.Spots.{spot_at}
 use Rattle.ecma_estree_text.specs.declared.spot.Spot.{Spot}
 use Rattle.ecma_estree_writer.specs.Estree.{accessor, function_fields, member_head, property}
-use Rattle.ecma_estree_writer.specs.Parts.{node_at, key, word_field, bool_field, end, open_list, end_list, nothing, comma, identifier, word_name, literal, big_literal, directive, phase_field}
+use Rattle.ecma_estree_writer.specs.Parts.{node_at, key, word_field, bool_field, end, open_list, end_list, nothing, comma, identifier, word_name, literal, big_literal, first_key, optional_text, regex_literal, template_element, text_end, directive, phase_field}
 use Rattle.ecma_estree_writer.specs.Words.{bool_word}
 use Rattle.swc_ecma_parser_common.specs.declared.span.Span.{Span}
 use Rattle.swc_ecma_parser_model.specs.Forms.{span_of}
@@ -41,7 +41,7 @@ spells_at {xs} {ys} {o} e a = subst (λ zs. Spells zs o) (sym e) a
 pub starts_at : {xs ys zs : List ℕ} {o : Option Json} → xs ≡ ys → Starts ys o zs → Starts xs o zs
 starts_at {xs} {ys} {zs} {o} e a = subst (λ us. Starts us o zs) (sym e) a
 
-leaves_at : {xs ys zs : List ℕ} {p : Option Fields} → xs ≡ ys → Leaves ys p zs → Leaves xs p zs
+pub leaves_at : {xs ys zs : List ℕ} {p : Option Fields} → xs ≡ ys → Leaves ys p zs → Leaves xs p zs
 leaves_at {xs} {ys} {zs} {p} e a = subst (λ us. Leaves us p zs) (sym e) a
 
 opens_at : {xs ys : List ℕ} {p : Option Jsons} → xs ≡ ys → Opens ys p → Opens xs p
@@ -85,6 +85,19 @@ field_reads name {xs} {ys} h a b = leaves_at (key_text name (xs ++ ys)) (field_l
 pub inner_reads : (name : List ℕ) {xs ys zs : List ℕ} {o : Option Json} {p : Option Fields} → all_simple name ≡ true → Starts xs o ys → Leaves ys p zs
     → Leaves (key name ++ xs) (field name o p) zs
 inner_reads name {xs} h a b = leaves_at (key_text name xs) (inner_leaves name h a b)
+
+first_text : (name xs : List ℕ) → first_key name ++ xs ≡ 123 ∷ named_text name xs
+unfolding first_key
+first_text name xs = ap (λ r. 123 ∷ 34 ∷ r) (append_assoc name (34 ∷ 58 ∷ []) xs)
+
+-- an object that is no node, by its first field
+first_starts : (name : List ℕ) {xs ys zs : List ℕ} {o : Option Json} {p : Option Fields} → all_simple name ≡ true → Spells xs o → Leaves ys p zs
+    → Starts (first_key name ++ (xs ++ ys)) (object (field name o p)) zs
+first_starts name {xs} {ys} h a b = starts_at (first_text name (xs ++ ys)) (object_starts (field_leaves name h a b))
+
+no_fields_spell : Spells (codes "{}") (object done)
+unfolding object done
+no_fields_spell = spells_some (record { reads = λ n rest h s. refl; begins = λ rest. refl })
 
 list_begins : {xs ys : List ℕ} {p : Option Jsons} → Opens xs p → Starts (open_list ++ (xs ++ (end_list ++ ys))) (list p) ys
 unfolding open_list end_list
@@ -206,6 +219,25 @@ big_literal_spells f s raw w =
     whole (node_starts f (codes "Literal") s.lo.0 s.hi.0 w refl (field_reads (codes "value") refl nothing_spells
     (field_reads (codes "raw") refl (quoted_spells raw)
     (leaves_at (ap (λ r. key (codes "bigint") ++ r) (digits_layout raw)) (field_reads (codes "bigint") refl (word_spells (digits_text raw) (digits_simple raw)) last_reads)))))
+
+pub regex_spells : (f : Form) (s : Span) (exp flags : Text) → Fits f → Spells (regex_literal f.source s exp flags) (regex_literal_json f s exp flags)
+unfolding regex_literal regex_literal_json
+regex_spells f s exp flags w =
+    whole (node_starts f (codes "Literal") s.lo.0 s.hi.0 w refl (field_reads (codes "value") refl no_fields_spell
+    (field_reads (codes "raw") refl (quoted_spells (regex_text exp flags)) (inner_reads (codes "regex") refl
+    (first_starts (codes "pattern") refl (quoted_spells exp) (field_reads (codes "flags") refl (quoted_spells flags) end_reads)) last_reads))))
+
+optional_spells : (o : Option Text) → Spells (optional_text o) (optional_text_json o)
+optional_spells None = nothing_spells
+optional_spells (Some s) = quoted_spells s
+
+pub element_spells : (f : Form) (s : Span) (tail : Bool) (cooked : Option Text) (raw : Text) → Fits f
+    → Spells (template_element f.source s tail cooked raw) (template_element_json f s tail cooked raw)
+unfolding template_element template_element_json
+element_spells f s tail cooked raw w =
+    whole (node_starts f (codes "TemplateElement") (s.lo.0 + 1) (text_end s tail) w refl (inner_reads (codes "value") refl
+    (first_starts (codes "raw") refl (quoted_spells raw) (field_reads (codes "cooked") refl (optional_spells cooked) end_reads))
+    (bool_reads (codes "tail") tail refl last_reads)))
 
 -- ---- how properties, members and functions begin
 

@@ -8,11 +8,11 @@ use Rattle.ecma_estree_json.specs.Parts.{Form, parenthesis}
 use Rattle.ecma_estree_json.proofs.Chars.{all_simple}
 use Rattle.ecma_estree_json.proofs.Values.{Spells, Leaves, Opens, no_value, no_fields, no_opens, null_spells, number_spells}
 use Rattle.ecma_estree_json.proofs.Objects.{whole, none_opens, one_opens, parsed}
-use Rattle.ecma_estree_json.proofs.Pieces.{Fits, Listed, no_listed, none_listed, item_listed, either_listed, either_spells, either_opens, nothing_spells, quoted_spells, bool_spells, node_starts, end_reads, last_reads, field_reads, inner_reads, list_reads, empty_reads, word_reads, bool_reads, identifier_spells, word_name_spells, literal_spells, big_literal_spells, property_starts, member_starts, accessor_starts, function_fields_read, decorators_read, directive_reads, phase_reads, added_read, bare_reads}
+use Rattle.ecma_estree_json.proofs.Pieces.{Fits, Listed, no_listed, none_listed, item_listed, either_listed, either_spells, either_opens, nothing_spells, quoted_spells, bool_spells, node_starts, end_reads, last_reads, field_reads, inner_reads, list_reads, empty_reads, word_reads, bool_reads, identifier_spells, word_name_spells, literal_spells, big_literal_spells, regex_spells, element_spells, property_starts, member_starts, accessor_starts, function_fields_read, decorators_read, directive_reads, phase_reads, added_read, bare_reads}
 use Rattle.ecma_estree_json.proofs.Strings.{string_spells}
 use Rattle.ecma_estree_json.proofs.Words.{function_kind_simple, class_kind_simple, kind_simple, using_simple, method_simple, unary_simple, update_simple, binary_simple, binary_kind_simple, assign_simple}
 use Rattle.ecma_estree_text.specs.Number.{number_text}
-use Rattle.ecma_estree_writer.specs.Estree.{Role, plain, directives, members, attributes, bare, argument, declared, function, class, json, jsons, is_bare, is_attributes, is_directives, function_kind, class_kind, is_zero, skips, next, end_of, expr_end, brace, method_role}
+use Rattle.ecma_estree_writer.specs.Estree.{Role, plain, directives, members, attributes, bare, argument, declared, function, class, json, jsons, is_bare, is_attributes, is_directives, function_kind, class_kind, is_zero, skips, next, end_of, expr_end, brace, method_role, linked, is_link, is_optional, inner}
 use Rattle.ecma_estree_writer.specs.Parts.{nothing, is_namespace_alone, is_import, is_empty}
 use Rattle.ecma_estree_writer.specs.Words.{bool_word, kind_word, using_word, method_word, unary_word, update_word, binary_word, binary_kind, assign_word}
 use Rattle.swc_ecma_parser_model.specs.declared.leaves.MetaPropKind.TheVariants as meta
@@ -32,6 +32,7 @@ mutual
   tree_reads f r (tree.null s) w = literal_spells f s (codes "null") w null_spells
   tree_reads f r (tree.num s raw) w = literal_spells f s raw w (number_spells (number_text raw))
   tree_reads f r (tree.big_int s raw) w = big_literal_spells f s raw w
+  tree_reads f r (tree.regex s exp flags) w = regex_spells f s exp flags w
   -- further primary expressions
   tree_reads f r (tree.this s) w = whole (node_starts f (codes "ThisExpression") s.lo.0 s.hi.0 w refl last_reads)
   tree_reads f r (tree.array s elems) w =
@@ -71,9 +72,9 @@ mutual
       whole (node_starts f (codes "SequenceExpression") s.lo.0 s.hi.0 w refl (list_reads (codes "expressions") refl (items_read f plain exprs w) last_reads))
   -- members and calls
   tree_reads f r (tree.member s obj prop) w =
-      whole (node_starts f (codes "MemberExpression") s.lo.0 s.hi.0 w refl (field_reads (codes "object") refl (tree_reads f plain obj w)
+      whole (node_starts f (codes "MemberExpression") s.lo.0 s.hi.0 w refl (field_reads (codes "object") refl (tree_reads f (inner r obj) obj w)
       (field_reads (codes "property") refl (tree_reads f plain prop w) (bool_reads (codes "computed") (is_computed prop) refl
-      (bool_reads (codes "optional") false refl last_reads)))))
+      (bool_reads (codes "optional") (is_optional r) refl last_reads)))))
   tree_reads f r (tree.super_prop s word prop) w =
       whole (node_starts f (codes "MemberExpression") s.lo.0 s.hi.0 w refl (inner_reads (codes "object") refl
       (node_starts f (codes "Super") word.lo.0 word.hi.0 w refl end_reads) (field_reads (codes "property") refl (tree_reads f plain prop w)
@@ -81,11 +82,20 @@ mutual
   tree_reads f r (tree.call s callee args) w =
       either_spells (is_import callee) (whole (node_starts f (codes "ImportExpression") s.lo.0 s.hi.0 w refl
       (field_reads (codes "source") refl (tree_reads f (argument 0) args w) (field_reads (codes "options") refl (tree_reads f (argument 1) args w) last_reads)))) (whole
-      (node_starts f (codes "CallExpression") s.lo.0 s.hi.0 w refl (field_reads (codes "callee") refl (tree_reads f plain callee w)
-      (list_reads (codes "arguments") refl (items_read f plain args w) (bool_reads (codes "optional") false refl last_reads)))))
+      (node_starts f (codes "CallExpression") s.lo.0 s.hi.0 w refl (field_reads (codes "callee") refl (tree_reads f (inner r callee) callee w)
+      (list_reads (codes "arguments") refl (items_read f plain args w) (bool_reads (codes "optional") (is_optional r) refl last_reads)))))
   tree_reads f r (tree.new s callee args) w =
       whole (node_starts f (codes "NewExpression") s.lo.0 s.hi.0 w refl (field_reads (codes "callee") refl (tree_reads f plain callee w)
       (list_reads (codes "arguments") refl (either_opens (is_absent args) none_opens (items_read f plain args w)) last_reads)))
+  tree_reads f r (tree.tpl s exprs quasis) w =
+      whole (node_starts f (codes "TemplateLiteral") s.lo.0 s.hi.0 w refl (list_reads (codes "expressions") refl (items_read f plain exprs w)
+      (list_reads (codes "quasis") refl (items_read f plain quasis w) last_reads)))
+  tree_reads f r (tree.tagged_tpl s tag template) w =
+      whole (node_starts f (codes "TaggedTemplateExpression") s.lo.0 s.hi.0 w refl (field_reads (codes "tag") refl (tree_reads f plain tag w)
+      (field_reads (codes "quasi") refl (tree_reads f plain template w) last_reads)))
+  tree_reads f r (tree.opt_chain s optional base) w =
+      either_spells (is_link r) (tree_reads f (linked optional) base w) (whole (node_starts f (codes "ChainExpression") s.lo.0 s.hi.0 w refl
+      (field_reads (codes "expression") refl (tree_reads f (linked optional) base w) last_reads)))
   tree_reads f r (tree.arrow s params body is_async) w =
       whole (node_starts f (codes "ArrowFunctionExpression") s.lo.0 s.hi.0 w refl (function_fields_read nothing (not (is_block body)) false is_async nothing_spells
       (list_reads (codes "params") refl (items_read f plain params w) (field_reads (codes "body") refl
@@ -104,6 +114,7 @@ mutual
   tree_reads f r (tree.computed s e) w = tree_reads f plain e w
   tree_reads f r (tree.super_callee s) w = whole (node_starts f (codes "Super") s.lo.0 s.hi.0 w refl last_reads)
   tree_reads f r (tree.import_callee s) w = whole (node_starts f (codes "Import") s.lo.0 s.hi.0 w refl last_reads)
+  tree_reads f r (tree.quasi s tail cooked raw) w = element_spells f s tail cooked raw w
   -- parts of objects
   tree_reads f r (tree.spread_prop dots e) w =
       whole (node_starts f (codes "SpreadElement") dots.lo.0 (expr_end e) w refl (field_reads (codes "argument") refl (tree_reads f plain e w) last_reads))

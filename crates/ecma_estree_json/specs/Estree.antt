@@ -6,9 +6,9 @@
 use Rattle.std.specs.Prelude.{◌+◌, ◌-◌, ℕ, List, Bool, true, false, not, Option, Some, None, cond, codes, length}
 use Rattle.ecma_estree_json.specs.Json.{Json, Jsons, Fields}
 use Rattle.ecma_estree_json.specs.Made.{done, field, object, none, item, list, null, flag, word, text, number}
-use Rattle.ecma_estree_json.specs.Parts.{Form, node_at, node, identifier, word_name, literal, big_literal, parenthesis, function_fields, accessor, member, property, decorators_field, directive_field, phase_fields, and_fields, string_value}
+use Rattle.ecma_estree_json.specs.Parts.{Form, node_at, node, identifier, word_name, literal, big_literal, regex_literal, template_element, parenthesis, function_fields, accessor, member, property, decorators_field, directive_field, phase_fields, and_fields, string_value}
 use Rattle.ecma_estree_text.specs.Number.{number_text}
-use Rattle.ecma_estree_writer.specs.Estree.{Role, plain, directives, members, attributes, bare, argument, is_bare, is_attributes, is_directives, function_kind, class_kind, is_zero, skips, next, end_of, expr_end, brace, declared}
+use Rattle.ecma_estree_writer.specs.Estree.{Role, plain, directives, members, attributes, bare, argument, is_bare, is_attributes, is_directives, function_kind, class_kind, is_zero, skips, next, end_of, expr_end, brace, declared, linked, is_link, is_optional, inner}
 use Rattle.ecma_estree_writer.specs.Parts.{is_namespace_alone, is_import, is_empty}
 use Rattle.ecma_estree_writer.specs.Words.{bool_word, kind_word, using_word, method_word, unary_word, update_word, binary_word, binary_kind, assign_word}
 use Rattle.swc_ecma_parser_model.specs.declared.leaves.MetaPropKind.TheVariants as meta
@@ -28,6 +28,7 @@ abbrev mutual
   estree f r (tree.null s) = literal f s null (codes "null")
   estree f r (tree.num s raw) = literal f s (number (number_text raw)) raw
   estree f r (tree.big_int s raw) = big_literal f s raw
+  estree f r (tree.regex s exp flags) = regex_literal f s exp flags
   -- further primary expressions
   estree f r (tree.this s) = node f (codes "ThisExpression") s done
   estree f r (tree.array s elems) = node f (codes "ArrayExpression") s (field (codes "elements") (list (items f plain elems)) done)
@@ -61,18 +62,25 @@ abbrev mutual
   estree f r (tree.seq s exprs) = node f (codes "SequenceExpression") s (field (codes "expressions") (list (items f plain exprs)) done)
   -- members and calls
   estree f r (tree.member s obj prop) =
-      node f (codes "MemberExpression") s (field (codes "object") (estree f plain obj) (field (codes "property") (estree f plain prop)
-      (field (codes "computed") (flag (is_computed prop)) (field (codes "optional") (flag false) done))))
+      node f (codes "MemberExpression") s (field (codes "object") (estree f (inner r obj) obj) (field (codes "property") (estree f plain prop)
+      (field (codes "computed") (flag (is_computed prop)) (field (codes "optional") (flag (is_optional r)) done))))
   estree f r (tree.super_prop s word prop) =
       node f (codes "MemberExpression") s (field (codes "object") (node f (codes "Super") word done) (field (codes "property") (estree f plain prop)
       (field (codes "computed") (flag (is_computed prop)) (field (codes "optional") (flag false) done))))
   estree f r (tree.call s callee args) =
       cond (is_import callee) (node f (codes "ImportExpression") s (field (codes "source") (estree f (argument 0) args)
-      (field (codes "options") (estree f (argument 1) args) done))) (node f (codes "CallExpression") s (field (codes "callee") (estree f plain callee)
-      (field (codes "arguments") (list (items f plain args)) (field (codes "optional") (flag false) done))))
+      (field (codes "options") (estree f (argument 1) args) done))) (node f (codes "CallExpression") s (field (codes "callee") (estree f (inner r callee) callee)
+      (field (codes "arguments") (list (items f plain args)) (field (codes "optional") (flag (is_optional r)) done))))
   estree f r (tree.new s callee args) =
       node f (codes "NewExpression") s (field (codes "callee") (estree f plain callee)
       (field (codes "arguments") (list (cond (is_absent args) none (items f plain args))) done))
+  -- templates and optional chains
+  estree f r (tree.tpl s exprs quasis) =
+      node f (codes "TemplateLiteral") s (field (codes "expressions") (list (items f plain exprs)) (field (codes "quasis") (list (items f plain quasis)) done))
+  estree f r (tree.tagged_tpl s tag template) =
+      node f (codes "TaggedTemplateExpression") s (field (codes "tag") (estree f plain tag) (field (codes "quasi") (estree f plain template) done))
+  estree f r (tree.opt_chain s optional base) =
+      cond (is_link r) (estree f (linked optional) base) (node f (codes "ChainExpression") s (field (codes "expression") (estree f (linked optional) base) done))
   estree f r (tree.arrow s params body is_async) =
       node f (codes "ArrowFunctionExpression") s (function_fields null (not (is_block body)) false is_async (field (codes "params") (list (items f plain params))
       (field (codes "body") (cond (is_block body) (estree f directives body) (estree f plain body)) done)))
@@ -86,6 +94,7 @@ abbrev mutual
   estree f r (tree.computed s e) = estree f plain e
   estree f r (tree.super_callee s) = node f (codes "Super") s done
   estree f r (tree.import_callee s) = node f (codes "Import") s done
+  estree f r (tree.quasi s tail cooked raw) = template_element f s tail cooked raw
   -- parts of objects
   estree f r (tree.spread_prop dots e) = node_at f (codes "SpreadElement") dots.lo.0 (expr_end e) (field (codes "argument") (estree f plain e) done)
   estree f r (tree.shorthand_prop s name) =

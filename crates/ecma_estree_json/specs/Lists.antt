@@ -10,13 +10,20 @@ use Rattle.ecma_estree_lists.specs.Tokens.{token_type, is_passed, value_text, ha
 use Rattle.ecma_estree_text.specs.Places.{Placed}
 use Rattle.swc_ecma_parser_common.specs.declared.comment.Comment.{Comment}
 use Rattle.swc_ecma_parser_common.specs.declared.span.Span.{Span}
+use Rattle.swc_ecma_parser_token.specs.declared.token.Token.{Token}
+use Rattle.swc_ecma_parser_token.specs.declared.token.Token.TheVariants as token_form
 use Rattle.swc_ecma_parser_token.specs.declared.token.TokenAndSpan.{TokenAndSpan}
 
-unfoldable pub entry : Placed → (kind value : List ℕ) → (start end : ℕ) → Option Json
-entry p kind value start end = object (field (codes "type") (word kind) (field (codes "value") (text value) (place p start end done)))
+unfoldable pub entry : Placed → (kind value : List ℕ) → (start end : ℕ) → Option Fields → Option Json
+entry p kind value start end rest = object (field (codes "type") (word kind) (field (codes "value") (text value) (place p start end rest)))
+
+-- what a regular expression has besides
+unfoldable pub regex_fields : Token → Option Fields
+regex_fields (token_form.Regex exp flags) = field (codes "regex") (object (field (codes "flags") (text flags) (field (codes "pattern") (text exp) done))) done
+regex_fields _ = done
 
 abbrev pub comment : Placed → Comment → Option Json
-comment p c = entry p (kind_word c.kind) c.text c.span.lo.0 c.span.hi.0
+comment p c = entry p (kind_word c.kind) c.text c.span.lo.0 c.span.hi.0 done
 
 abbrev pub all_comments : Placed → List Comment → Option Jsons
 all_comments p [] = none
@@ -24,8 +31,8 @@ all_comments p (c ∷ cs) = item (comment p c) (all_comments p cs)
 
 -- a token, behind a `#` if it is the name of one
 abbrev pub token : Placed → (hash : Option Span) → TokenAndSpan → Option Json
-token p None t = entry p (token_type t.token) (value_text p.text t.token t.span) t.span.lo.0 t.span.hi.0
-token p (Some mark) t = entry p (codes "PrivateIdentifier") (value_text p.text t.token t.span) mark.lo.0 t.span.hi.0
+token p None t = entry p (token_type t.token) (value_text p.text t.token t.span) t.span.lo.0 t.span.hi.0 (regex_fields t.token)
+token p (Some mark) t = entry p (codes "PrivateIdentifier") (value_text p.text t.token t.span) mark.lo.0 t.span.hi.0 done
 
 abbrev pub all_tokens : Placed → (hash : Option Span) → List TokenAndSpan → Option Jsons
 all_tokens p h [] = none

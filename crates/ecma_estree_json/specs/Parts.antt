@@ -1,5 +1,5 @@
 -- What the JSON of nodes is made of.
-use Rattle.std.specs.Prelude.{ℕ, List, [], ◌∷◌, ◌++◌, ◌-◌, ◌%◌, Bool, false, if◌then◌else◌, Option, Some, None, cond, codes, take, drop, length, encode_utf8}
+use Rattle.std.specs.Prelude.{ℕ, List, [], ◌∷◌, ◌++◌, ◌+◌, ◌-◌, ◌%◌, Bool, false, if◌then◌else◌, Option, Some, None, cond, codes, take, drop, length, encode_utf8}
 use Rattle.ecma_estree_json.specs.Json as form
 use Rattle.ecma_estree_json.specs.Json.{Json, Jsons, Fields}
 use Rattle.ecma_estree_json.specs.Made.{done, field, object, none, item, list, null, flag, word, text, count}
@@ -7,9 +7,11 @@ use Rattle.ecma_estree_json.specs.Reading.{unit_bytes}
 use Rattle.ecma_estree_text.specs.Bracket.{bracket}
 use Rattle.ecma_estree_text.specs.Number.{digits_text}
 use Rattle.ecma_estree_text.specs.Places.{Placed, offset}
+use Rattle.ecma_estree_text.specs.Quoted.{regex_text}
 use Rattle.ecma_estree_text.specs.Spots.{spot_at}
 use Rattle.ecma_estree_text.specs.Strings.{character, is_high, is_low, is_read, paired, points, waiting_behind}
 use Rattle.ecma_estree_text.specs.declared.spot.Spot.{Spot}
+use Rattle.ecma_estree_writer.specs.Parts.{text_end}
 use Rattle.ecma_estree_writer.specs.Source.{Source}
 use Rattle.swc_ecma_parser_common.specs.declared.span.Span.{Span}
 use Rattle.swc_ecma_parser_model.specs.declared.leaves.ImportPhase.{ImportPhase}
@@ -63,6 +65,23 @@ literal f s value raw = node f (codes "Literal") s (field (codes "value") value 
 unfoldable pub big_literal : Form → Span → Text → Option Json
 big_literal f s raw =
     node f (codes "Literal") s (field (codes "value") null (field (codes "raw") (text raw) (field (codes "bigint") (word (digits_text raw)) done)))
+
+-- a regular expression, whose value JSON has no form for
+unfoldable pub regex_literal : Form → Span → (exp flags : Text) → Option Json
+regex_literal f s exp flags =
+    node f (codes "Literal") s (field (codes "value") (object done) (field (codes "raw") (text (regex_text exp flags))
+    (field (codes "regex") (object (field (codes "pattern") (text exp) (field (codes "flags") (text flags) done))) done)))
+
+-- a text, or `null`
+abbrev pub optional_text : Option Text → Option Json
+optional_text None = null
+optional_text (Some t) = text t
+
+-- a text of a template, between its marks
+unfoldable pub template_element : Form → Span → (tail : Bool) → (cooked : Option Text) → (raw : Text) → Option Json
+template_element f s tail cooked raw =
+    node_at f (codes "TemplateElement") (s.lo.0 + 1) (text_end s tail) (field (codes "value") (object (field (codes "raw") (text raw)
+    (field (codes "cooked") (optional_text cooked) done))) (field (codes "tail") (flag tail) done))
 
 -- how a property begins
 unfoldable pub property : Form → Span → (is_method is_shorthand is_computed_key : Bool) → Option Fields → Option Json

@@ -1,1 +1,2 @@
+mod Closed
 mod Listed

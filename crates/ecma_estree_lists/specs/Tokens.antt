@@ -2,7 +2,7 @@
 use Rattle.std.specs.Prelude.{ℕ, List, [], ◌∷◌, ◌++◌, Bool, true, false, ◌&&◌, ◌||◌, cond, Option, Some, None, codes, length, min, slice_range}
 use Rattle.std.specs.Str.{bytes_eq}
 use Rattle.ecma_estree_text.specs.Places.{Placed, place_fields}
-use Rattle.ecma_estree_text.specs.Quoted.{wrapped}
+use Rattle.ecma_estree_text.specs.Quoted.{quoted, wrapped}
 use Rattle.swc_ecma_parser_common.specs.declared.span.Span.{Span}
 use Rattle.swc_ecma_parser_token.specs.Text.{word_text}
 use Rattle.swc_ecma_parser_token.specs.declared.keyword.Keyword.{Keyword}
@@ -28,17 +28,24 @@ word_type word.Null = codes "Null"
 word_type word.True = codes "Boolean"
 word_type word.False = codes "Boolean"
 word_type (word.Ident text) = name_type text
+word_type (word.Escaped text) = name_type text
 
 unfoldable pub token_type : Token → List ℕ
 token_type (token.Word w) = word_type w
 token_type (token.Str value raw) = codes "String"
 token_type (token.Num raw) = codes "Numeric"
 token_type (token.BigInt raw) = codes "Numeric"
+token_type (token.Regex exp flags) = codes "RegularExpression"
+token_type (token.Template raw cooked) = codes "Template"
+token_type (token.TemplateHead raw cooked) = codes "Template"
+token_type (token.TemplateMiddle raw cooked) = codes "Template"
+token_type (token.TemplateTail raw cooked) = codes "Template"
 token_type _ = codes "Punctuator"
 
 -- a first line that begins with `#!`, which is no token there, and a `#`, which is one with its name
 abbrev pub is_hash : Token → Bool
 is_hash token.Hash = true
+is_hash token.HashIn = true
 is_hash _ = false
 
 abbrev pub is_shebang : Token → Bool
@@ -60,16 +67,21 @@ value_text text _ s = part text s.lo.0 s.hi.0
 unfoldable pub token_head : (kind : List ℕ) → List ℕ
 token_head kind = codes "{\"type\":\"" ++ (kind ++ codes "\",\"value\":")
 
-unfoldable pub token_tail : Placed → (low high : ℕ) → List ℕ
-token_tail p low high = codes "," ++ (place_fields p low high ++ codes "}")
+-- what a regular expression has besides
+unfoldable pub regex_field : Token → List ℕ
+regex_field (token.Regex exp flags) = codes ",\"regex\":{\"flags\":" ++ (quoted flags ++ (codes ",\"pattern\":" ++ (quoted exp ++ codes "}")))
+regex_field _ = []
 
-unfoldable pub written : Placed → (kind value : List ℕ) → (low high : ℕ) → List ℕ
-written p kind value low high = token_head kind ++ (wrapped value ++ token_tail p low high)
+unfoldable pub token_tail : Placed → (low high : ℕ) → (more : List ℕ) → List ℕ
+token_tail p low high more = codes "," ++ (place_fields p low high ++ (more ++ codes "}"))
+
+unfoldable pub written : Placed → (kind value : List ℕ) → (low high : ℕ) → (more : List ℕ) → List ℕ
+written p kind value low high more = token_head kind ++ (wrapped value ++ token_tail p low high more)
 
 -- a token, behind a `#` if it is the name of one
 abbrev pub token_text : Placed → (hash : Option Span) → TokenAndSpan → List ℕ
-token_text p None t = written p (token_type t.token) (value_text p.text t.token t.span) t.span.lo.0 t.span.hi.0
-token_text p (Some mark) t = written p (codes "PrivateIdentifier") (value_text p.text t.token t.span) mark.lo.0 t.span.hi.0
+token_text p None t = written p (token_type t.token) (value_text p.text t.token t.span) t.span.lo.0 t.span.hi.0 (regex_field t.token)
+token_text p (Some mark) t = written p (codes "PrivateIdentifier") (value_text p.text t.token t.span) mark.lo.0 t.span.hi.0 []
 
 abbrev pub comma : (is_first : Bool) → List ℕ
 comma true = []

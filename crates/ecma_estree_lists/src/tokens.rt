@@ -1,10 +1,12 @@
 //! Tokens, as espree names them: a word is a `Keyword` where it is one in every context or is `static`, and `#` and its name are one token.
 
-ghost use Rattle.std.specs.Prelude.{◌≡◌, ◌++◌, OnOk, true, None};
+ghost use Rattle.std.specs.Prelude.{◌≡◌, ◌++◌, OnOk, codes, true, Some, None};
 ghost use Rattle.ecma_estree_lists.specs.Tokens as tokens;
-ghost use Rattle.ecma_estree_lists.specs.Tokens.{part, step_text, token_head, token_list, token_tail, token_text, tokens_field, value_text, written};
+ghost use Rattle.ecma_estree_text.specs.Places.{place_fields};
+ghost use Rattle.ecma_estree_text.specs.Quoted.{quoted, wrapped};
+ghost use Rattle.ecma_estree_lists.specs.Tokens.{part, regex_field, step_text, token_head, token_list, token_text, tokens_field, value_text};
 
-use ecma_estree_text::{Places, push_quoted_bytes};
+use ecma_estree_text::{Places, push_quoted, push_quoted_bytes};
 use std::alloc::AllocError;
 use swc_ecma_parser_common::Span;
 use swc_ecma_parser_token::{Keyword, Token, TokenAndSpan, Word};
@@ -42,6 +44,7 @@ fn word_type(word: &Word) -> &'static str
         Word::Null => "Null",
         Word::True | Word::False => "Boolean",
         Word::Ident(text) => name_type(text.as_str()),
+        Word::Escaped(text) => name_type(text.as_str()),
     }
 }
 
@@ -54,6 +57,11 @@ fn token_type(token: &Token) -> &'static str
         Token::Word(word) => word_type(word),
         Token::Str { .. } => "String",
         Token::Num { .. } | Token::BigInt { .. } => "Numeric",
+        Token::Regex { .. } => "RegularExpression",
+        Token::Template { .. }
+        | Token::TemplateHead { .. }
+        | Token::TemplateMiddle { .. }
+        | Token::TemplateTail { .. } => "Template",
         _ => "Punctuator",
     }
 }
@@ -63,7 +71,7 @@ fn is_hash(token: &Token) -> bool
     ensures { result ≡ tokens.is_hash token.now }
 {
     match token {
-        Token::Hash => true,
+        Token::Hash | Token::HashIn => true,
         _ => false,
     }
 }
@@ -108,40 +116,46 @@ fn push_head(out: &mut Vec<u8>, kind: &str) -> Result<(), AllocError>
     out.extend_from_slice(b"\",\"value\":")
 }
 
-/// Writes where a token stands, and its end.
-#[tactic(auto, unfolding(crate::specs::Tokens::token_tail))]
-fn push_tail(
-    out: &mut Vec<u8>,
-    places: &Places<'_>,
-    low: usize,
-    high: usize,
-) -> Result<(), AllocError>
-    ensures { OnOk result (out.new.items ≡ out.old.items ++ token_tail places.now low high) }
+/// Writes the flags and the pattern of a regular expression.
+fn push_regex_parts(out: &mut Vec<u8>, exp: &str, flags: &str) -> Result<(), AllocError>
+    ensures { OnOk result
+        (out.new.items ≡ out.old.items
+        ++ (codes ",\"regex\":{\"flags\":" ++ (quoted flags.now
+        ++ (codes ",\"pattern\":" ++ (quoted exp.now ++ codes "}"))))) }
 {
-    out.extend_from_slice(b",")?;
-    places.push_fields(out, low, high)?;
+    out.extend_from_slice(b",\"regex\":{\"flags\":")?;
+    push_quoted(out, flags)?;
+    out.extend_from_slice(b",\"pattern\":")?;
+    push_quoted(out, exp)?;
     out.extend_from_slice(b"}")
 }
 
-/// Writes a token.
-#[tactic(auto, unfolding(crate::specs::Tokens::written))]
-fn push_written(
+/// Writes what a regular expression has besides; of another token nothing.
+#[tactic(auto, unfolding(crate::specs::Tokens::regex_field))]
+fn push_regex_field(out: &mut Vec<u8>, token: &Token) -> Result<(), AllocError>
+    ensures { OnOk result (out.new.items ≡ out.old.items ++ regex_field token.now) }
+{
+    match token {
+        Token::Regex { exp, flags } => push_regex_parts(out, exp.as_str(), flags.as_str()),
+        _ => Ok(()),
+    }
+}
+
+/// Writes where a token stands.
+fn push_place(
     out: &mut Vec<u8>,
     places: &Places<'_>,
-    kind: &str,
-    value: &[u8],
     low: usize,
     high: usize,
 ) -> Result<(), AllocError>
     ensures { OnOk result
-        (out.new.items ≡ out.old.items ++ written places.now kind.now value.now low high) }
+        (out.new.items ≡ out.old.items ++ (codes "," ++ place_fields places.now low high)) }
 {
-    push_head(out, kind)?;
-    push_quoted_bytes(out, value)?;
-    push_tail(out, places, low, high)
+    out.extend_from_slice(b",")?;
+    places.push_fields(out, low, high)
 }
 
-/// Writes a token of the given kind with its text, from an offset on.
+/// Writes a token of the given kind with its text and its place, from an offset on, as far as these.
 fn push_from(
     out: &mut Vec<u8>,
     places: &Places<'_>,
@@ -151,11 +165,43 @@ fn push_from(
 ) -> Result<(), AllocError>
     ensures { OnOk result
         (out.new.items ≡ out.old.items
-        ++ written places.now kind.now (value_text places.now.text token.now.token token.now.span)
-        low token.now.span.hi.0) }
+        ++ (token_head kind.now
+        ++ (wrapped (value_text places.now.text token.now.token token.now.span)
+        ++ (codes "," ++ place_fields places.now low token.now.span.hi.0)))) }
 {
-    let value = value_of(places.text(), &token.token, token.span);
-    push_written(out, places, kind, value, low, token.span.hi.0 as usize)
+    push_head(out, kind)?;
+    push_quoted_bytes(out, value_of(places.text(), &token.token, token.span))?;
+    push_place(out, places, low, token.span.hi.0 as usize)
+}
+
+/// Writes the name of the `#` that stands at `mark`.
+fn push_private_name(
+    out: &mut Vec<u8>,
+    places: &Places<'_>,
+    mark: Span,
+    token: &TokenAndSpan,
+) -> Result<(), AllocError>
+    ensures { OnOk result
+        (out.new.items ≡ out.old.items ++ token_text places.now (Some mark) token.now) }
+{
+    push_from(out, places, "PrivateIdentifier", token, mark.lo.0 as usize)?;
+    out.extend_from_slice(b"}")?;
+    Ok(())
+}
+
+/// Writes a token that stands alone.
+#[tactic(auto, unfolding(crate::specs::Tokens::written, crate::specs::Tokens::token_tail))]
+fn push_plain(
+    out: &mut Vec<u8>,
+    places: &Places<'_>,
+    token: &TokenAndSpan,
+) -> Result<(), AllocError>
+    ensures { OnOk result (out.new.items ≡ out.old.items ++ token_text places.now None token.now) }
+{
+    let kind = token_type(&token.token);
+    push_from(out, places, kind, token, token.span.lo.0 as usize)?;
+    push_regex_field(out, &token.token)?;
+    out.extend_from_slice(b"}")
 }
 
 /// Writes a token, which is the name of the `#` before it if there is one.
@@ -168,14 +214,8 @@ fn push_token(
     ensures { OnOk result (out.new.items ≡ out.old.items ++ token_text places.now hash token.now) }
 {
     match hash {
-        Some(mark) => push_from(out, places, "PrivateIdentifier", token, mark.lo.0 as usize),
-        None => push_from(
-            out,
-            places,
-            token_type(&token.token),
-            token,
-            token.span.lo.0 as usize,
-        ),
+        Some(mark) => push_private_name(out, places, mark, token),
+        None => push_plain(out, places, token),
     }
 }
 

@@ -3,13 +3,13 @@ use Rattle.std.proofs.Common.{◌≡◌, ℕ, List, [], ◌∷◌, ◌++◌, Boo
 use Rattle.std.specs.List.{flat_map}
 use Rattle.std.specs.Str.{bytes_eq}
 use Rattle.ecma_estree_lists.specs.Comments.{kind_word, comment_text, next_comment, comment_list, comments_field}
-use Rattle.ecma_estree_lists.specs.Tokens.{keyword_type, name_type, word_type, token_type, is_passed, value_text, token_head, token_tail, written, token_text, comma, step_text, is_first_behind, hash_behind, token_list, tokens_field}
+use Rattle.ecma_estree_lists.specs.Tokens.{keyword_type, name_type, word_type, token_type, is_passed, value_text, regex_field, token_head, token_tail, written, token_text, comma, step_text, is_first_behind, hash_behind, token_list, tokens_field}
 use Rattle.ecma_estree_nodes.specs.Law.{ListsAreQuiet}
 use Rattle.ecma_estree_nodes.specs.Reading.{IsQuiet, behind, named, started, inside, read_from, read}
 use Rattle.ecma_estree_nodes.proofs.Pieces.{Reads, skip, neither, none_read, fixed, further_read, to_quote_word, from_quote_word, calm_read, quoted_mark, as_read}
 use Rattle.ecma_estree_nodes.proofs.Scan.{all_calm, calm_inside, decimal_calm, wrapped_read}
 use Rattle.ecma_estree_text.specs.Places.{Placed, offset, place_fields}
-use Rattle.ecma_estree_text.specs.Quoted.{wrapped}
+use Rattle.ecma_estree_text.specs.Quoted.{quoted, wrapped}
 use Rattle.swc_ecma_parser_common.specs.declared.comment.Comment.{Comment}
 use Rattle.swc_ecma_parser_common.specs.declared.comment.CommentKind.{CommentKind}
 use Rattle.swc_ecma_parser_common.specs.declared.comment.CommentKind.TheVariants as kind
@@ -105,22 +105,30 @@ word_calm word.Null = refl
 word_calm word.True = refl
 word_calm word.False = refl
 word_calm (word.Ident text) = name_calm text
+word_calm (word.Escaped text) = name_calm text
 
 type_calm : (t : Token) → all_calm (token_type t) ≡ true
 unfolding token_type
 type_calm (token.Word w) = word_calm w
 type_calm _ = refl
 
-written_read : (p : Placed) (kind value : List ℕ) (low high : ℕ) → all_calm kind ≡ true → Reads (written p kind value low high) []
+regex_read : (t : Token) → Reads (regex_field t) []
+unfolding regex_field
+regex_read (token.Regex exp flags) =
+    skip (fixed (codes ",\"regex\":{\"flags\":") (λ rest. refl)) (skip (quoted_mark flags).quiet
+    (skip (fixed (codes ",\"pattern\":") (λ rest. refl)) (skip (quoted_mark exp).quiet (fixed (codes "}") (λ rest. refl)))))
+regex_read _ = none_read
+
+written_read : (p : Placed) (kind value : List ℕ) (low high : ℕ) (more : List ℕ) → all_calm kind ≡ true → Reads more [] → Reads (written p kind value low high more) []
 unfolding written token_head token_tail
-written_read p kind value low high w =
-    same (ap (λ r. codes "{\"type\":\"" ++ r) (append_assoc kind (codes "\",\"value\":") (wrapped value ++ (codes "," ++ (place_fields p low high ++ codes "}")))))
-    (object_read kind (wrapped value ++ (codes "," ++ (place_fields p low high ++ codes "}"))) w
-    (skip (fixed (wrapped value) (wrapped_read value)) (tail_read p low high)))
+written_read p kind value low high more w m =
+    same (ap (λ r. codes "{\"type\":\"" ++ r) (append_assoc kind (codes "\",\"value\":") (wrapped value ++ (codes "," ++ (place_fields p low high ++ (more ++ codes "}"))))))
+    (object_read kind (wrapped value ++ (codes "," ++ (place_fields p low high ++ (more ++ codes "}")))) w
+    (skip (fixed (wrapped value) (wrapped_read value)) (skip (fixed (codes ",") (λ rest. refl)) (skip (place_read p low high) (skip m (fixed (codes "}") (λ rest. refl)))))))
 
 token_read : (p : Placed) (hash : Option Span) (t : TokenAndSpan) → Reads (token_text p hash t) []
-token_read p None t = written_read p (token_type t.token) (value_text p.text t.token t.span) t.span.lo.0 t.span.hi.0 (type_calm t.token)
-token_read p (Some mark) t = written_read p (codes "PrivateIdentifier") (value_text p.text t.token t.span) mark.lo.0 t.span.hi.0 refl
+token_read p None t = written_read p (token_type t.token) (value_text p.text t.token t.span) t.span.lo.0 t.span.hi.0 (regex_field t.token) (type_calm t.token) (regex_read t.token)
+token_read p (Some mark) t = written_read p (codes "PrivateIdentifier") (value_text p.text t.token t.span) mark.lo.0 t.span.hi.0 [] refl none_read
 
 comma_read : (is_first : Bool) → Reads (comma is_first) []
 comma_read true = none_read

@@ -1,9 +1,9 @@
 -- How the pieces are read that a node is written of.
-use Rattle.std.proofs.Common.{◌≡◌, ℕ, List, [], ◌∷◌, ◌++◌, ◌-◌, ◌<◌, ◌^◌, Bool, true, false, cond, refl, ap, ap₂, sym, ◌∙◌, append_assoc, append-nil, codes, decimal, length, take, drop, Some}
+use Rattle.std.proofs.Common.{◌≡◌, ℕ, List, [], ◌∷◌, ◌++◌, ◌+◌, ◌-◌, ◌<◌, ◌^◌, Bool, true, false, cond, refl, ap, ap₂, sym, ◌∙◌, append_assoc, append-nil, codes, decimal, length, take, drop, Option, Some, None}
 use Rattle.ecma_estree_text.specs.Bracket.{bracket}
 use Rattle.ecma_estree_text.specs.Number.{digits_text}
 use Rattle.ecma_estree_text.specs.Places.{Placed, offset, spot_text, spots_text, loc_text, range_text, place_fields}
-use Rattle.ecma_estree_text.specs.Quoted.{quoted, inner_quoted}
+use Rattle.ecma_estree_text.specs.Quoted.{quoted, inner_quoted, regex_text}
 use Rattle.ecma_estree_text.specs.Spots.{spot_at}
 use Rattle.ecma_estree_text.specs.Strings.{string_text}
 use Rattle.ecma_estree_text.specs.declared.spot.Spot.{Spot}
@@ -12,7 +12,7 @@ use Rattle.ecma_estree_nodes.specs.Reading.{Node, inside, to_quote, from_quote, 
 use Rattle.ecma_estree_nodes.proofs.Numbers.{stops, Digits, digits_of_decimal, number_stops, offset_small}
 use Rattle.ecma_estree_nodes.proofs.Scan.{all_calm, and_yes, calm, calm_tests, calm_outside, calm_inside, decimal_calm, digits_calm, wrapped_read, string_closed}
 use Rattle.ecma_estree_writer.specs.Estree.{accessor, function_fields, member_head, property}
-use Rattle.ecma_estree_writer.specs.Parts.{node_at, key, word_field, bool_field, end, open_list, end_list, nothing, comma, identifier, word_name, literal, big_literal, directive, phase_field}
+use Rattle.ecma_estree_writer.specs.Parts.{node_at, key, word_field, bool_field, end, open_list, end_list, nothing, comma, identifier, word_name, literal, big_literal, first_key, optional_text, regex_literal, template_element, text_end, directive, phase_field}
 use Rattle.ecma_estree_writer.specs.Source.{Source}
 use Rattle.ecma_estree_writer.specs.Words.{bool_word}
 use Rattle.swc_ecma_parser_common.specs.declared.span.Span.{Span}
@@ -291,6 +291,26 @@ unfolding big_literal
 big_literal_read t s raw f =
     begin t (codes "Literal") s.lo.0 s.hi.0 f.bounded refl (key_mark (codes "value") refl)
     (past nothing_mark (past (key_mark (codes "raw") refl) (past (quoted_mark raw) (past (key_mark (codes "bigint") refl) (digits_read raw)))))
+
+pub regex_read : (t : Source) (s : Span) (exp flags : Text) → Fits t → Reads (regex_literal t s exp flags) (at t (codes "Literal") s ∷ [])
+unfolding regex_literal first_key
+regex_read t s exp flags f =
+    begin t (codes "Literal") s.lo.0 s.hi.0 f.bounded refl (key_mark (codes "value") refl)
+    (skip (fixed (codes "{}") (λ rest. refl)) (past (key_mark (codes "raw") refl) (past (quoted_mark (regex_text exp flags)) (past (key_mark (codes "regex") refl)
+    (skip (fixed (first_key (codes "pattern")) (λ rest. refl)) (past (quoted_mark exp) (past (key_mark (codes "flags") refl) (past (quoted_mark flags)
+    (past end_mark end_mark.quiet)))))))))
+
+optional_read : (o : Option Text) → Reads (optional_text o) []
+optional_read None = nothing_mark.quiet
+optional_read (Some s) = (quoted_mark s).quiet
+
+pub element_read : (t : Source) (s : Span) (tail : Bool) (cooked : Option Text) (raw : Text) → Fits t
+    → Reads (template_element t s tail cooked raw) (node_of t (codes "TemplateElement") (s.lo.0 + 1) (text_end s tail) ∷ [])
+unfolding template_element first_key
+element_read t s tail cooked raw f =
+    begin t (codes "TemplateElement") (s.lo.0 + 1) (text_end s tail) f.bounded refl (key_mark (codes "value") refl)
+    (skip (fixed (first_key (codes "raw")) (λ rest. refl)) (past (quoted_mark raw) (past (key_mark (codes "cooked") refl) (skip (optional_read cooked)
+    (past end_mark (past (bool_mark (codes "tail") tail refl) end_mark.quiet))))))
 
 pub property_read : (t : Source) (s : Span) (is_method is_shorthand is_computed : Bool) → Fits t
     → Reads (property t s is_method is_shorthand is_computed) (at t (codes "Property") s ∷ [])

@@ -2,10 +2,10 @@
 use Rattle.std.proofs.Common.{◌≡◌, ℕ, List, [], ◌∷◌, ◌++◌, ◌+◌, ◌<◌, ◌%◌, ◌/◌, Bool, true, false, not, ◌&&◌, ◌||◌, ◌==◌, ◌^◌, zero, suc, drop, inl, inr, Option, Some, None, nat_lt, if◌then◌else◌, arith, refl, ap, ◌∙◌, append_assoc, codes, decimal, map, encode_utf8}
 use Rattle.std.specs.Fmt.{digits, digits_onto, digit_glyph}
 use Rattle.std.proofs.lemmas.Bool.Decides.{nat_tests, eqb_tells}
-use Rattle.std.specs.List.{flat_map}
+use Rattle.std.specs.List.{flat_map, list_all}
 use Rattle.std.specs.Int.Digits.{digits_of, AllBelowBase}
 use Rattle.std.proofs.lemmas.Int.Digits.{all_below_base_digits_of}
-use Rattle.ecma_estree_text.specs.Number.{is_numeral, is_mark, is_between, point_byte, is_point_next, point_behind, starts_with_point, bare_byte, bare_text, whole_text, double_text, least_short, value_behind, radix_of, number_by, digits_by, number_text, digits_text}
+use Rattle.ecma_estree_text.specs.Number.{is_numeral, is_mark, is_between, point_byte, is_point_next, point_behind, starts_with_point, bare_byte, bare_text, whole_text, double_text, least_short, value_behind, radix_of, number_by, has_leading_zero, is_octal_digit, past_zeros, zero_text, decimal_text, digits_by, number_text, digits_text}
 use Rattle.ecma_estree_text.specs.Quoted.{hex_digit, escaped, wrapped}
 use Rattle.ecma_estree_text.specs.Strings.{alone_text, character, character_text, four_digits, is_high, is_low, is_read, paired, point_text, points, points_text, string_text, text_at, waiting_behind}
 use Rattle.ecma_estree_nodes.specs.Reading.{outside, inside, found, read_from, read}
@@ -128,9 +128,16 @@ number_calm_by raw None =
     (if_calm (starts_with_point raw) (codes "0") [] (λ _. refl) (λ _. refl)) (points_calm false raw)
 number_calm_by raw (Some radix) = double_calm (value_behind radix 0 (drop 2 raw))
 
+decimal_calm_text : (raw : List ℕ) → all_calm (decimal_text raw) ≡ true
+decimal_calm_text raw = number_calm_by raw None
+
 pub number_calm : (raw : List ℕ) → all_calm (number_text raw) ≡ true
 unfolding number_text
-number_calm raw = number_calm_by raw (radix_of raw)
+number_calm raw =
+    if_calm (has_leading_zero raw) (zero_text raw) (number_by raw (radix_of raw))
+    (λ _. if_calm (list_all is_octal_digit raw) (double_text (value_behind 8 0 raw)) (decimal_text (past_zeros raw))
+    (λ _. double_calm (value_behind 8 0 raw)) (λ _. decimal_calm_text (past_zeros raw)))
+    (λ _. number_calm_by raw (radix_of raw))
 
 digits_calm_by : (raw : List ℕ) (o : Option ℕ) → all_calm (digits_by raw o) ≡ true
 digits_calm_by raw None = bare_calm raw

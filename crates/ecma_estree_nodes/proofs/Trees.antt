@@ -5,16 +5,16 @@ use Rattle.ecma_estree_text.specs.Strings.{string_text}
 use Rattle.ecma_estree_nodes.specs.Law.{ReadsBack}
 use Rattle.ecma_estree_nodes.specs.Nodes.{nodes, all_nodes}
 use Rattle.ecma_estree_nodes.specs.Reading.{read}
-use Rattle.ecma_estree_nodes.proofs.Pieces.{Reads, Fits, both, skip, past, last, none_read, either, neither, by_itself, as_read, key_mark, word_mark, bool_read, bool_mark, end_mark, open_list_mark, end_list_mark, nothing_mark, comma_read, calm_read, quoted_mark, string_read, begin, begin_function, alone, fields_read, identifier_read, word_name_read, literal_read, big_literal_read, property_read, member_head_read, fields_mark, named_fields_read, accessor_read, phase_read, directive_read}
+use Rattle.ecma_estree_nodes.proofs.Pieces.{Reads, Fits, both, skip, past, last, none_read, either, neither, by_itself, as_read, key_mark, word_mark, bool_read, bool_mark, end_mark, open_list_mark, end_list_mark, nothing_mark, comma_read, calm_read, quoted_mark, string_read, begin, begin_function, alone, fields_read, identifier_read, word_name_read, literal_read, big_literal_read, regex_read, element_read, property_read, member_head_read, fields_mark, named_fields_read, accessor_read, phase_read, directive_read}
 use Rattle.ecma_estree_nodes.proofs.Scan.{all_calm, number_calm}
 use Rattle.ecma_estree_nodes.proofs.Words.{function_kind_calm, class_kind_calm, kind_calm, using_calm, method_calm, unary_calm, update_calm, binary_calm, binary_kind_calm, assign_calm}
-use Rattle.ecma_estree_writer.specs.Estree.{Role, plain, directives, members, attributes, bare, argument, declared, function, class, json, jsons, is_bare, is_attributes, is_directives, function_kind, class_kind, is_zero, skips, next, end_of, expr_end, brace, method_role}
+use Rattle.ecma_estree_writer.specs.Estree.{Role, plain, directives, members, attributes, bare, argument, declared, function, class, json, jsons, is_bare, is_attributes, is_directives, function_kind, class_kind, is_zero, skips, next, end_of, expr_end, brace, method_role, link, linked, is_link, is_optional, inner, link_role}
 use Rattle.ecma_estree_writer.specs.Parts.{nothing, is_namespace_alone, is_import, is_empty}
 use Rattle.ecma_estree_writer.specs.Source.{Source}
 use Rattle.ecma_estree_writer.specs.Words.{bool_word, kind_word, using_word, method_word, unary_word, update_word, binary_word, binary_kind, assign_word}
 use Rattle.swc_ecma_parser_model.specs.declared.leaves.MetaPropKind.TheVariants as meta
 use Rattle.swc_ecma_parser_model.specs.Directive.{is_string_statement}
-use Rattle.swc_ecma_parser_model.specs.Forms.{span_of, is_absent}
+use Rattle.swc_ecma_parser_model.specs.Forms.{span_of, is_absent, is_chain}
 use Rattle.swc_ecma_parser_model.specs.Kinds.{is_block, is_computed}
 use Rattle.swc_ecma_parser_model.specs.Tree as tree
 use Rattle.swc_ecma_parser_model.specs.Tree.{Tree, Trees, none, also}
@@ -36,6 +36,14 @@ next_ready : (r : Role) (x : Tree) → Ready r → Ready (next r x)
 next_ready directives x g = either_ready (is_string_statement x)
 next_ready _ x g = g
 
+link_ready : (b : Bool) → Ready (cond b link plain)
+link_ready true = tt
+link_ready false = tt
+
+inner_ready : (r : Role) (x : Tree) → Ready (inner r x)
+inner_ready (linked optional) x = link_ready (is_chain x)
+inner_ready _ x = tt
+
 mutual
   tree_reads : (t : Source) (r : Role) (x : Tree) → Fits t → Ready r → Reads (json t r x) (nodes t r x)
   tree_reads t r tree.absent f g = neither (is_attributes r) none_read nothing_mark.quiet
@@ -47,6 +55,7 @@ mutual
   tree_reads t r (tree.null s) f g = literal_read t s (codes "null") (codes "null") f (calm_read (codes "null") refl)
   tree_reads t r (tree.num s raw) f g = literal_read t s (number_text raw) raw f (calm_read (number_text raw) (number_calm raw))
   tree_reads t r (tree.big_int s raw) f g = big_literal_read t s raw f
+  tree_reads t r (tree.regex s exp flags) f g = regex_read t s exp flags f
   -- further primary expressions
   tree_reads t r (tree.this s) f g = alone t (codes "ThisExpression") s.lo.0 s.hi.0 f.bounded refl end_mark
   tree_reads t r (tree.array s elems) f g =
@@ -92,9 +101,9 @@ mutual
       (past end_list_mark end_mark.quiet)))
   -- members and calls
   tree_reads t r (tree.member s obj prop) f g =
-      begin t (codes "MemberExpression") s.lo.0 s.hi.0 f.bounded refl (key_mark (codes "object") refl) (both (tree_reads t plain obj f tt)
+      begin t (codes "MemberExpression") s.lo.0 s.hi.0 f.bounded refl (key_mark (codes "object") refl) (both (tree_reads t (inner r obj) obj f (inner_ready r obj))
       (past (key_mark (codes "property") refl) (last (tree_reads t plain prop f tt) (past (bool_mark (codes "computed") (is_computed prop) refl)
-      (past (bool_mark (codes "optional") false refl) end_mark.quiet)))))
+      (past (bool_mark (codes "optional") (is_optional r) refl) end_mark.quiet)))))
   tree_reads t r (tree.super_prop s word prop) f g =
       begin t (codes "MemberExpression") s.lo.0 s.hi.0 f.bounded refl (key_mark (codes "object") refl)
       (begin t (codes "Super") word.lo.0 word.hi.0 f.bounded refl end_mark (past (key_mark (codes "property") refl) (last (tree_reads t plain prop f tt)
@@ -102,13 +111,22 @@ mutual
   tree_reads t r (tree.call s callee args) f g =
       (either (is_import callee) (begin t (codes "ImportExpression") s.lo.0 s.hi.0 f.bounded refl (key_mark (codes "source") refl)
       (both (tree_reads t (argument 0) args f tt) (past (key_mark (codes "options") refl) (last (tree_reads t (argument 1) args f tt) end_mark.quiet))))
-      (begin t (codes "CallExpression") s.lo.0 s.hi.0 f.bounded refl (key_mark (codes "callee") refl) (both (tree_reads t plain callee f tt)
+      (begin t (codes "CallExpression") s.lo.0 s.hi.0 f.bounded refl (key_mark (codes "callee") refl) (both (tree_reads t (inner r callee) callee f (inner_ready r callee))
       (past (key_mark (codes "arguments") refl) (past open_list_mark (last (tree_reads t plain args f tt) (past end_list_mark
-      (past (bool_mark (codes "optional") false refl) end_mark.quiet))))))))
+      (past (bool_mark (codes "optional") (is_optional r) refl) end_mark.quiet))))))))
   tree_reads t r (tree.new s callee args) f g =
       begin t (codes "NewExpression") s.lo.0 s.hi.0 f.bounded refl (key_mark (codes "callee") refl) (both (tree_reads t plain callee f tt)
       (past (key_mark (codes "arguments") refl) (past open_list_mark (last (either (is_absent args) none_read (tree_reads t plain args f tt))
       (past end_list_mark end_mark.quiet)))))
+  tree_reads t r (tree.tpl s exprs quasis) f g =
+      begin t (codes "TemplateLiteral") s.lo.0 s.hi.0 f.bounded refl (key_mark (codes "expressions") refl) (past open_list_mark (both (tree_reads t plain exprs f tt)
+      (past end_list_mark (past (key_mark (codes "quasis") refl) (past open_list_mark (last (tree_reads t plain quasis f tt) (past end_list_mark end_mark.quiet)))))))
+  tree_reads t r (tree.tagged_tpl s tag template) f g =
+      begin t (codes "TaggedTemplateExpression") s.lo.0 s.hi.0 f.bounded refl (key_mark (codes "tag") refl) (both (tree_reads t plain tag f tt)
+      (past (key_mark (codes "quasi") refl) (last (tree_reads t plain template f tt) end_mark.quiet)))
+  tree_reads t r (tree.opt_chain s optional base) f g =
+      (either (is_link r) (tree_reads t (linked optional) base f tt) (begin t (codes "ChainExpression") s.lo.0 s.hi.0 f.bounded refl
+      (key_mark (codes "expression") refl) (last (tree_reads t (linked optional) base f tt) end_mark.quiet)))
   tree_reads t r (tree.arrow s params body is_async) f g =
       begin t (codes "ArrowFunctionExpression") s.lo.0 s.hi.0 f.bounded refl (fields_mark (not (is_block body)) false is_async) (past (key_mark (codes "params") refl)
       (past open_list_mark (both (tree_reads t plain params f tt) (past end_list_mark (past (key_mark (codes "body") refl) (last
@@ -127,6 +145,7 @@ mutual
   tree_reads t r (tree.computed s e) f g = tree_reads t plain e f tt
   tree_reads t r (tree.super_callee s) f g = alone t (codes "Super") s.lo.0 s.hi.0 f.bounded refl end_mark
   tree_reads t r (tree.import_callee s) f g = alone t (codes "Import") s.lo.0 s.hi.0 f.bounded refl end_mark
+  tree_reads t r (tree.quasi s tail cooked raw) f g = element_read t s tail cooked raw f
   -- parts of objects
   tree_reads t r (tree.spread_prop dots e) f g =
       begin t (codes "SpreadElement") dots.lo.0 (expr_end e) f.bounded refl (key_mark (codes "argument") refl) (last (tree_reads t plain e f tt) end_mark.quiet)

@@ -3,8 +3,8 @@ use Rattle.std.specs.Prelude.{ℕ, List, [], ◌∷◌, ◌++◌, ◌+◌, ◌-�
 use Rattle.ecma_estree_text.specs.Bracket.{bracket}
 use Rattle.ecma_estree_text.specs.Places.{offset}
 use Rattle.ecma_estree_nodes.specs.Reading.{Node, read}
-use Rattle.ecma_estree_writer.specs.Estree.{Role, plain, directives, members, attributes, bare, argument, declared, function, class, json, is_bare, is_attributes, function_kind, class_kind, is_zero, skips, next, end_of, expr_end, brace, method_role}
-use Rattle.ecma_estree_writer.specs.Parts.{is_namespace_alone, is_import, is_empty}
+use Rattle.ecma_estree_writer.specs.Estree.{Role, plain, directives, members, attributes, bare, argument, declared, function, class, json, is_bare, is_attributes, function_kind, class_kind, is_zero, skips, next, end_of, expr_end, brace, method_role, inner, is_link, linked}
+use Rattle.ecma_estree_writer.specs.Parts.{is_namespace_alone, is_import, is_empty, text_end}
 use Rattle.ecma_estree_writer.specs.Source.{Source}
 use Rattle.ecma_estree_writer.specs.Words.{binary_kind}
 use Rattle.swc_ecma_parser_common.specs.declared.span.Span.{Span}
@@ -37,6 +37,7 @@ abbrev mutual
   nodes t r (tree.null s) = at t (codes "Literal") s ∷ []
   nodes t r (tree.num s raw) = at t (codes "Literal") s ∷ []
   nodes t r (tree.big_int s raw) = at t (codes "Literal") s ∷ []
+  nodes t r (tree.regex s exp flags) = at t (codes "Literal") s ∷ []
   -- further primary expressions
   nodes t r (tree.this s) = at t (codes "ThisExpression") s ∷ []
   nodes t r (tree.array s elems) = at t (codes "ArrayExpression") s ∷ nodes t plain elems
@@ -55,11 +56,14 @@ abbrev mutual
   nodes t r (tree.cond s test cons alt) = at t (codes "ConditionalExpression") s ∷ (nodes t plain test ++ (nodes t plain cons ++ nodes t plain alt))
   nodes t r (tree.seq s exprs) = at t (codes "SequenceExpression") s ∷ nodes t plain exprs
   -- members and calls
-  nodes t r (tree.member s obj prop) = at t (codes "MemberExpression") s ∷ (nodes t plain obj ++ nodes t plain prop)
+  nodes t r (tree.member s obj prop) = at t (codes "MemberExpression") s ∷ (nodes t (inner r obj) obj ++ nodes t plain prop)
   nodes t r (tree.super_prop s word prop) = at t (codes "MemberExpression") s ∷ at t (codes "Super") word ∷ nodes t plain prop
   nodes t r (tree.call s callee args) =
-      cond (is_import callee) (at t (codes "ImportExpression") s ∷ (nodes t (argument 0) args ++ nodes t (argument 1) args)) (at t (codes "CallExpression") s ∷ (nodes t plain callee ++ nodes t plain args))
+      cond (is_import callee) (at t (codes "ImportExpression") s ∷ (nodes t (argument 0) args ++ nodes t (argument 1) args)) (at t (codes "CallExpression") s ∷ (nodes t (inner r callee) callee ++ nodes t plain args))
   nodes t r (tree.new s callee args) = at t (codes "NewExpression") s ∷ (nodes t plain callee ++ cond (is_absent args) [] (nodes t plain args))
+  nodes t r (tree.tpl s exprs quasis) = at t (codes "TemplateLiteral") s ∷ (nodes t plain exprs ++ nodes t plain quasis)
+  nodes t r (tree.tagged_tpl s tag template) = at t (codes "TaggedTemplateExpression") s ∷ (nodes t plain tag ++ nodes t plain template)
+  nodes t r (tree.opt_chain s optional base) = cond (is_link r) (nodes t (linked optional) base) (at t (codes "ChainExpression") s ∷ nodes t (linked optional) base)
   nodes t r (tree.arrow s params body is_async) = at t (codes "ArrowFunctionExpression") s ∷ (nodes t plain params ++ cond (is_block body) (nodes t directives body) (nodes t plain body))
   nodes t r (tree.yield s arg delegate) = at t (codes "YieldExpression") s ∷ nodes t plain arg
   nodes t r (tree.await s arg) = at t (codes "AwaitExpression") s ∷ nodes t plain arg
@@ -70,6 +74,7 @@ abbrev mutual
   nodes t r (tree.computed s e) = nodes t plain e
   nodes t r (tree.super_callee s) = at t (codes "Super") s ∷ []
   nodes t r (tree.import_callee s) = at t (codes "Import") s ∷ []
+  nodes t r (tree.quasi s tail cooked raw) = node_of t (codes "TemplateElement") (s.lo.0 + 1) (text_end s tail) ∷ []
   -- parts of objects
   nodes t r (tree.spread_prop dots e) = node_of t (codes "SpreadElement") dots.lo.0 (expr_end e) ∷ nodes t plain e
   nodes t r (tree.shorthand_prop s name) = at t (codes "Property") s ∷ at t (codes "Identifier") s ∷ at t (codes "Identifier") s ∷ []

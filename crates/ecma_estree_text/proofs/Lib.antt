@@ -1,5 +1,6 @@
 mod Counts
 mod Digits
 mod Points
+mod Regexes
 mod Spots
 mod Value

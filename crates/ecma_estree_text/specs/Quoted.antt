@@ -25,6 +25,10 @@ wrapped text = 34 ∷ (flat_map escaped text ++ 34 ∷ [])
 unfoldable pub quoted : List ℕ → List ℕ
 quoted text = wrapped text
 
+-- a regular expression as it is written, by what stands between its slashes and its flags
+abbrev pub regex_text : (exp flags : List ℕ) → List ℕ
+regex_text exp flags = codes "/" ++ (exp ++ (codes "/" ++ flags))
+
 -- what stands between the first and the last byte of a text
 unfoldable pub inner_quoted : List ℕ → List ℕ
 inner_quoted text = wrapped (take (length text - 2) (drop 1 text))

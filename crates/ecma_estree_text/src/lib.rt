@@ -12,6 +12,6 @@ mod strings;
 pub use bracket::find;
 pub use number::{push_count, push_digits, push_number};
 pub use places::{Extras, Places};
-pub use quoted::{push_inner, push_quoted, push_quoted_bytes};
+pub use quoted::{push_inner, push_quoted, push_quoted_bytes, push_regex};
 pub use spot::{Mark, Spot};
 pub use strings::push_string;

@@ -1,8 +1,9 @@
 //! What a numeric literal says, as JSON: ECMA-262, "Numeric Literals" (section 12.9.3).
 
 ghost use Rattle.std.specs.Prelude.{◌≡◌, ◌++◌, ◌<◌, ◌≤◌, ◌^◌, OnOk, IfSome, MatchOption, decimal, drop, false};
+ghost use Rattle.std.specs.List.{list_all};
 ghost use Rattle.ecma_estree_text.specs.Number as number;
-ghost use Rattle.ecma_estree_text.specs.Number.{bare_text, decimal_text, digit_value, digits_text, number_text, radix_of, value_behind};
+ghost use Rattle.ecma_estree_text.specs.Number.{bare_text, decimal_text, digit_value, digits_text, number_text, past_zeros, radix_of, value_behind, zero_text};
 
 use crate::long::{push_double, push_whole};
 use itoa::Buffer;
@@ -179,6 +180,55 @@ fn push_bare(out: &mut Vec<u8>, bytes: &[u8]) -> Result<(), AllocError>
     Ok(())
 }
 
+/// Whether a literal is a 0 with a digit behind it.
+fn has_leading_zero(bytes: &[u8]) -> bool
+    ensures { result ≡ number.has_leading_zero bytes.now }
+{
+    match bytes {
+        [b'0', digit, ..] => b'0' <= *digit && *digit <= b'9',
+        _ => false,
+    }
+}
+
+/// Whether a byte is a digit of base 8.
+fn is_octal_digit(byte: u8) -> bool
+    ensures { result ≡ number.is_octal_digit byte }
+{
+    b'0' <= byte && byte <= b'7'
+}
+
+/// Whether all of a literal are digits of base 8.
+fn is_octal(bytes: &[u8]) -> bool
+    ensures { result ≡ list_all number.is_octal_digit bytes.now }
+{
+    bytes.iter().all(|byte| is_octal_digit(*byte))
+}
+
+/// What stands behind the zeros that a literal begins with.
+fn behind_zeros(bytes: &[u8]) -> &[u8]
+    ensures { result.now ≡ past_zeros bytes.now }
+{
+    let mut rest = bytes;
+    while let [b'0', more @ ..] = rest {
+        rest = more;
+    }
+    rest
+}
+
+/// Writes the value of a literal that is a 0 with digits behind it: in base 8 where it has no others, else decimal.
+#[tactic(auto, using(crate::proofs::Digits::decimal_double))]
+fn push_zero_led(out: &mut Vec<u8>, bytes: &[u8]) -> Result<(), AllocError>
+    ensures { OnOk result (out.new.items ≡ out.old.items ++ zero_text bytes.now) }
+{
+    if !is_octal(bytes) {
+        return push_decimal(out, behind_zeros(bytes));
+    }
+    match value(bytes, 8) {
+        Some(value) => push_count(out, value),
+        None => push_double(out, bytes, 8),
+    }
+}
+
 /// What stands behind the first two bytes.
 fn digits(bytes: &[u8]) -> &[u8]
     ensures { result.now ≡ drop 2 bytes.now }
@@ -196,6 +246,9 @@ pub fn push_number(out: &mut Vec<u8>, raw: &str) -> Result<(), AllocError>
     ensures { OnOk result (out.new.items ≡ out.old.items ++ number_text raw.now) }
 {
     let bytes = raw.as_bytes();
+    if has_leading_zero(bytes) {
+        return push_zero_led(out, bytes);
+    }
     let Some(radix) = radix(bytes) else {
         return push_decimal(out, bytes);
     };

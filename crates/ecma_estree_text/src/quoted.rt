@@ -2,7 +2,7 @@
 
 ghost use Rattle.std.specs.Prelude.{◌≡◌, ◌++◌, ◌<◌, ◌∷◌, [], OnOk};
 ghost use Rattle.std.specs.List.{flat_map};
-ghost use Rattle.ecma_estree_text.specs.Quoted.{escaped, hex_digit, inner_quoted, quoted, wrapped};
+ghost use Rattle.ecma_estree_text.specs.Quoted.{escaped, hex_digit, inner_quoted, quoted, regex_text, wrapped};
 
 use std::alloc::AllocError;
 
@@ -81,6 +81,18 @@ pub fn push_quoted(out: &mut Vec<u8>, text: &str) -> Result<(), AllocError>
     ensures { OnOk result (out.new.items ≡ out.old.items ++ quoted text.now) }
 {
     push_quoted_bytes(out, text.as_bytes())
+}
+
+/// Writes a regular expression as a JSON string, by what stands between its slashes and its flags.
+#[tactic(auto, unfolding(crate::specs::Quoted::quoted), using(crate::proofs::Regexes::wrapped_regex))]
+pub fn push_regex(out: &mut Vec<u8>, exp: &str, flags: &str) -> Result<(), AllocError>
+    ensures { OnOk result (out.new.items ≡ out.old.items ++ quoted (regex_text exp.now flags.now)) }
+{
+    out.extend_from_slice(b"\"/")?;
+    push_escaped_bytes(out, exp.as_bytes())?;
+    out.extend_from_slice(b"/")?;
+    push_escaped_bytes(out, flags.as_bytes())?;
+    out.extend_from_slice(b"\"")
 }
 
 /// Writes what stands between the first and the last byte of a text as a JSON string.

@@ -7,12 +7,12 @@ use Rattle.ecma_estree_text.specs.Number.{number_text}
 use Rattle.ecma_estree_text.specs.Strings.{string_text}
 use Rattle.ecma_estree_writer.specs.Source.{Source}
 use Rattle.ecma_estree_writer.specs.Words.{bool_word, kind_word, using_word, method_word, unary_word, update_word, binary_word, binary_kind, assign_word}
-use Rattle.ecma_estree_writer.specs.Parts.{node, node_at, key, word_field, bool_field, end, open_list, end_list, nothing, comma, identifier, word_name, literal, big_literal, directive, end_of_last, phase_field, is_namespace_alone, is_import, is_empty_member, is_empty}
+use Rattle.ecma_estree_writer.specs.Parts.{node, node_at, key, word_field, bool_field, end, open_list, end_list, nothing, comma, identifier, word_name, literal, big_literal, regex_literal, template_element, directive, end_of_last, phase_field, is_namespace_alone, is_import, is_empty_member, is_empty}
 use Rattle.swc_ecma_parser_ast.specs.Parts.{as_expr}
 use Rattle.swc_ecma_parser_common.specs.declared.span.Span.{Span}
 use Rattle.swc_ecma_parser_model.specs.declared.leaves.MetaPropKind.TheVariants as meta
 use Rattle.swc_ecma_parser_model.specs.Directive.{is_string_statement}
-use Rattle.swc_ecma_parser_model.specs.Forms.{span_of, is_absent}
+use Rattle.swc_ecma_parser_model.specs.Forms.{span_of, is_absent, is_chain}
 use Rattle.swc_ecma_parser_model.specs.Kinds.{is_block, is_computed}
 use Rattle.swc_ecma_parser_model.specs.Tree as tree
 use Rattle.swc_ecma_parser_model.specs.Tree.{Tree, Trees, none, also}
@@ -30,6 +30,9 @@ pub data Role : Type 0 where
   bare : Role
   -- an argument of a call, by its number, and `null` where there are fewer
   argument : ℕ → Role
+  -- a link of an optional chain within the node of the chain, and the member or call that a link is, with or without `?.` before it
+  link : Role
+  linked : (optional : Bool) → Role
   -- a function or a class that is exported by default, which is a declaration
   declared : Role
   -- the decorators of a function, as a field
@@ -50,6 +53,23 @@ is_attributes _ = false
 abbrev pub is_directives : Role → Bool
 is_directives directives = true
 is_directives _ = false
+
+abbrev pub is_link : Role → Bool
+is_link link = true
+is_link _ = false
+
+abbrev pub is_optional : Role → Bool
+is_optional (linked optional) = optional
+is_optional _ = false
+
+-- what a link is a link of, which is another link or where the chain begins
+abbrev pub link_role : Tree → Role
+link_role x = cond (is_chain x) link plain
+
+-- what a member or a call is one of
+abbrev pub inner : Role → Tree → Role
+inner (linked optional) x = link_role x
+inner _ x = plain
 
 abbrev pub function_kind : Role → List ℕ
 function_kind declared = codes "FunctionDeclaration"
@@ -124,6 +144,7 @@ abbrev mutual
   json t r (tree.null s) = literal t s (codes "null") (codes "null")
   json t r (tree.num s raw) = literal t s (number_text raw) raw
   json t r (tree.big_int s raw) = big_literal t s raw
+  json t r (tree.regex s exp flags) = regex_literal t s exp flags
   -- further primary expressions
   json t r (tree.this s) = node t (codes "ThisExpression") s ++ end
   json t r (tree.array s elems) = node t (codes "ArrayExpression") s ++ (key (codes "elements") ++ (open_list ++ (json t plain elems ++ (end_list ++ end))))
@@ -153,15 +174,22 @@ abbrev mutual
   json t r (tree.seq s exprs) = node t (codes "SequenceExpression") s ++ (key (codes "expressions") ++ (open_list ++ (json t plain exprs ++ (end_list ++ end))))
   -- members and calls
   json t r (tree.member s obj prop) =
-      node t (codes "MemberExpression") s ++ (key (codes "object") ++ (json t plain obj ++ (key (codes "property") ++ (json t plain prop ++ (bool_field (codes "computed") (is_computed prop) ++ (bool_field (codes "optional") false ++ end))))))
+      node t (codes "MemberExpression") s ++ (key (codes "object") ++ (json t (inner r obj) obj ++ (key (codes "property") ++ (json t plain prop ++ (bool_field (codes "computed") (is_computed prop) ++ (bool_field (codes "optional") (is_optional r) ++ end))))))
   json t r (tree.super_prop s word prop) =
       node t (codes "MemberExpression") s ++ (key (codes "object") ++ (node t (codes "Super") word ++ (end ++ (key (codes "property") ++ (json t plain prop ++ (bool_field (codes "computed") (is_computed prop) ++ (bool_field (codes "optional") false ++ end)))))))
   json t r (tree.call s callee args) =
       cond (is_import callee)
       (node t (codes "ImportExpression") s ++ (key (codes "source") ++ (json t (argument 0) args ++ (key (codes "options") ++ (json t (argument 1) args ++ end)))))
-      (node t (codes "CallExpression") s ++ (key (codes "callee") ++ (json t plain callee ++ (key (codes "arguments") ++ (open_list ++ (json t plain args ++ (end_list ++ (bool_field (codes "optional") false ++ end))))))))
+      (node t (codes "CallExpression") s ++ (key (codes "callee") ++ (json t (inner r callee) callee ++ (key (codes "arguments") ++ (open_list ++ (json t plain args ++ (end_list ++ (bool_field (codes "optional") (is_optional r) ++ end))))))))
   json t r (tree.new s callee args) =
       node t (codes "NewExpression") s ++ (key (codes "callee") ++ (json t plain callee ++ (key (codes "arguments") ++ (open_list ++ (cond (is_absent args) [] (json t plain args) ++ (end_list ++ end))))))
+  -- templates and optional chains
+  json t r (tree.tpl s exprs quasis) =
+      node t (codes "TemplateLiteral") s ++ (key (codes "expressions") ++ (open_list ++ (json t plain exprs ++ (end_list ++ (key (codes "quasis") ++ (open_list ++ (json t plain quasis ++ (end_list ++ end))))))))
+  json t r (tree.tagged_tpl s tag template) =
+      node t (codes "TaggedTemplateExpression") s ++ (key (codes "tag") ++ (json t plain tag ++ (key (codes "quasi") ++ (json t plain template ++ end))))
+  json t r (tree.opt_chain s optional base) =
+      cond (is_link r) (json t (linked optional) base) (node t (codes "ChainExpression") s ++ (key (codes "expression") ++ (json t (linked optional) base ++ end)))
   json t r (tree.arrow s params body is_async) =
       node t (codes "ArrowFunctionExpression") s ++ (function_fields nothing (not (is_block body)) false is_async ++ (key (codes "params") ++ (open_list ++ (json t plain params ++ (end_list ++ (key (codes "body") ++ (cond (is_block body) (json t directives body) (json t plain body) ++ end)))))))
   json t r (tree.yield s arg delegate) =
@@ -175,6 +203,7 @@ abbrev mutual
   json t r (tree.computed s e) = json t plain e
   json t r (tree.super_callee s) = node t (codes "Super") s ++ end
   json t r (tree.import_callee s) = node t (codes "Import") s ++ end
+  json t r (tree.quasi s tail cooked raw) = template_element t s tail cooked raw
   -- parts of objects
   json t r (tree.spread_prop dots e) =
       node_at t (codes "SpreadElement") dots.lo.0 (expr_end e) ++ (key (codes "argument") ++ (json t plain e ++ end))

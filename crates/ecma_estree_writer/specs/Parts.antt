@@ -1,8 +1,8 @@
 -- What nodes are made of.
-use Rattle.std.specs.Prelude.{ℕ, List, [], ◌++◌, ◌+◌, ◌-◌, Bool, true, false, Option, Some, None, codes, decimal, take, drop, length, max}
+use Rattle.std.specs.Prelude.{ℕ, List, [], ◌++◌, ◌+◌, ◌-◌, Bool, true, false, Option, Some, None, cond, codes, decimal, take, drop, length, max}
 use Rattle.ecma_estree_text.specs.Places.{place_fields}
 use Rattle.ecma_estree_writer.specs.Source.{Source}
-use Rattle.ecma_estree_text.specs.Quoted.{quoted, inner_quoted}
+use Rattle.ecma_estree_text.specs.Quoted.{quoted, inner_quoted, regex_text}
 use Rattle.ecma_estree_text.specs.Number.{number_text, digits_text}
 use Rattle.ecma_estree_writer.specs.Words.{bool_word}
 use Rattle.swc_ecma_parser_common.specs.declared.span.Span.{Span}
@@ -62,6 +62,31 @@ literal text s value raw = node text (codes "Literal") s ++ (key (codes "value")
 unfoldable pub big_literal : Source → Span → Text → List ℕ
 big_literal text s raw =
     node text (codes "Literal") s ++ (key (codes "value") ++ (nothing ++ (key (codes "raw") ++ (quoted raw ++ (key (codes "bigint") ++ (codes "\"" ++ (digits_text raw ++ (codes "\"" ++ end))))))))
+
+-- how an object begins that is no node, up to the value of its first field
+unfoldable pub first_key : List ℕ → List ℕ
+first_key name = codes "{\"" ++ (name ++ codes "\":")
+
+-- a regular expression, whose value JSON has no form for
+unfoldable pub regex_literal : Source → Span → (exp flags : Text) → List ℕ
+regex_literal t s exp flags =
+    node t (codes "Literal") s ++ (key (codes "value") ++ (codes "{}" ++ (key (codes "raw") ++ (quoted (regex_text exp flags)
+    ++ (key (codes "regex") ++ (first_key (codes "pattern") ++ (quoted exp ++ (key (codes "flags") ++ (quoted flags ++ (end ++ end))))))))))
+
+-- a text, or `null`
+abbrev pub optional_text : Option Text → List ℕ
+optional_text None = nothing
+optional_text (Some text) = quoted text
+
+-- where a text of a template ends: its last mark is a backquote, or `${`
+abbrev pub text_end : Span → (tail : Bool) → ℕ
+text_end s tail = s.hi.0 - cond tail 1 2
+
+-- a text of a template, between its marks
+unfoldable pub template_element : Source → Span → (tail : Bool) → (cooked : Option Text) → (raw : Text) → List ℕ
+template_element t s tail cooked raw =
+    node_at t (codes "TemplateElement") (s.lo.0 + 1) (text_end s tail) ++ (key (codes "value") ++ (first_key (codes "raw") ++ (quoted raw
+    ++ (key (codes "cooked") ++ (optional_text cooked ++ (end ++ (bool_field (codes "tail") tail ++ end)))))))
 
 -- what a statement that is a directive has besides
 abbrev pub directive : Tree → List ℕ

@@ -1,12 +1,12 @@
 -- What is yet to be written, as text.
 use Rattle.std.specs.Prelude.{ℕ, List, [], ◌∷◌, ◌++◌, false, map, codes}
 use Rattle.ecma_estree_writer.specs.Parts.{node_at, key, word_field, bool_field, end, open_list, end_list, nothing, directive}
-use Rattle.ecma_estree_writer.specs.Estree.{Role, plain, directives, members, attributes, function, json, jsons, function_fields}
+use Rattle.ecma_estree_writer.specs.Estree.{Role, plain, directives, members, attributes, function, json, jsons, function_fields, link_role}
 use Rattle.ecma_estree_writer.specs.Source.{Source}
 use Rattle.ecma_estree_writer.specs.declared.work.Work.{Work}
 use Rattle.ecma_estree_writer.specs.declared.work.Work.TheVariants as w
 use Rattle.swc_ecma_parser_ast.specs.Parts.{view_option}
-use Rattle.swc_ecma_parser_ast.specs.View.{view_block_stmt, view_catch_clause, view_class_member, view_decl, view_declarator, view_decorator, view_export_specifier, view_expr_or_spread, view_function, view_ident, view_import_specifier, view_module_item, view_object_pat_prop, view_param, view_param_or_ts_param_prop, view_pat, view_private_name, view_prop_or_spread, view_stmt, view_str, view_switch_case}
+use Rattle.swc_ecma_parser_ast.specs.View.{view_block_stmt, view_catch_clause, view_class_member, view_decl, view_declarator, view_decorator, view_export_specifier, view_expr_or_spread, view_function, view_ident, view_import_specifier, view_module_item, view_object_pat_prop, view_param, view_param_or_ts_param_prop, view_pat, view_private_name, view_prop_or_spread, view_stmt, view_str, view_switch_case, view_tpl, view_tpl_element}
 use Rattle.swc_ecma_parser_model.specs.Tree.{trees}
 
 abbrev pub work_text : Source → Work → List ℕ
@@ -23,6 +23,10 @@ work_text t (w.PrivateName x) = json t plain (view_private_name x.now)
 work_text t (w.Str x) = json t plain (view_str x.now)
 work_text t (w.Directive x) = directive (view_str x.now)
 work_text t (w.Expr x) = json t plain x.now.node.tree
+work_text t (w.Link x) = json t (link_role x.now.node.tree) x.now.node.tree
+work_text t (w.Template x) = json t plain (view_tpl x.now)
+work_text t (w.Quasi x) = json t plain (view_tpl_element x.now)
+work_text t (w.Quasis xs f) = jsons t plain f (trees (map view_tpl_element xs.now))
 work_text t (w.Exprs xs f) = jsons t plain f (trees (map (λ b. b.node.tree) xs.now))
 work_text t (w.Elements xs f) = jsons t plain f (trees (map (view_option view_expr_or_spread) xs.now))
 work_text t (w.Argument x) = json t plain (view_expr_or_spread x.now)

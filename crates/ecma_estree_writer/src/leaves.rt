@@ -1,19 +1,21 @@
-//! Names and literals.
+//! Names, literals and the texts of templates.
 
 ghost use Rattle.std.specs.Prelude.{◌++◌, ◌<◌, ◌+◌, ◌-◌, codes, OnOk};
 ghost use Rattle.ecma_estree_writer.specs.Parts.{end};
 ghost use Rattle.ecma_estree_writer.specs.Estree.{json, plain};
 ghost use Rattle.ecma_estree_writer.specs.Writing.{Appends};
 ghost use Rattle.ecma_estree_text.specs.Number.{digits_text, number_text};
-ghost use Rattle.ecma_estree_text.specs.Quoted.{quoted};
+ghost use Rattle.ecma_estree_text.specs.Quoted.{quoted, regex_text};
 ghost use Rattle.swc_ecma_parser_ast.specs.Parts.{view_option};
-ghost use Rattle.swc_ecma_parser_ast.specs.View.{view_big_int, view_ident, view_lit, view_meta_prop_expr, view_private_name, view_str};
+ghost use Rattle.swc_ecma_parser_ast.specs.View.{view_big_int, view_ident, view_lit, view_meta_prop_expr, view_private_name, view_regex, view_str, view_tpl_element};
 ghost use Rattle.ecma_estree_writer.specs.Parts as parts;
 
 use crate::words::bool_word;
 use crate::writer::Writer;
 use std::alloc::AllocError;
-use swc_ecma_parser_ast::{BigInt, Ident, Lit, MetaPropExpr, MetaPropKind, PrivateName, Span, Str};
+use swc_ecma_parser_ast::{
+    Atom, BigInt, Ident, Lit, MetaPropExpr, MetaPropKind, PrivateName, Regex, Span, Str, TplElement,
+};
 
 /// Writes a field that is a text.
 fn write_text(w: &mut Writer<'_>, key: &str, text: &str) -> Result<(), AllocError>
@@ -149,6 +151,84 @@ pub fn write_big_int(w: &mut Writer<'_>, literal: &BigInt) -> Result<(), AllocEr
     w.end()
 }
 
+/// Writes the value of a regular expression, for which JSON has no form, and how it is written.
+fn write_regex_value(w: &mut Writer<'_>, literal: &Regex) -> Result<(), AllocError>
+    ensures { OnOk result
+        (Appends w.old w.new
+        (parts.key (codes "value") ++ (codes "{}" ++ (parts.key (codes "raw")
+        ++ quoted (regex_text literal.now.exp literal.now.flags))))) }
+{
+    w.key("value")?;
+    w.raw("{}")?;
+    w.key("raw")?;
+    w.regex(literal.exp.as_str(), literal.flags.as_str())
+}
+
+/// Writes the parts of a regular expression.
+fn write_regex_parts(w: &mut Writer<'_>, literal: &Regex) -> Result<(), AllocError>
+    ensures { OnOk result
+        (Appends w.old w.new
+        (parts.key (codes "regex") ++ (parts.first_key (codes "pattern") ++ (quoted literal.now.exp
+        ++ (parts.key (codes "flags") ++ (quoted literal.now.flags ++ end)))))) }
+{
+    w.key("regex")?;
+    w.first_key("pattern")?;
+    w.quoted(literal.exp.as_str())?;
+    write_text(w, "flags", literal.flags.as_str())?;
+    w.end()
+}
+
+/// Writes a regular expression.
+#[tactic(auto, unfolding(crate::specs::Parts::regex_literal))]
+pub fn write_regex(w: &mut Writer<'_>, literal: &Regex) -> Result<(), AllocError>
+    ensures { OnOk result (Appends w.old w.new (json w.old.source plain (view_regex literal.now))) }
+{
+    w.open("Literal", literal.span)?;
+    write_regex_value(w, literal)?;
+    write_regex_parts(w, literal)?;
+    w.end()
+}
+
+/// Writes a text, or `null`.
+fn write_optional_text(w: &mut Writer<'_>, text: &Option<Atom>) -> Result<(), AllocError>
+    ensures { OnOk result (Appends w.old w.new (parts.optional_text text.now)) }
+{
+    match text {
+        Some(text) => w.quoted(text.as_str()),
+        None => w.nothing(),
+    }
+}
+
+/// Writes how a text of a template is written, and what it says.
+fn write_element_value(w: &mut Writer<'_>, element: &TplElement) -> Result<(), AllocError>
+    ensures { OnOk result
+        (Appends w.old w.new
+        (parts.key (codes "value") ++ (parts.first_key (codes "raw") ++ (quoted element.now.raw
+        ++ (parts.key (codes "cooked") ++ (parts.optional_text element.now.cooked ++ end)))))) }
+{
+    w.key("value")?;
+    w.first_key("raw")?;
+    w.quoted(element.raw.as_str())?;
+    w.key("cooked")?;
+    write_optional_text(w, &element.cooked)?;
+    w.end()
+}
+
+/// Writes a text of a template, which stands between its marks.
+#[tactic(auto, unfolding(crate::specs::Parts::template_element))]
+pub fn write_template_element(w: &mut Writer<'_>, element: &TplElement) -> Result<(), AllocError>
+    ensures { OnOk result
+        (Appends w.old w.new (json w.old.source plain (view_tpl_element element.now))) }
+{
+    let start = element.span.lo.0 as usize + 1;
+    let mark_len = if element.tail { 1 } else { 2 };
+    let end = (element.span.hi.0 as usize).saturating_sub(mark_len);
+    w.open_at("TemplateElement", start, end)?;
+    write_element_value(w, element)?;
+    w.flag("tail", element.tail)?;
+    w.end()
+}
+
 /// Writes a literal.
 pub fn write_literal(w: &mut Writer<'_>, literal: &Lit) -> Result<(), AllocError>
     ensures { OnOk result (Appends w.old w.new (json w.old.source plain (view_lit literal.now))) }
@@ -159,6 +239,7 @@ pub fn write_literal(w: &mut Writer<'_>, literal: &Lit) -> Result<(), AllocError
         Lit::Null(x) => write_word(w, "null", x.span),
         Lit::Num(x) => write_number(w, x.raw.as_str(), x.span),
         Lit::BigInt(x) => write_big_int(w, x),
+        Lit::Regex(x) => write_regex(w, x),
     }
 }
 

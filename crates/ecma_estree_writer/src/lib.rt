@@ -8,7 +8,7 @@ mod writer;
 
 pub use leaves::{
     write_big_int, write_literal, write_meta, write_name, write_number, write_optional_name,
-    write_private_name, write_str,
+    write_private_name, write_regex, write_str, write_template_element,
 };
 pub use words::{
     assign_word, binary_kind, binary_word, bool_word, kind_word, method_word, unary_word,

@@ -1,7 +1,8 @@
 use swc_ecma_parser_ast::{
     BlockStmt, CatchClause, ClassMember, Decl, Decorator, ExportSpecifier, ExprBox, ExprOrSpread,
     Function, Ident, ImportSpecifier, ModuleItem, ObjectPatProp, Param, ParamOrTsParamProp, Pat,
-    PatBox, PrivateName, PropOrSpread, Stmt, StmtBox, Str, SwitchCase, VarDeclarator,
+    PatBox, PrivateName, PropOrSpread, Stmt, StmtBox, Str, SwitchCase, Tpl, TplElement,
+    VarDeclarator,
 };
 
 /// What is yet to be written. The `bool` of a list says whether its first part has a comma before it: not where it is the first of all.
@@ -22,6 +23,12 @@ pub enum Work<'a> {
     /// The field that a string has as a directive.
     Directive(&'a Str),
     Expr(&'a ExprBox),
+    /// What a link of an optional chain is a link of.
+    Link(&'a ExprBox),
+    Template(&'a Tpl),
+    Quasi(&'a TplElement),
+    /// The texts of a template.
+    Quasis(&'a [TplElement], bool),
     Exprs(&'a [ExprBox], bool),
     Elements(&'a [Option<ExprOrSpread>], bool),
     Argument(&'a ExprOrSpread),

@@ -3,7 +3,7 @@
 ghost use Rattle.std.specs.Prelude.{◌≡◌, ◌++◌, [], OnOk, IfOk, MatchOption, codes, length};
 ghost use Rattle.ecma_estree_text.specs.Bracket.{bracket};
 ghost use Rattle.ecma_estree_text.specs.Number.{digits_text, number_text};
-ghost use Rattle.ecma_estree_text.specs.Quoted.{inner_quoted, quoted};
+ghost use Rattle.ecma_estree_text.specs.Quoted.{inner_quoted, quoted, regex_text};
 ghost use Rattle.ecma_estree_text.specs.Strings.{string_text};
 ghost use Rattle.ecma_estree_writer.specs.Parts as parts;
 ghost use Rattle.ecma_estree_writer.specs.Work.{work_text};
@@ -12,7 +12,7 @@ ghost use Rattle.ecma_estree_writer.specs.Writing.{Appends, Pushes};
 use crate::words::bool_word;
 use crate::work::Work;
 use ecma_estree_text::{
-    Places, find, push_digits, push_inner, push_number, push_quoted, push_string,
+    Places, find, push_digits, push_inner, push_number, push_quoted, push_regex, push_string,
 };
 use std::alloc::{AllocError, Global};
 use std::marker::Model;
@@ -135,6 +135,16 @@ impl<'a> Writer<'a> {
         self.out.extend_from_slice(b"\":")
     }
 
+    /// Writes how an object begins that is no node, up to the value of its first field.
+    #[tactic(auto, unfolding(crate::specs::Parts::first_key))]
+    pub fn first_key(&mut self, name: &str) -> Result<(), AllocError>
+        ensures { OnOk result (Appends self.old self.new (parts.first_key name.now)) }
+    {
+        self.out.extend_from_slice(b"{\"")?;
+        self.out.extend_from_slice(name.as_bytes())?;
+        self.out.extend_from_slice(b"\":")
+    }
+
     /// Writes how a field begins that is a list.
     pub fn list_key(&mut self, name: &str) -> Result<(), AllocError>
         ensures { OnOk result (Appends self.old self.new (parts.key name.now ++ parts.open_list)) }
@@ -218,6 +228,13 @@ impl<'a> Writer<'a> {
         ensures { OnOk result (Appends self.old self.new (string_text value.now raw.now)) }
     {
         push_string(&mut self.out, value, raw)
+    }
+
+    /// Writes a regular expression as a JSON string, by what stands between its slashes and its flags.
+    pub fn regex(&mut self, exp: &str, flags: &str) -> Result<(), AllocError>
+        ensures { OnOk result (Appends self.old self.new (quoted (regex_text exp.now flags.now))) }
+    {
+        push_regex(&mut self.out, exp, flags)
     }
 
     /// Writes what stands between the quotes of a string literal, as a JSON string.

@@ -1,5 +1,5 @@
 -- A declaration in the place of a statement is one that is not exported; an expression in a place where other forms may stand is walked over as it
--- is; a literal has no events; what a node holds is there.
+-- is; a literal has the same events in each role; what a node holds is there.
 use Rattle.std.proofs.Common.{◌≡◌, Bool, true, false, List, Result, Ok, Err, OnOk, refl, ◌∙◌, sym}
 use Rattle.ecma_events.specs.Event.{Event}
 use Rattle.ecma_events.specs.declared.event.Role.{Role}
@@ -66,12 +66,17 @@ pub head_on_ok : {X E : Type 0} (res : Result X E) (x : Pat Held) (rest q : List
     → OnOk res (q ≡ events assigned (view_pat x) rest) → OnOk res (q ≡ head_events (events assigned (view_pat x) rest) (view_pat x) rest)
 head_on_ok res x rest q h = on_ok res q _ _ (head_plain (events assigned (view_pat x) rest) x rest) h
 
-pub literal : (r : Role) (x : Lit) (rest : List Event) → rest ≡ events r (view_lit x) rest
+literal : (r : Role) (x : Lit) (rest : List Event) → events r (view_lit x) rest ≡ events used (view_lit x) rest
 literal r (l.Str x) rest = refl
 literal r (l.Bool x) rest = refl
 literal r (l.Null x) rest = refl
 literal r (l.Num x) rest = refl
 literal r (l.BigInt x) rest = refl
+literal r (l.Regex x) rest = refl
+
+pub literal_on_ok : {X E : Type 0} (res : Result X E) (r : Role) (x : Lit) (rest q : List Event)
+    → OnOk res (q ≡ events used (view_lit x) rest) → OnOk res (q ≡ events r (view_lit x) rest)
+literal_on_ok res r x rest q h = on_ok res q _ _ (literal r x rest) h
 
 pub literal_not_deleted : (x : Lit) (rest : List Event) → rest ≡ deleted (view_lit x) rest
 literal_not_deleted (l.Str x) rest = refl
@@ -79,6 +84,7 @@ literal_not_deleted (l.Bool x) rest = refl
 literal_not_deleted (l.Null x) rest = refl
 literal_not_deleted (l.Num x) rest = refl
 literal_not_deleted (l.BigInt x) rest = refl
+literal_not_deleted (l.Regex x) rest = refl
 
 there : (t : Tree) → There t → is_absent t ≡ false
 there tree.absent h = absurd h

@@ -1,3 +1,5 @@
 pub mod After
+pub mod Arms
 pub mod Declared
+pub mod Firsts
 pub mod Holders

@@ -13,7 +13,10 @@ use Rattle.ecma_events.specs.declared.event.Role.{Role}
 use Rattle.ecma_events.specs.declared.event.Role.TheVariants as role
 use Rattle.ecma_events.specs.Event as event
 use Rattle.ecma_events.specs.Event.{Event}
+use Rattle.ecma_event_exprs.specs.Literals.{are_flags, has_old_escape, is_old_number}
 use Rattle.swc_ecma_parser_common.specs.declared.span.Span.{Span}
+use Rattle.swc_ecma_parser_model.specs.declared.leaves.MetaPropKind.{MetaPropKind}
+use Rattle.swc_ecma_parser_model.specs.declared.leaves.MetaPropKind.TheVariants as meta
 use Rattle.swc_ecma_parser_model.specs.declared.leaves.MethodKind.TheVariants as method
 use Rattle.swc_ecma_parser_model.specs.declared.leaves.VarDeclKind.{VarDeclKind}
 use Rattle.swc_ecma_parser_model.specs.declared.leaves.VarDeclKind.TheVariants as var_kind
@@ -88,11 +91,42 @@ bare r s init rest = if is_absent init && is_const r then event.bare s ∷ rest 
 abbrev pub awaited : (is_await : Bool) → Span → List Event → List Event
 awaited is_await s rest = if is_await then event.await s ∷ rest else rest
 
+-- a number and a string in old forms (12.9.3, 12.9.4)
+abbrev pub number : Span → (raw : Text) → List Event → List Event
+number s raw rest = if is_old_number raw then event.old_number s ∷ rest else rest
+
+abbrev pub string : Span → (raw : Text) → List Event → List Event
+string s raw rest = if has_old_escape false raw then event.old_string s ∷ rest else rest
+
+-- the same of a key
+abbrev pub literal_key : Tree → List Event → List Event
+literal_key (tree.str s value raw) rest = string s raw rest
+literal_key (tree.num s raw) rest = number s raw rest
+literal_key _ rest = rest
+
+-- a regular expression with wrong flags (13.2.7.1)
+abbrev pub regex : Span → (flags : Text) → List Event → List Event
+regex s flags rest = if are_flags flags then rest else event.wrong_flags s ∷ rest
+
+abbrev pub meta_prop : MetaPropKind → Span → List Event → List Event
+meta_prop meta.NewTarget s rest = event.new_target s ∷ rest
+meta_prop meta.ImportMeta s rest = rest
+
+-- a private member that `delete` is said of, given what names it; and a link of an optional chain that is one
+abbrev pub deleted_prop : Span → (prop : Tree) → List Event → List Event
+deleted_prop s (tree.private_name t word text) rest = event.delete_private s ∷ rest
+deleted_prop s _ rest = rest
+
+abbrev pub deleted_link : Span → (base : Tree) → List Event → List Event
+deleted_link s (tree.member t obj prop) rest = deleted_prop s prop rest
+deleted_link s _ rest = rest
+
 -- what `delete` is said of, in any number of parentheses
 abbrev pub deleted : Tree → List Event → List Event
 deleted (tree.paren s e) rest = deleted e rest
 deleted (tree.ident s text) rest = event.delete_name s ∷ rest
-deleted (tree.member s obj (tree.private_name t word text)) rest = event.delete_private s ∷ rest
+deleted (tree.member s obj prop) rest = deleted_prop s prop rest
+deleted (tree.opt_chain s optional base) rest = deleted_link s base rest
 deleted _ rest = rest
 
 abbrev pub operated : UnaryOp → (arg : Tree) → List Event → List Event
@@ -150,11 +184,12 @@ abbrev mutual
   events r (tree.list ts) rest = all_events r ts rest
   -- names and literals
   events r (tree.ident s text) rest = event.name r s text ∷ rest
-  events r (tree.str s value raw) rest = rest
+  events r (tree.str s value raw) rest = string s raw rest
   events r (tree.bool s b) rest = rest
   events r (tree.null s) rest = rest
-  events r (tree.num s raw) rest = rest
+  events r (tree.num s raw) rest = number s raw rest
   events r (tree.big_int s raw) rest = rest
+  events r (tree.regex s exp flags) rest = regex s flags rest
   -- further primary expressions
   events r (tree.this s) rest = rest
   events r (tree.array s elems) rest = events used elems rest
@@ -163,7 +198,7 @@ abbrev mutual
   events r (tree.class_expr s name body) rest = class_events name body rest
   -- what is assigned to may stand in parentheses
   events r (tree.paren s e) rest = events r e rest
-  events r (tree.meta_prop s kind) rest = rest
+  events r (tree.meta_prop s kind) rest = meta_prop kind s rest
   events r (tree.invalid s) rest = rest
   -- operators
   events r (tree.unary s op arg) rest = operated op arg (events used arg rest)
@@ -177,6 +212,10 @@ abbrev mutual
   events r (tree.super_prop s word prop) rest = event.super_member word ∷ key_events prop rest
   events r (tree.call s callee args) rest = events used callee (events used args rest)
   events r (tree.new s callee args) rest = events used callee (events used args rest)
+  -- templates and links of optional chains
+  events r (tree.tpl s exprs quasis) rest = events used exprs rest
+  events r (tree.tagged_tpl s tag template) rest = events used tag (events used template rest)
+  events r (tree.opt_chain s optional base) rest = events used base rest
   events r (tree.arrow s params body is_async) rest =
       event.enter (region.Function (code_of kind.Arrow params body is_async false)) s
       ∷ events (declared binding.Parameter) params (event.body ∷ arrow_events (events used body (event.leave ∷ rest)) body (event.leave ∷ rest))
@@ -184,10 +223,12 @@ abbrev mutual
   events r (tree.await s arg) rest = event.await s ∷ events used arg rest
   -- parts of expressions
   events r (tree.element spread e) rest = events used e rest
-  events r (tree.private_name s word text) rest = rest
+  -- as the left operand of `in`
+  events r (tree.private_name s word text) rest = event.private_use s text ∷ rest
   events r (tree.computed s e) rest = events used e rest
   events r (tree.super_callee s) rest = event.super_call s ∷ rest
   events r (tree.import_callee s) rest = rest
+  events r (tree.quasi s tail cooked raw) rest = rest
   -- parts of objects
   events r (tree.spread_prop dots e) rest = events used e rest
   events r (tree.shorthand_prop s text) rest = event.name used s text ∷ rest
@@ -215,8 +256,8 @@ abbrev mutual
   events r (tree.decorator s e) rest = events used e rest
   events r (tree.class s decorators body super_class) rest = rest
   events r (tree.constructor s key params body) rest =
-      event.enter (region.Function (code_of kind.Constructor params body false false)) s
-      ∷ events (declared binding.Parameter) params (event.body ∷ body_events body (event.leave ∷ rest))
+      key_events key (event.enter (region.Function (code_of kind.Constructor params body false false)) s
+      ∷ events (declared binding.Parameter) params (event.body ∷ body_events body (event.leave ∷ rest)))
   events r (tree.method s key fn k is_static) rest = prototype is_static key (key_events key (function_events kind.Method tree.absent fn rest))
   events r (tree.private_method s (tree.private_name t word text) fn k is_static) rest =
       event.private_member k is_static t text ∷ function_events kind.Method tree.absent fn rest
@@ -285,17 +326,17 @@ abbrev mutual
   all_events r none rest = rest
   all_events r (also t ts) rest = events r t (all_events r ts rest)
 
-  -- a key of an object, a class or a member: what its brackets hold, or a private name that refers to a member
+  -- a key of an object, a class or a member: what its brackets hold, a private name that refers to a member, or a literal
   pub key_events : Tree → List Event → List Event
   key_events (tree.computed s e) rest = events used e rest
   key_events (tree.private_name s word text) rest = event.private_use s text ∷ rest
-  key_events _ rest = rest
+  key_events key rest = literal_key key rest
 
   -- the key of a field with accessors
   pub member_key_events : (is_static : Bool) → Tree → List Event → List Event
   member_key_events is_static (tree.private_name s word text) rest = event.private_member method.Method is_static s text ∷ rest
   member_key_events is_static (tree.computed s e) rest = events used e rest
-  member_key_events is_static key rest = prototype is_static key rest
+  member_key_events is_static key rest = prototype is_static key (literal_key key rest)
 
   -- the properties of an object, where one `__proto__: value` was seen or not
   pub object_events : (seen : Bool) → Tree → List Event → List Event

@@ -2,13 +2,14 @@
 
 ghost use Rattle.std.specs.Prelude.{◌≡◌, ◌∷◌, OnOk, map};
 ghost use Rattle.ecma_events.specs.Event as steps;
-ghost use Rattle.ecma_event_exprs.specs.Events.{assigned, deleted, events, key_events, used};
-ghost use Rattle.swc_ecma_parser_ast.specs.Parts.{view_option};
-ghost use Rattle.swc_ecma_parser_ast.specs.View.{view_assign_expr, view_assign_target, view_call_expr, view_callee, view_expr, view_expr_or_spread, view_member_expr, view_member_prop, view_new_expr, view_super_prop, view_super_prop_expr, view_unary_expr};
+ghost use Rattle.ecma_event_exprs.specs.Events.{assigned, deleted, deleted_link, deleted_prop, events, key_events, meta_prop, used};
+ghost use Rattle.swc_ecma_parser_ast.specs.Parts.{as_expr, view_option};
+ghost use Rattle.swc_ecma_parser_ast.specs.View.{view_assign_expr, view_assign_target, view_call_expr, view_callee, view_expr, view_expr_or_spread, view_member_expr, view_member_prop, view_new_expr, view_opt_call, view_opt_chain_base, view_super_prop, view_super_prop_expr, view_tagged_tpl, view_unary_expr};
 ghost use Rattle.swc_ecma_parser_model.specs.Tree.{listed};
 
 use crate::classes::class_expr;
 use crate::functions::{arrow, function_expr};
+use crate::literals::literal;
 use crate::patterns::{array_pat, object_pat};
 use crate::walk::Walk;
 use crate::work::Work;
@@ -16,8 +17,8 @@ use ecma_events::{Event, Role};
 use std::alloc::AllocError;
 use swc_ecma_parser_ast::{
     AssignExpr, AssignTarget, AssignTargetPat, CallExpr, Callee, Expr, ExprBox, ExprOrSpread,
-    MemberExpr, MemberProp, NewExpr, SimpleAssignTarget, SuperProp, SuperPropExpr, UnaryExpr,
-    UnaryOp,
+    MemberExpr, MemberProp, MetaPropExpr, MetaPropKind, NewExpr, OptCall, OptChainBase,
+    SimpleAssignTarget, Span, SuperProp, SuperPropExpr, TaggedTpl, UnaryExpr, UnaryOp,
 };
 
 /// What may be left out.
@@ -32,12 +33,13 @@ pub fn optional_expr<'a>(walk: &mut Walk<'a>, expr: &'a Option<ExprBox>) -> Resu
 }
 
 /// An expression in a role: that of the name that it may be.
-#[tactic(auto, using(crate::proofs::Declared::literal))]
 pub fn expr<'a>(walk: &mut Walk<'a>, role: Role, expr: &'a Expr) -> Result<(), AllocError>
     ensures { OnOk result (walk.new ≡ events role (view_expr expr.now) walk.old) }
 {
     match expr {
-        Expr::This(_) | Expr::Lit(_) | Expr::MetaProp(_) | Expr::Invalid(_) => Ok(()),
+        Expr::This(_) | Expr::Invalid(_) => Ok(()),
+        Expr::Lit(x) => literal(walk, x),
+        Expr::MetaProp(x) => meta_prop(walk, x),
         Expr::Array(x) => walk.push(Work::Elements(x.elems.as_slice())),
         Expr::Object(x) => walk.push(Work::Properties(false, x.props.as_slice())),
         Expr::Fn(x) => function_expr(walk, x),
@@ -76,7 +78,55 @@ pub fn expr<'a>(walk: &mut Walk<'a>, role: Role, expr: &'a Expr) -> Result<(), A
             )
         }
         Expr::Paren(x) => walk.push(Work::Expr(role, &x.expr)),
+        Expr::Tpl(x) => walk.push(Work::Exprs(x.exprs.as_slice())),
+        Expr::TaggedTpl(x) => tagged(walk, x),
+        Expr::OptChain(x) => link(walk, &x.base),
+        Expr::PrivateName(x) => walk.event(Event::PrivateUse(x)),
     }
+}
+
+/// `new.target`, or `import.meta`.
+fn meta_prop(walk: &mut Walk<'_>, x: &MetaPropExpr) -> Result<(), AllocError>
+    ensures { OnOk result (walk.new ≡ meta_prop x.now.kind x.now.span walk.old) }
+{
+    match x.kind {
+        MetaPropKind::NewTarget => walk.event(Event::NewTarget(x.span)),
+        MetaPropKind::ImportMeta => Ok(()),
+    }
+}
+
+/// A template behind its tag.
+fn tagged<'a>(walk: &mut Walk<'a>, x: &'a TaggedTpl) -> Result<(), AllocError>
+    ensures { OnOk result (walk.new ≡ events used (view_tagged_tpl x.now) walk.old) }
+{
+    walk.two(
+        Work::Expr(Role::Used, &x.tag),
+        Work::Exprs(x.tpl.exprs.as_slice()),
+    )
+}
+
+/// A link of an optional chain.
+fn link<'a>(walk: &mut Walk<'a>, x: &'a OptChainBase) -> Result<(), AllocError>
+    ensures { OnOk result (walk.new ≡ events used (view_opt_chain_base x.now) walk.old) }
+{
+    match x {
+        OptChainBase::Member(x) => member(walk, x),
+        OptChainBase::Call(x) => opt_call(walk, x),
+    }
+}
+
+fn opt_call<'a>(walk: &mut Walk<'a>, x: &'a OptCall) -> Result<(), AllocError>
+    ensures { OnOk result (walk.new ≡ events used (view_opt_call x.now) walk.old) }
+{
+    walk.push(Work::Arguments(x.args.as_slice()))?;
+    called(walk, &x.callee)
+}
+
+/// An expression that is called.
+fn called<'a>(walk: &mut Walk<'a>, x: &'a ExprBox) -> Result<(), AllocError>
+    ensures { OnOk result (walk.new ≡ events used (as_expr x.now.node.tree) walk.old) }
+{
+    walk.push(Work::Expr(Role::Used, x))
 }
 
 fn unary<'a>(walk: &mut Walk<'a>, x: &'a UnaryExpr) -> Result<(), AllocError>
@@ -102,10 +152,8 @@ pub fn delete<'a>(walk: &mut Walk<'a>, x: &'a Expr) -> Result<(), AllocError>
     match x {
         Expr::Paren(x) => walk.push(Work::Deleted(&x.expr)),
         Expr::Ident(x) => walk.event(Event::DeleteName(x.span)),
-        Expr::Member(x) => match &x.prop {
-            MemberProp::PrivateName(_) => walk.event(Event::DeletePrivate(x.span)),
-            MemberProp::Ident(_) | MemberProp::Computed(_) => Ok(()),
-        },
+        Expr::Member(x) => delete_member(walk, x.span, &x.prop),
+        Expr::OptChain(x) => delete_link(walk, x.span, &x.base),
         Expr::This(_)
         | Expr::Array(_)
         | Expr::Object(_)
@@ -125,7 +173,32 @@ pub fn delete<'a>(walk: &mut Walk<'a>, x: &'a Expr) -> Result<(), AllocError>
         | Expr::Yield(_)
         | Expr::MetaProp(_)
         | Expr::Await(_)
+        | Expr::Tpl(_)
+        | Expr::TaggedTpl(_)
+        | Expr::PrivateName(_)
         | Expr::Invalid(_) => Ok(()),
+    }
+}
+
+/// A member that `delete` is said of.
+fn delete_member(walk: &mut Walk<'_>, span: Span, prop: &MemberProp) -> Result<(), AllocError>
+    ensures { OnOk result
+        (walk.new ≡ deleted_prop span (view_member_prop prop.now) walk.old) }
+{
+    match prop {
+        MemberProp::PrivateName(_) => walk.event(Event::DeletePrivate(span)),
+        MemberProp::Ident(_) | MemberProp::Computed(_) => Ok(()),
+    }
+}
+
+/// The same of a link of an optional chain.
+fn delete_link(walk: &mut Walk<'_>, span: Span, base: &OptChainBase) -> Result<(), AllocError>
+    ensures { OnOk result
+        (walk.new ≡ deleted_link span (view_opt_chain_base base.now) walk.old) }
+{
+    match base {
+        OptChainBase::Member(x) => delete_member(walk, span, &x.prop),
+        OptChainBase::Call(_) => Ok(()),
     }
 }
 
@@ -200,7 +273,7 @@ fn callee<'a>(walk: &mut Walk<'a>, x: &'a Callee) -> Result<(), AllocError>
     match x {
         Callee::Super(x) => walk.event(Event::SuperCall(x.span)),
         Callee::Import(_) => Ok(()),
-        Callee::Expr(x) => walk.push(Work::Expr(Role::Used, x)),
+        Callee::Expr(x) => called(walk, x),
     }
 }
 

@@ -8,6 +8,7 @@ mod classes;
 mod directives;
 mod exprs;
 mod functions;
+mod literals;
 mod members;
 mod objects;
 mod patterns;

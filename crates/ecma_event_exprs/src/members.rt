@@ -52,7 +52,8 @@ fn constructor<'a>(walk: &mut Walk<'a>, x: &'a Constructor) -> Result<(), AllocE
             may_repeat: false,
         }),
         x.span,
-    ))
+    ))?;
+    key(walk, &x.key)
 }
 
 /// Whether a key is `prototype`, a word or a string.

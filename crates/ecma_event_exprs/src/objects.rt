@@ -10,19 +10,22 @@ ghost use Rattle.swc_ecma_parser_model.specs.Tree as tree;
 ghost use Rattle.ecma_events.specs.declared.event.CodeKind.TheVariants as code_kind;
 
 use crate::functions::{body, enter_accessor, method};
+use crate::literals::{number, string};
 use crate::walk::Walk;
 use crate::work::Work;
 use ecma_events::{Binding, Event, Role};
 use std::alloc::AllocError;
 use swc_ecma_parser_ast::{GetterProp, MethodProp, Prop, PropName, PropOrSpread, SetterProp};
 
-/// A key: what its brackets hold.
+/// A key: what its brackets hold, or a literal.
 pub fn key<'a>(walk: &mut Walk<'a>, x: &'a PropName) -> Result<(), AllocError>
     ensures { OnOk result (walk.new ≡ key_events (view_prop_name x.now) walk.old) }
 {
     match x {
         PropName::Computed(x) => walk.push(Work::Expr(Role::Used, &x.expr)),
-        PropName::Ident(_) | PropName::Str(_) | PropName::Num(_) | PropName::BigInt(_) => Ok(()),
+        PropName::Str(x) => string(walk, x),
+        PropName::Num(x) => number(walk, x),
+        PropName::Ident(_) | PropName::BigInt(_) => Ok(()),
     }
 }
 

@@ -217,6 +217,15 @@ pub(crate) fn pat_elements<'a>(
     }
 }
 
+/// The parameter itself.
+fn as_param(x: &ParamOrTsParamProp) -> &Param
+    ensures { view_param result.now ≡ view_param_or_ts_param_prop x.now }
+{
+    match x {
+        ParamOrTsParamProp::Param(x) => x,
+    }
+}
+
 /// A parameter of a constructor, and the rest.
 fn constructor_param<'a>(
     walk: &mut Walk<'a>,
@@ -227,9 +236,7 @@ fn constructor_param<'a>(
         (walk.new
         ≡ events (declared binding.Parameter) (view_param_or_ts_param_prop x.now) (all_events (declared binding.Parameter) (trees (map view_param_or_ts_param_prop rest.now)) walk.old)) }
 {
-    match x {
-        ParamOrTsParamProp::Param(x) => walk.two(Work::Param(x), Work::ConstructorParams(rest)),
-    }
+    walk.two(Work::Param(as_param(x)), Work::ConstructorParams(rest))
 }
 
 /// Parameters of a constructor.

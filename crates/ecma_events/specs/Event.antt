@@ -21,6 +21,10 @@ pub data Event : Type 0 where
   super_member : Span → Event
   await : Span → Event
   yield : Span → Event
+  new_target : Span → Event
+  old_number : Span → Event
+  old_string : Span → Event
+  wrong_flags : Span → Event
   private_member : MethodKind → (is_static : Bool) → Span → Text → Event
   private_use : Span → Text → Event
   prototype : Span → Event
@@ -42,6 +46,10 @@ event_of (step.SuperCall s) = super_call s
 event_of (step.SuperMember s) = super_member s
 event_of (step.Await s) = await s
 event_of (step.Yield s) = yield s
+event_of (step.NewTarget s) = new_target s
+event_of (step.OldNumber s) = old_number s
+event_of (step.OldString s) = old_string s
+event_of (step.WrongFlags s) = wrong_flags s
 event_of (step.PrivateMember kind is_static x) = private_member kind is_static x.now.span x.now.id.sym
 event_of (step.PrivateUse x) = private_use x.now.span x.now.id.sym
 event_of (step.Prototype s) = prototype s

@@ -33,6 +33,14 @@ pub enum EarlyErrorKind {
     MisplacedAwait,
     /// `yield` in the same places.
     MisplacedYield,
+    /// `new.target` outside of functions, fields and static blocks.
+    MisplacedNewTarget,
+    /// A number in an old form in strict code, as `010` and `08`.
+    OldNumberInStrict,
+    /// An escape in an old form in strict code, as `\01` and `\8`.
+    OldEscapeInStrict,
+    /// Flags of a regular expression that are none, that stand twice, or that exclude each other.
+    WrongFlags,
     /// A static member that is named `prototype`.
     StaticPrototype,
     /// A second `__proto__: value` of an object.

@@ -103,6 +103,14 @@ pub enum Event<'a> {
     SuperMember(Span),
     Await(Span),
     Yield(Span),
+    /// `new.target`.
+    NewTarget(Span),
+    /// A number in an old form, as `010` and `08`.
+    OldNumber(Span),
+    /// A string with an escape in an old form, as `'\01'` and `'\8'`.
+    OldString(Span),
+    /// A regular expression with flags that are none, that stand twice, or that exclude each other.
+    WrongFlags(Span),
     /// A member of a class with a private name, and whether it is static. A field counts as a method.
     PrivateMember(MethodKind, bool, &'a PrivateName),
     /// A private name that refers to a member.

@@ -33,7 +33,7 @@ fn push_number(out: &mut Vec<u8>, name: &str, value: u64) -> Result<(), AllocErr
 
 /// Writes a field that is a text.
 #[tactic(auto, unfolding(crate::specs::Json::string))]
-fn push_string(out: &mut Vec<u8>, name: &str, value: &str) -> Result<(), AllocError>
+pub(crate) fn push_string(out: &mut Vec<u8>, name: &str, value: &str) -> Result<(), AllocError>
     ensures { OnOk result (out.new.items ≡ out.old.items ++ json.string name.now value.now) }
 {
     push_key(out, name)?;
@@ -86,7 +86,11 @@ fn push_offsets(
 
 /// Writes a place: `byteStart` and `byteEnd` in bytes, `start` and `end` in code units of UTF-16, lines and columns from 1.
 #[tactic(auto, unfolding(crate::specs::Json::span_json))]
-fn push_span(out: &mut Vec<u8>, places: &Places<'_>, span: Span) -> Result<(), AllocError>
+pub(crate) fn push_span(
+    out: &mut Vec<u8>,
+    places: &Places<'_>,
+    span: Span,
+) -> Result<(), AllocError>
     requires { length places.now.text < 2 ^ 32 }
     ensures { OnOk result (out.new.items ≡ out.old.items ++ span_json places.now span) }
 {
@@ -99,7 +103,7 @@ fn push_span(out: &mut Vec<u8>, places: &Places<'_>, span: Span) -> Result<(), A
 
 /// Writes how an object begins with a text.
 #[tactic(auto, unfolding(crate::specs::Json::first))]
-fn push_first(out: &mut Vec<u8>, name: &str, text: &str) -> Result<(), AllocError>
+pub(crate) fn push_first(out: &mut Vec<u8>, name: &str, text: &str) -> Result<(), AllocError>
     ensures { OnOk result (out.new.items ≡ out.old.items ++ first name.now text.now) }
 {
     out.push(b'{')?;
@@ -109,7 +113,11 @@ fn push_first(out: &mut Vec<u8>, name: &str, text: &str) -> Result<(), AllocErro
 }
 
 /// Writes another place that a fault speaks of.
-fn push_note(out: &mut Vec<u8>, places: &Places<'_>, note: Option<Note>) -> Result<(), AllocError>
+pub(crate) fn push_note(
+    out: &mut Vec<u8>,
+    places: &Places<'_>,
+    note: Option<Note>,
+) -> Result<(), AllocError>
     requires { length places.now.text < 2 ^ 32 }
     ensures { OnOk result (out.new.items ≡ out.old.items ++ note_json places.now (noted note)) }
 {

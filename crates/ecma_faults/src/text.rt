@@ -47,7 +47,7 @@ fn push_place(
 
 /// Writes a place, a word, a sentence, and the line of the text.
 #[tactic(auto, unfolding(crate::specs::Text::told_text))]
-fn push_told(
+pub(crate) fn push_told(
     out: &mut Vec<u8>,
     file: &str,
     places: &Places<'_>,
@@ -69,7 +69,7 @@ fn push_told(
 }
 
 /// Writes another place that a fault speaks of.
-fn push_note(
+pub(crate) fn push_note(
     out: &mut Vec<u8>,
     file: &str,
     places: &Places<'_>,

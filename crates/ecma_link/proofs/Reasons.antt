@@ -1,13 +1,13 @@
 -- How a call ends, by what it came to.
-use Rattle.std.proofs.Common.{◌≡◌, ◌∙◌, ◌≤◌, ◌<◌, ℕ, List, ◌++◌, Err, None, Ok, Some, ap, arith, drop, inl, inr, length, refl, subst, sym}
+use Rattle.std.proofs.Common.{◌≡◌, ◌∙◌, ◌+◌, ◌≤◌, ◌<◌, ℕ, List, ◌++◌, Err, None, Ok, Some, ap, arith, drop, inl, inr, length, refl, subst, sym}
 use Rattle.std.specs.Prelude.{IsUtf8}
 use Rattle.ecma_answers.specs.declared.options.Options.{Options}
-use Rattle.ecma_answers.specs.declared.parsing.Outcome.{Outcome}
-use Rattle.ecma_answers.specs.declared.parsing.Reading.{Reading}
+use Rattle.ecma_answers.specs.declared.outcome.Outcome.{Outcome}
+use Rattle.ecma_answers.specs.declared.findings.Findings.{Findings}
 use Rattle.ecma_answers.specs.declared.told.Told.{Told}
 use Rattle.ecma_answers.specs.Capped.{left_out}
 use Rattle.ecma_answers.specs.Outcomes.{outcome_of}
-use Rattle.ecma_answers.specs.Spelled.{Decides}
+use Rattle.ecma_answers.specs.Found.{Finds}
 use Rattle.ecma_answers.specs.Told.{AllTold}
 use Rattle.ecma_link.specs.declared.bytes.Wanted.{Wanted}
 use Rattle.ecma_link.specs.declared.failure.Failure.{Failure}
@@ -34,11 +34,11 @@ bad_text given text failure.UnknownOption h = absurd h
 
 -- ---- a room of bytes
 
-pub called : (w : Wanted) (given : EcmaOptions) (text chars : List ℕ) (o : Options) (r : Reading) (outcome : Outcome) (bytes : List ℕ)
-    → asked given ≡ Some o → chars ≡ text → IsUtf8 text → Decides o chars r → outcome ≡ outcome_of r.tree r.faults.items
+pub called : (w : Wanted) (given : EcmaOptions) (text chars : List ℕ) (o : Options) (r : Findings) (outcome : Outcome) (bytes : List ℕ)
+    → asked given ≡ Some o → chars ≡ text → IsUtf8 text → Finds o chars r → outcome ≡ outcome_of r.reading.tree r.reading.faults.items r.early.items
     → IsWritten w o chars r bytes → IsCall w given text outcome bytes
-called w given text chars o r outcome bytes e f utf8 decides out written =
-    (utf8, (o, e, (r, subst (λ it. Decides o it r) f decides, out, subst (λ it. IsWritten w o it r bytes) f written)))
+called w given text chars o r outcome bytes e f utf8 finds out written =
+    (utf8, (o, e, (r, subst (λ it. Finds o it r) f finds, out, subst (λ it. IsWritten w o it r bytes) f written)))
 
 pub unanswered : (w : Wanted) (given : EcmaOptions) (text : List ℕ) (f : Failure) (old : List ℕ) → IsReason given text f → Ends w given text (Err f) old old 0
 unanswered w given text failure.TooShort old h = absurd h
@@ -64,20 +64,20 @@ answered w given text outcome bytes items old new needed h same e fits front =
 
 -- ---- a room of faults and one of bytes
 
-pub called_faults : (given : EcmaOptions) (text chars : List ℕ) (o : Options) (r : Reading) (outcome : Outcome) (told slice : List Told)
-    → (its : List EcmaFault) (words : List ℕ) (more : ℕ) → asked given ≡ Some o → chars ≡ text → IsUtf8 text → Decides o chars r
-    → outcome ≡ outcome_of r.tree r.faults.items → AllTold o.max_faults chars r.tree r.faults.items told → slice ≡ told → faults.AreFaults words slice its
-    → more ≡ left_out o.max_faults r.faults.items → faults.IsCall given text outcome its words more
-called_faults given text chars o r outcome told slice its words more e f utf8 decides out all same are left = (
+pub called_faults : (given : EcmaOptions) (text chars : List ℕ) (o : Options) (r : Findings) (outcome : Outcome) (told slice : List Told)
+    → (its : List EcmaFault) (words : List ℕ) (more : ℕ) → asked given ≡ Some o → chars ≡ text → IsUtf8 text → Finds o chars r
+    → outcome ≡ outcome_of r.reading.tree r.reading.faults.items r.early.items → AllTold o.max_faults chars r told → slice ≡ told → faults.AreFaults words slice its
+    → more ≡ left_out o.max_faults (length r.reading.faults.items + length r.early.items) → faults.IsCall given text outcome its words more
+called_faults given text chars o r outcome told slice its words more e f utf8 finds out all same are left = (
   utf8,
   (
     o,
     e,
     (
       r,
-      subst (λ it. Decides o it r) f decides,
+      subst (λ it. Finds o it r) f finds,
       out,
-      (told, subst (λ it. AllTold o.max_faults it r.tree r.faults.items told) f all, subst (λ it. faults.AreFaults words it its) same are),
+      (told, subst (λ it. AllTold o.max_faults it r told) f all, subst (λ it. faults.AreFaults words it its) same are),
       left,
     ),
   ),
@@ -92,21 +92,21 @@ unanswered_faults given text failure.TooLong room words h = (refl, refl, refl, h
 unanswered_faults given text failure.UnknownOption room words h = (refl, refl, refl, h)
 
 sized : (given : EcmaOptions) (text : List ℕ) (outcome : Outcome) (its items : List EcmaFault) (words bytes : List ℕ) (more : ℕ) (needed : EcmaNeeded)
-    → faults.IsCall given text outcome its words more → items ≡ its → bytes ≡ words → needed ≡ record { faults = length items; words = length bytes; more = more }
+    → faults.IsCall given text outcome its words more → items ≡ its → bytes ≡ words → needed ≡ record { struct_size = 32; faults = length items; words = length bytes; more = more }
     → faults.HasSize given text needed
 sized given text outcome its items words bytes more needed h same_faults same_words e =
-    subst (λ n. faults.HasSize given text n) (sym e) (outcome, its, words, ap length (sym same_faults), ap length (sym same_words), h)
+    subst (λ n. faults.HasSize given text n) (sym e) (outcome, its, words, refl, ap length (sym same_faults), ap length (sym same_words), h)
 
 pub too_short_for_faults : (given : EcmaOptions) (text : List ℕ) (outcome : Outcome) (its items room : List EcmaFault) (words bytes kept : List ℕ)
     → (more : ℕ) (needed : EcmaNeeded) → length room < length items → faults.IsCall given text outcome its words more → items ≡ its → bytes ≡ words
-    → needed ≡ record { faults = length items; words = length bytes; more = more } → faults.Ends given text (Err failure.TooShort) room room kept kept needed
+    → needed ≡ record { struct_size = 32; faults = length items; words = length bytes; more = more } → faults.Ends given text (Err failure.TooShort) room room kept kept needed
 too_short_for_faults given text outcome its items room words bytes kept more needed short h same_faults same_words e =
     let is_too_short = subst (λ n. length room < n.faults) (sym e) short in
     (refl, refl, inl is_too_short, sized given text outcome its items words bytes more needed h same_faults same_words e)
 
 pub too_short_for_words : (given : EcmaOptions) (text : List ℕ) (f : Failure) (outcome : Outcome) (its items room : List EcmaFault)
     → (words bytes old new : List ℕ) (more : ℕ) (needed : EcmaNeeded) → f ≡ failure.TooShort → new ≡ old → length old < length bytes
-    → faults.IsCall given text outcome its words more → items ≡ its → bytes ≡ words → needed ≡ record { faults = length items; words = length bytes; more = more }
+    → faults.IsCall given text outcome its words more → items ≡ its → bytes ≡ words → needed ≡ record { struct_size = 32; faults = length items; words = length bytes; more = more }
     → faults.Ends given text (Err f) room room old new needed
 too_short_for_words given text f outcome its items room words bytes old new more needed e kept short h same_faults same_words n =
     let is_too_short = subst (λ n. length old < n.words) (sym n) short in
@@ -115,14 +115,14 @@ too_short_for_words given text f outcome its items room words bytes old new more
 
 pub answered_faults : (given : EcmaOptions) (text : List ℕ) (outcome : Outcome) (its items : List EcmaFault) (words bytes : List ℕ)
     → (old_faults new_faults : List EcmaFault) (old_words new_words : List ℕ) (more : ℕ) (needed : EcmaNeeded)
-    → faults.IsCall given text outcome its words more → items ≡ its → bytes ≡ words → needed ≡ record { faults = length items; words = length bytes; more = more }
+    → faults.IsCall given text outcome its words more → items ≡ its → bytes ≡ words → needed ≡ record { struct_size = 32; faults = length items; words = length bytes; more = more }
     → length items ≤ length old_faults → length bytes ≤ length old_words → new_faults ≡ items ++ drop (length items) old_faults
     → new_words ≡ bytes ++ drop (length bytes) old_words → faults.Ends given text (Ok outcome) old_faults new_faults old_words new_words needed
 answered_faults given text outcome its items words bytes old_faults new_faults old_words new_words more needed h same_faults same_words e fits_faults fits_words f g =
     let first = subst (λ it. faults.IsCall given text outcome it words more) (sym same_faults) h in
     let whole = subst (λ it. faults.IsCall given text outcome items it more) (sym same_words) first in
     subst (λ n. faults.Ends given text (Ok outcome) old_faults new_faults old_words new_words n) (sym e)
-    (items, bytes, whole, refl, fits_faults, f, refl, fits_words, g)
+    (items, bytes, whole, refl, refl, fits_faults, f, refl, fits_words, g)
 
 -- a room that was long enough is not too short
 pub no_room : (given : EcmaOptions) (text : List ℕ) (f : Failure) (old_faults new_faults : List EcmaFault) (old_words new_words : List ℕ)

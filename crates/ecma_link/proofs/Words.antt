@@ -1,5 +1,5 @@
 -- The words of faults, one behind another.
-use Rattle.std.proofs.Common.{◌≡◌, ◌∙◌, ℕ, List, [], ◌∷◌, ◌++◌, ◌+◌, ◌≤◌, ◌<◌, ap, arith, drop, get_or, length, length-append, length-drop, refl, subst, sym, take}
+use Rattle.std.proofs.Common.{◌≡◌, ◌∙◌, ℕ, List, [], ◌∷◌, ◌++◌, ◌+◌, ◌≤◌, ◌<◌, ap, arith, append_assoc, drop, get_or, length, length-append, length-drop, refl, subst, sym, take}
 use Rattle.std.proofs.lemmas.List.{drop-append-le, drop_at, take-append-le, take_all, take_at, take_more}
 use Rattle.std.proofs.lemmas.Slice.Zip.{all_zipped_more}
 use Rattle.ecma_answers.specs.declared.told.Told.{Told}
@@ -8,6 +8,10 @@ use Rattle.ecma_link.specs.Faults.{AreFaults, IsFault, piece}
 
 pub first_piece : (a b c : List ℕ) → piece (a ++ (b ++ c)) (length a) (length b) ≡ b
 first_piece a b c = ap (take (length b)) (drop_at a (b ++ c) _ refl) ∙ take_at b c _ refl
+
+pub middle_piece : (a b c d : List ℕ) → piece (a ++ (b ++ (c ++ d))) (length (a ++ b)) (length c) ≡ c
+middle_piece a b c d =
+    ap (λ z. piece z (length (a ++ b)) (length c)) (sym (append_assoc a b (c ++ d))) ∙ first_piece (a ++ b) c d
 
 pub last_piece : (a b : List ℕ) → piece (a ++ b) (length a) (length b) ≡ b
 last_piece a b = ap (take (length b)) (drop_at a b _ refl) ∙ take_all (length b) b (omega arith)
@@ -23,13 +27,18 @@ within_more a c n b = let e = length-append a c in omega arith
 
 fault_more : (a c : List ℕ) (t : Told) (f : EcmaFault) → IsFault a t f → IsFault (a ++ c) t f
 fault_more a c t f h = record {
+  size = h.size;
+  severity = h.severity;
   start = h.start;
   end = h.end;
   kind_within = within_more a c (f.kind_at + f.kind_length) h.kind_within;
   kind = piece_more a c f.kind_at f.kind_length h.kind_within ∙ h.kind;
   message_within = within_more a c (f.message_at + f.message_length) h.message_within;
   message = piece_more a c f.message_at f.message_length h.message_within ∙ h.message;
-  refusal = h.refusal;
+  previous_start = h.previous_start;
+  previous_end = h.previous_end;
+  note_within = within_more a c (f.note_at + f.note_length) h.note_within;
+  note = piece_more a c f.note_at f.note_length h.note_within ∙ h.note;
 }
 
 all_more : (a c : List ℕ) (ts : List Told) (fs : List EcmaFault) → AreFaults a ts fs → AreFaults (a ++ c) ts fs

@@ -2,12 +2,13 @@
 use Rattle.std.specs.Prelude.{◌≡◌, ◌<◌, ◌≤◌, ◌^◌, ℕ, List, [], ◌++◌, None, Some, Result, Ok, Err, IsUtf8, drop, length}
 use Rattle.swc_ecma_parser_error.specs.declared.error.Error.{Error}
 use Rattle.ecma_answers.specs.declared.options.Options.{Options}
-use Rattle.ecma_answers.specs.declared.parsing.Outcome.{Outcome}
-use Rattle.ecma_answers.specs.declared.parsing.Reading.{Reading}
+use Rattle.ecma_answers.specs.declared.outcome.Outcome.{Outcome}
+use Rattle.ecma_answers.specs.declared.findings.Findings.{Findings}
 use Rattle.ecma_answers.specs.declared.parsing.Tree.{Tree}
 use Rattle.ecma_answers.specs.Listed.{IsAnswer}
 use Rattle.ecma_answers.specs.Outcomes.{outcome_of}
-use Rattle.ecma_answers.specs.Spelled.{Decides, view_tree}
+use Rattle.ecma_answers.specs.Found.{Finds}
+use Rattle.ecma_answers.specs.Spelled.{view_tree}
 use Rattle.ecma_answers.specs.Written.{IsEstree}
 use Rattle.ecma_link.specs.declared.bytes.Wanted.{Wanted}
 use Rattle.ecma_link.specs.declared.bytes.Wanted.TheVariants as wanted
@@ -35,16 +36,16 @@ abbrev pub IsTreeAlone : Options → List ℕ → Result Tree Error → List ℕ
 IsTreeAlone o text (Ok x) out = IsEstree o text (view_tree x) out
 IsTreeAlone o text (Err e) out = out ≡ []
 
-abbrev pub IsWritten : Wanted → Options → List ℕ → Reading → List ℕ → Type 0
-IsWritten wanted.Tree o text r out = IsTreeAlone o text r.tree out
-IsWritten wanted.Answer o text r out = IsAnswer o text r out
+abbrev pub IsWritten : Wanted → Options → List ℕ → Findings → List ℕ → Type 0
+IsWritten wanted.Tree o text f out = IsTreeAlone o text f.reading.tree out
+IsWritten wanted.Answer o text f out = IsAnswer o text f out
 
--- A text that was read as it is asked for: how it comes out, and what is written of it. A clean outcome says that the text spells the tree,
--- and a text that spells one has that outcome.
+-- A text that was read as it is asked for: how it comes out, and what is written of it. A clean outcome says that the text spells the tree, without
+-- an early error if they are asked for, and a text that does so has that outcome.
 abbrev pub IsCall : Wanted → EcmaOptions → List ℕ → Outcome → List ℕ → Type 0
 IsCall w given text outcome out =
-    IsUtf8 text × ((o : Options) × (asked given ≡ Some o) × ((r : Reading) × Decides o text r
-    × (outcome ≡ outcome_of r.tree r.faults.items) × IsWritten w o text r out))
+    IsUtf8 text × ((o : Options) × (asked given ≡ Some o) × ((f : Findings) × Finds o text f
+    × (outcome ≡ outcome_of f.reading.tree f.reading.faults.items f.early.items) × IsWritten w o text f out))
 
 -- some answer has so many bytes
 abbrev pub HasSize : Wanted → EcmaOptions → List ℕ → ℕ → Type 0

@@ -1,7 +1,7 @@
 -- Two calls for one text with one setting.
-use Rattle.std.specs.Prelude.{◌≡◌, ℕ, false, List, Some}
+use Rattle.std.specs.Prelude.{◌≡◌, ℕ, List, Some}
 use Rattle.ecma_answers.specs.declared.options.Options.{Options}
-use Rattle.ecma_answers.specs.declared.parsing.Outcome.{Outcome}
+use Rattle.ecma_answers.specs.declared.outcome.Outcome.{Outcome}
 use Rattle.ecma_answers.specs.Same as answers
 use Rattle.ecma_link.specs.declared.bytes.Wanted.{Wanted}
 use Rattle.ecma_link.specs.declared.bytes.Wanted.TheVariants as wanted
@@ -13,18 +13,14 @@ use Rattle.ecma_link.specs.Calls.{IsCall}
 abbrev pub IsSettled : EcmaOptions → Type 0
 IsSettled given = (o : Options) → asked given ≡ Some o → answers.IsSettled o
 
--- no comments are asked for
-abbrev pub IsWithoutComments : EcmaOptions → Type 0
-IsWithoutComments given = (o : Options) → asked given ≡ Some o → o.comments ≡ false
-
 -- all answers have one status: so a call says that the text is too deep where it is, whatever is asked for of the tree
 abbrev pub OneStatus : Type 0
 OneStatus =
     (w v : Wanted) (given : EcmaOptions) (text : List ℕ) (a b : Outcome) (out other : List ℕ) → IsSettled given
     → IsCall w given text a out → IsCall v given text b other → a ≡ b
 
--- A tree without comments has one text. So a call for it in a room of as many bytes as were needed before is answered, unless memory runs out.
+-- A tree has one text. So a call for it in a room of as many bytes as were needed before is answered, unless memory runs out.
 abbrev pub OneTree : Type 0
 OneTree =
-    (given : EcmaOptions) (text : List ℕ) (a b : Outcome) (out other : List ℕ) → IsSettled given → IsWithoutComments given
+    (given : EcmaOptions) (text : List ℕ) (a b : Outcome) (out other : List ℕ) → IsSettled given
     → IsCall wanted.Tree given text a out → IsCall wanted.Tree given text b other → out ≡ other

@@ -1,7 +1,7 @@
 -- How a call ends, as a number: from 0 on where an answer is written.
 use Rattle.std.specs.Prelude.{ℤ, pos, negsuc, Result, Ok, Err}
-use Rattle.ecma_answers.specs.declared.parsing.Outcome.{Outcome}
-use Rattle.ecma_answers.specs.declared.parsing.Outcome.TheVariants as outcome
+use Rattle.ecma_answers.specs.declared.outcome.Outcome.{Outcome}
+use Rattle.ecma_answers.specs.declared.outcome.Outcome.TheVariants as outcome
 use Rattle.ecma_link.specs.declared.failure.Failure.{Failure}
 use Rattle.ecma_link.specs.declared.failure.Failure.TheVariants as failure
 

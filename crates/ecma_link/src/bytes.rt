@@ -7,7 +7,7 @@ use crate::failure::Failure;
 use crate::given::text_of;
 use crate::options::{EcmaOptions, options_of};
 use crate::room::put;
-use ecma_answers::{Options, Outcome, Reading, answer, read, write};
+use ecma_answers::{Findings, Options, Outcome, answer, find, write};
 use std::alloc::{AllocError, Global};
 
 /// What is written of a text.
@@ -26,19 +26,19 @@ struct Answered {
     bytes: Vec<u8>,
 }
 
-/// What is written of what was read.
+/// What is written of what was found.
 fn written(
     alloc: Global,
     wanted: Wanted,
     options: Options,
     text: &str,
-    reading: &Reading,
+    found: &Findings,
 ) -> Result<Vec<u8>, AllocError>
     requires { length text.now < 2 ^ 32 }
-    ensures { IfOk result (λ out. IsWritten wanted options text.now reading.now out.items) }
+    ensures { IfOk result (λ out. IsWritten wanted options text.now found.now out.items) }
 {
-    match (wanted, &reading.tree) {
-        (Wanted::Answer, _) => answer(alloc, options, text, reading),
+    match (wanted, &found.reading.tree) {
+        (Wanted::Answer, _) => answer(alloc, options, text, found),
         (Wanted::Tree, Ok(tree)) => write(alloc, options, text, tree),
         (Wanted::Tree, Err(_)) => Ok(Vec::new(alloc)),
     }
@@ -58,10 +58,10 @@ fn answer_of(
 {
     let options = options_of(options)?;
     let text = text_of(text)?;
-    let reading = read(alloc, options, text)?;
-    let outcome = reading.outcome();
-    let bytes = written(alloc, wanted, options, text, &reading);
-    reading.discard();
+    let found = find(alloc, options, text)?;
+    let outcome = found.outcome();
+    let bytes = written(alloc, wanted, options, text, &found);
+    found.discard();
     Ok(Answered {
         outcome,
         bytes: bytes?,

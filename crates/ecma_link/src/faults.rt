@@ -1,4 +1,4 @@
-//! Faults one by one.
+//! What is told of a text, one by one.
 
 ghost use Rattle.std.specs.Prelude.{◌≡◌, ◌++◌, IfErr, IfOk, OnOk};
 ghost use Rattle.ecma_link.specs.Calls.{IsReason};
@@ -9,7 +9,7 @@ use crate::failure::Failure;
 use crate::given::text_of;
 use crate::options::{EcmaOptions, options_of};
 use crate::room::put;
-use ecma_answers::{Outcome, Point, Told, left_out, read, told_faults};
+use ecma_answers::{Outcome, Point, Previous, Severity, Told, find, left_out, told_faults};
 use std::alloc::{AllocError, Global};
 
 /// A place.
@@ -26,10 +26,14 @@ pub struct EcmaPoint {
     pub column: u64,
 }
 
-/// A fault. Its words stand among those of all faults.
+/// A fault or an early error. Its words stand among those of all.
 #[repr(C)]
 #[derive(Clone, Copy)]
 pub struct EcmaFault {
+    /// How many bytes this struct has: 192.
+    pub struct_size: u64,
+    /// 0 for a fault that was recorded, 1 for an early error, 2 for why there is no tree.
+    pub severity: u64,
     pub start: EcmaPoint,
     pub end: EcmaPoint,
     /// Where the name of its kind begins, and how many bytes it has.
@@ -38,21 +42,33 @@ pub struct EcmaFault {
     /// Where its sentence begins, and how many bytes it has.
     pub message_at: u64,
     pub message_length: u64,
-    /// 1 where it is why there is no tree, and 0 where there is one beside it.
-    pub is_refusal: u64,
+    /// Another place that it speaks of, as an earlier declaration; zeros, where there is none.
+    pub previous_start: EcmaPoint,
+    pub previous_end: EcmaPoint,
+    /// Where the words for that place begin, and how many bytes they have: 0, where there is none.
+    pub note_at: u64,
+    pub note_length: u64,
 }
+
+/// How many bytes `EcmaFault` has.
+const FAULT_SIZE: u64 = 192;
 
 /// How much room faults take.
 #[repr(C)]
 #[derive(Clone, Copy)]
 pub struct EcmaNeeded {
-    /// How many faults there are.
+    /// How many bytes this struct has: 32.
+    pub struct_size: usize,
+    /// How many faults and early errors there are.
     pub faults: usize,
     /// How many bytes their words have.
     pub words: usize,
-    /// How many more faults were recorded, and are not among these.
+    /// How many more there are, and are not among these.
     pub more: usize,
 }
+
+/// How many bytes `EcmaNeeded` has.
+const NEEDED_SIZE: usize = 32;
 
 /// A place as C takes it.
 fn point_of(point: Point) -> EcmaPoint
@@ -66,8 +82,57 @@ fn point_of(point: Point) -> EcmaPoint
     }
 }
 
+/// No place.
+const NOWHERE: EcmaPoint = EcmaPoint {
+    byte: 0,
+    unit: 0,
+    line: 0,
+    column: 0,
+};
+
+/// The number of a severity.
+fn severity_number(severity: Severity) -> u64
+    ensures { result ≡ list.severity_number severity }
+{
+    match severity {
+        Severity::Fault => 0,
+        Severity::Error => 1,
+        Severity::Refusal => 2,
+    }
+}
+
+/// The words for another place; none, where there is none.
+fn note_of(previous: Option<Previous>) -> &'static str
+    ensures { result.now ≡ list.note_of previous }
+{
+    match previous {
+        Some(it) => it.note,
+        None => "",
+    }
+}
+
+/// Where another place begins; nowhere, where there is none.
+fn start_of(previous: Option<Previous>) -> EcmaPoint
+    ensures { result ≡ list.start_of previous }
+{
+    match previous {
+        Some(it) => point_of(it.start),
+        None => NOWHERE,
+    }
+}
+
+/// The same of its end.
+fn end_of(previous: Option<Previous>) -> EcmaPoint
+    ensures { result ≡ list.end_of previous }
+{
+    match previous {
+        Some(it) => point_of(it.end),
+        None => NOWHERE,
+    }
+}
+
 /// A fault as C takes it, and its words behind those of others.
-#[tactic(auto, using(crate::proofs::Words::first_piece, crate::proofs::Words::last_piece))]
+#[tactic(auto, using(crate::proofs::Words::first_piece, crate::proofs::Words::middle_piece, crate::proofs::Words::last_piece))]
 fn fault_of(words: &mut Vec<u8>, told: &Told) -> Result<EcmaFault, AllocError>
     ensures fault { IfOk result (IsFault words.new.items told.now) }
     ensures words { OnOk result (words.new.items ≡ words.old.items ++ words_of told.now) }
@@ -76,14 +141,22 @@ fn fault_of(words: &mut Vec<u8>, told: &Told) -> Result<EcmaFault, AllocError>
     words.extend_from_slice(told.kind.as_bytes())?;
     let message_at = words.len();
     words.extend_from_slice(told.message.as_bytes())?;
+    let note = note_of(told.previous);
+    let note_at = words.len();
+    words.extend_from_slice(note.as_bytes())?;
     Ok(EcmaFault {
+        struct_size: FAULT_SIZE,
+        severity: severity_number(told.severity),
         start: point_of(told.start),
         end: point_of(told.end),
         kind_at: kind_at as u64,
         kind_length: told.kind.len() as u64,
         message_at: message_at as u64,
         message_length: told.message.len() as u64,
-        is_refusal: told.is_refusal as u64,
+        previous_start: start_of(told.previous),
+        previous_end: end_of(told.previous),
+        note_at: note_at as u64,
+        note_length: note.len() as u64,
     })
 }
 
@@ -93,7 +166,7 @@ struct Found {
     outcome: Outcome,
     faults: Vec<EcmaFault>,
     words: Vec<u8>,
-    /// How many more faults were recorded.
+    /// How many more there are.
     more: usize,
 }
 
@@ -127,12 +200,12 @@ fn read_faults(alloc: Global, text: &[u8], options: &EcmaOptions) -> Result<Foun
 {
     let options = options_of(options)?;
     let text = text_of(text)?;
-    let reading = read(alloc, options, text)?;
-    let outcome = reading.outcome();
+    let found = find(alloc, options, text)?;
+    let outcome = found.outcome();
     let most = options.max_faults;
-    let told = told_faults(alloc, most, text, &reading);
-    let more = left_out(reading.faults.as_slice(), most);
-    reading.discard();
+    let told = told_faults(alloc, most, text, &found);
+    let more = left_out(found.reading.faults.len() + found.early.len(), most);
+    found.discard();
     Ok(listed(alloc, outcome, told?.as_slice(), more)?)
 }
 
@@ -150,6 +223,7 @@ pub(crate) fn put_faults(
         needed.new }
 {
     *needed = EcmaNeeded {
+        struct_size: NEEDED_SIZE,
         faults: 0,
         words: 0,
         more: 0,
@@ -158,6 +232,7 @@ pub(crate) fn put_faults(
     let items = found.faults.as_slice();
     let bytes = found.words.as_slice();
     *needed = EcmaNeeded {
+        struct_size: NEEDED_SIZE,
         faults: items.len(),
         words: bytes.len(),
         more: found.more,

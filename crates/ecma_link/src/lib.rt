@@ -4,7 +4,7 @@
 #![tactic(auto)]
 
 ghost use Rattle.std.specs.Prelude.{◌≡◌, Result};
-ghost use Rattle.ecma_answers.specs.declared.parsing.Outcome.{Outcome};
+ghost use Rattle.ecma_answers.specs.declared.outcome.Outcome.{Outcome};
 ghost use Rattle.ecma_link.specs.declared.failure.Failure.{Failure};
 ghost use Rattle.ecma_link.specs.Calls.{Ends};
 ghost use Rattle.ecma_link.specs.Faults.{Ends as EndsWithFaults};
@@ -56,8 +56,8 @@ pub extern "C" fn ecma_parse_tree(
     status_of(put_answer(alloc, Wanted::Tree, text, options, out, needed))
 }
 
-/// The faults of a text one by one, those that were recorded and then why there is no tree. `needed` becomes their count, and the length
-/// of their words.
+/// The faults of a text one by one: those that were recorded, the early errors of its tree, and why there is no tree. `needed` becomes their
+/// count, and the length of their words.
 #[unsafe(no_mangle)]
 pub extern "C" fn ecma_parse_faults(
     alloc: Global,
@@ -74,8 +74,16 @@ pub extern "C" fn ecma_parse_faults(
     status_of(put_faults(alloc, text, options, faults, words, needed))
 }
 
-/// A law: two calls for one text with one setting have one status, unless memory runs out or the room is too short; and a tree without comments
-/// has one text.
+/// The version of the interface, which is `ECMA_VERSION` of the header that a caller is to have.
+#[unsafe(no_mangle)]
+pub extern "C" fn ecma_version() -> u32
+    ensures { result ≡ 3 }
+{
+    3
+}
+
+/// A law: two calls for one text with one setting have one status, unless memory runs out or the room is too short; and a tree has one
+/// text.
 pub fn one_answer()
     ensures statuses { OneStatus }
     ensures trees { OneTree }

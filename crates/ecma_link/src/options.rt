@@ -5,7 +5,7 @@ ghost use Rattle.ecma_link.specs.Asked as named;
 ghost use Rattle.ecma_link.specs.Asked.{asked};
 
 use crate::failure::Failure;
-use ecma_answers::{Goal, MAX_LIMIT, Options};
+use ecma_answers::{Goal, Language, MAX_LIMIT, Options};
 use ecma_estree_text::Extras;
 use swc_ecma_parser::input::{EsSyntax, Syntax};
 
@@ -13,13 +13,15 @@ use swc_ecma_parser::input::{EsSyntax, Syntax};
 #[repr(C)]
 #[derive(Clone, Copy)]
 pub struct EcmaOptions {
+    /// How many bytes this struct has for the caller: 24.
+    pub struct_size: u64,
     /// 0 for a script, 1 for a module, 2 for a program, 3 for a script or a module, whichever the text can be read as.
     pub goal: u32,
     /// How many levels deep the text may nest; more than 1,000 count as 1,000.
     pub limit: u32,
-    /// Bits: what is read besides ECMA-262, and what is written besides nodes.
+    /// Bits: what is read besides ECMA-262, what is written besides nodes, and which language is read.
     pub flags: u32,
-    /// How many recorded faults are told at most; 0 for all.
+    /// How many faults and early errors are told at most; 0 for all.
     pub max_faults: u32,
 }
 
@@ -45,8 +47,15 @@ const COMMENTS: u32 = 0x400;
 
 const TOKENS: u32 = 0x800;
 
+const NO_EARLY_ERRORS: u32 = 0x1000;
+
+const PLAIN: u32 = 0x2000;
+
+/// How many bytes `EcmaOptions` has.
+const OPTIONS_SIZE: u64 = 24;
+
 /// The bits that mean nothing.
-const UNKNOWN: u32 = 0xffff_f080;
+const UNKNOWN: u32 = 0xffff_c080;
 
 /// What a number names, if it names something.
 fn goal_of(number: u32) -> Result<Goal, Failure>
@@ -59,6 +68,17 @@ fn goal_of(number: u32) -> Result<Goal, Failure>
         2 => Ok(Goal::Program),
         3 => Ok(Goal::Auto),
         _ => Err(Failure::UnknownOption),
+    }
+}
+
+/// The language that is read.
+fn language_of(flags: u32) -> Language
+    ensures { result ≡ named.language_of flags }
+{
+    if flags & PLAIN != 0 {
+        Language::Plain
+    } else {
+        Language::Whole
     }
 }
 
@@ -83,11 +103,12 @@ pub(crate) fn options_of(options: &EcmaOptions) -> Result<Options, Failure>
         (λ failure. (asked options.now ≡ None) × (failure ≡ Failure.UnknownOption)) }
 {
     let flags = options.flags;
-    if flags & UNKNOWN != 0 {
+    if options.struct_size != OPTIONS_SIZE || flags & UNKNOWN != 0 {
         return Err(Failure::UnknownOption);
     }
     let goal = goal_of(options.goal)?;
     Ok(Options {
+        language: language_of(flags),
         goal,
         limit: options.limit.min(MAX_LIMIT),
         syntax: syntax_of(flags),
@@ -97,6 +118,7 @@ pub(crate) fn options_of(options: &EcmaOptions) -> Result<Options, Failure>
         },
         comments: flags & COMMENTS != 0,
         tokens: flags & TOKENS != 0,
+        early: flags & NO_EARLY_ERRORS == 0,
         max_faults: options.max_faults,
     })
 }

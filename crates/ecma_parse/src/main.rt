@@ -5,8 +5,6 @@ mod command;
 mod fault;
 mod read;
 mod run;
-#[cfg(test)]
-mod tests;
 
 use std::process::ExitCode;
 use std::rt::Env;

@@ -7,7 +7,7 @@ use Rattle.swc_ecma_parser_error.specs.declared.kind.SyntaxError.TheVariants as 
 use Rattle.swc_ecma_parser_error.specs.declared.kind.Labelled.{Labelled}
 use Rattle.ecma_sentences.specs.Note.{label_in, label_note}
 
-pub label_inner : (labelled : Labelled) → label_note (kinds.WithLabel labelled) ≡ Some (labelled.span, codes "it stands in the condition of this `if`")
+pub label_inner : (labelled : Labelled) → label_note (kinds.WithLabel labelled) ≡ Some (labelled.span, codes "in the condition of this `if`")
 label_inner labelled = ap label_in (kinds.outs-WithLabel labelled)
 
 other : (o : SyntaxError-F SyntaxError Error Labelled) → ((l : Labelled) → o ≢ SyntaxError-F.WithLabel l) → label_in o ≡ None

@@ -26,13 +26,13 @@ noted (Some note) = Some (note.span, note.sentence.now)
 
 -- the note on a kind of fault
 abbrev pub kind_note : SyntaxError → Option (Span × List ℕ)
-kind_note (kinds.MultipleDefault previous) = Some (previous, codes "the first `default` stands here")
-kind_note (kinds.ExpectedSemiForExprStmt expr) = Some (expr, codes "the expression stands here")
+kind_note (kinds.MultipleDefault previous) = Some (previous, codes "the first `default` is here")
+kind_note (kinds.ExpectedSemiForExprStmt expr) = Some (expr, codes "the expression is here")
 kind_note k = None
 
 -- the `if` whose condition a fault is in
 abbrev pub label_in : SyntaxError-F SyntaxError Error Labelled → Option (Span × List ℕ)
-label_in (SyntaxError-F.WithLabel labelled) = Some (labelled.span, codes "it stands in the condition of this `if`")
+label_in (SyntaxError-F.WithLabel labelled) = Some (labelled.span, codes "in the condition of this `if`")
 label_in _ = None
 
 abbrev pub label_note : SyntaxError → Option (Span × List ℕ)
@@ -55,7 +55,7 @@ at_opener text e l sentence = if length l.opener == 0 then None else at_bracket 
 abbrev pub at_misfit : (text : List ℕ) → Error → (low : ℕ) → Option (Span × List ℕ)
 at_misfit text e low =
     if nat_le (found_lexeme text e).misfit low then None
-    else at_bracket text (found_lexeme text e).misfit (codes "the bracket that closes this has another indentation")
+    else at_bracket text (found_lexeme text e).misfit (codes "the bracket that closes this is indented differently")
 
 unfoldable pub or_else : Option (Span × List ℕ) → Option (Span × List ℕ) → Option (Span × List ℕ)
 or_else (Some note) other = Some note
@@ -79,7 +79,7 @@ note_beside text e l places.Unclosed = at_block text e l
 note_beside text e l places.Misfit = at_misfit text e 0
 note_beside text e l places.Declaration = at_before text e 1 (codes "the declaration begins here")
 note_beside text e l places.End = at_before text e 1 (codes "the block of this `try` ends here")
-note_beside text e l places.Pair = at_before text e 2 (codes "nothing stands between these")
+note_beside text e l places.Pair = at_before text e 2 (codes "there is nothing between these")
 
 -- by what stands around a fault
 abbrev pub situation_note : (text : List ℕ) → Error → Option (Span × List ℕ)

@@ -48,6 +48,7 @@ pub(crate) fn situation_of(kind: &SyntaxError, l: &Look<'_>) -> Situation
             PropertyNamedConstructor AsyncConstructor InvalidPat NotSimpleAssign AssignProperty
             NullishCoalescingWithLogicalOp UnaryInExp LineBreakBeforeArrow InvalidSuper WithLabel
             OutOfMemory TooDeep UnterminatedStrLit UnterminatedBlockComment InvalidStrEscape
+            UnterminatedRegxp UnterminatedTpl
         ],
         {
             SyntaxError::TS1107 => Situation::LabelOfContinue,

@@ -58,11 +58,11 @@ fn kind_note(kind: &SyntaxError) -> Option<Note>
             ImportBindingIsString PropertyNamedConstructor AsyncConstructor InvalidPat
             NotSimpleAssign AssignProperty NullishCoalescingWithLogicalOp UnaryInExp
             LineBreakBeforeArrow InvalidSuper WithLabel OutOfMemory TooDeep UnexpectedChar UnterminatedStrLit
-            UnterminatedBlockComment InvalidNumber InvalidStrEscape
+            UnterminatedBlockComment InvalidNumber InvalidStrEscape UnterminatedRegxp UnterminatedTpl
         ],
         {
-            SyntaxError::MultipleDefault { previous } => place(*previous, "the first `default` stands here"),
-            SyntaxError::ExpectedSemiForExprStmt { expr } => place(*expr, "the expression stands here"),
+            SyntaxError::MultipleDefault { previous } => place(*previous, "the first `default` is here"),
+            SyntaxError::ExpectedSemiForExprStmt { expr } => place(*expr, "the expression is here"),
         }
     )
 }
@@ -75,7 +75,7 @@ fn label_note(kind: &SyntaxError) -> Option<Note>
     match kind {
         SyntaxError::WithLabel(labelled) => place(
             labelled.get().span,
-            "it stands in the condition of this `if`",
+            "in the condition of this `if`",
         ),
         _ => None,
     }
@@ -149,7 +149,7 @@ fn at_misfit(source: &Source<'_>, error: &Error, low: usize) -> Option<Note>
     at_bracket(
         source,
         at,
-        "the bracket that closes this has another indentation",
+        "the bracket that closes this is indented differently",
     )
 }
 
@@ -190,7 +190,7 @@ fn note_beside(source: &Source<'_>, error: &Error, l: &Look<'_>, place: Beside) 
         Beside::Misfit => at_misfit(source, error, 0),
         Beside::Declaration => at_before(source, error, 1, "the declaration begins here"),
         Beside::End => at_before(source, error, 1, "the block of this `try` ends here"),
-        Beside::Pair => at_before(source, error, 2, "nothing stands between these"),
+        Beside::Pair => at_before(source, error, 2, "there is nothing between these"),
     }
 }
 

@@ -62,6 +62,10 @@ is_markup l = bytes_eq l.found (codes "<!") || bytes_eq l.found (codes "<!--") |
 unfoldable pub is_empty_list : Looked → Bool
 is_empty_list l = bytes_eq l.before (codes ")") && bytes_eq l.earlier (codes "(")
 
+-- The first mark of a merge conflict, which a version control system leaves in a file
+unfoldable pub is_conflict : Looked → Bool
+is_conflict l = bytes_eq l.found (codes "<<<<<<<") || (bytes_eq l.before (codes "<<") && bytes_eq l.found (codes "<<<<<"))
+
 -- A `=` behind another
 unfoldable pub is_second_equals : Looked → Bool
 is_second_equals l = bytes_eq l.token (codes "=") && (bytes_eq l.before (codes "=") || bytes_eq l.before (codes "==") || bytes_eq l.before (codes "==="))
@@ -216,6 +220,7 @@ touching l =
 -- at a sign that no rule reads
 unfoldable pub sign : Looked → Situation
 sign l =
+    if is_conflict l then situation.MergeConflict else
     if l.is_within then touching l else
     if is_markup l then situation.Html else
     if bytes_eq l.before (codes "}") && bytes_eq l.token (codes "=") then situation.AssignBlock else
@@ -237,6 +242,7 @@ unfoldable pub empty : Looked → Situation
 empty l =
     if bytes_eq l.found (codes ":") then situation.TypeScript else
     if bytes_eq l.found (codes "{") || bytes_eq l.found (codes "=") || bytes_eq l.found (codes ">=") then situation.ArrowExpected else
+    if bytes_eq l.found (codes "=>") then situation.ArrowOperand else
     situation.EmptyParentheses
 
 -- at a word or a bracket that no rule reads

@@ -134,6 +134,14 @@ fn is_empty_list(l: &Look<'_>) -> bool
     l.before == ")" && l.earlier == "("
 }
 
+/// The first mark of a merge conflict.
+#[tactic(auto, unfolding(crate::specs::Decided::is_conflict))]
+fn is_conflict(l: &Look<'_>) -> bool
+    ensures { result ≡ spec.is_conflict (looked l.now) }
+{
+    l.found == "<<<<<<<" || l.before == "<<" && l.found == "<<<<<"
+}
+
 /// A `=` behind another.
 #[tactic(auto, unfolding(crate::specs::Decided::is_second_equals))]
 fn is_second_equals(l: &Look<'_>) -> bool
@@ -448,7 +456,9 @@ fn touching(l: &Look<'_>) -> Situation
 fn sign(l: &Look<'_>) -> Situation
     ensures { result ≡ spec.sign (looked l.now) }
 {
-    if l.is_within {
+    if is_conflict(l) {
+        Situation::MergeConflict
+    } else if l.is_within {
         touching(l)
     } else if is_markup(l) {
         Situation::Html
@@ -490,6 +500,8 @@ fn empty(l: &Look<'_>) -> Situation
         Situation::TypeScript
     } else if l.found == "{" || l.found == "=" || l.found == ">=" {
         Situation::ArrowExpected
+    } else if l.found == "=>" {
+        Situation::ArrowOperand
     } else {
         Situation::EmptyParentheses
     }

@@ -27,9 +27,21 @@ const TOP_ITEM: Position = Position {
 
 /// An import or export is refused, as in a script.
 impl<O: Origin, I: Tokens> StmtLikeParser<Ast, Part> for Call<O, I> {
+    ghost use Rattle.swc_ecma_parser_output_readers.specs.Languages.{statement_language};
+    ghost use Rattle.swc_ecma_parser_output_readers.specs.StatementLaws.{AnyCode, any_strict, stmt_is_exact, stmt_leaves};
     ghost use Rattle.swc_ecma_parser_reader.proofs.Loops.{whole_shorter};
 
+    ghost language = { statement_language };
+
+    ghost in_code = { AnyCode };
+
     ghost item = { rules.whole_stmt };
+
+    ghost is_exact = { stmt_is_exact };
+
+    ghost leaves = { stmt_leaves };
+
+    ghost in_strict = { any_strict };
 
     ghost is_stmt = { λ n at s h. refl };
 

@@ -2,6 +2,12 @@
 #![tactic(auto)]
 
 #[cfg(test)]
+mod forms;
+#[cfg(test)]
 mod headlines;
 #[cfg(test)]
+mod lists;
+#[cfg(test)]
 mod parsers;
+#[cfg(test)]
+mod shapes;

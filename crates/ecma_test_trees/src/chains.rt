@@ -5,7 +5,8 @@ use std::fmt::Debug;
 use std::test::Fail;
 use swc_ecma_parser_ast::{
     Atom, BinExpr, BinaryOp, BytePos, CallExpr, Callee, EmptyStmt, Expr, ExprBox, Ident, IfStmt,
-    MemberExpr, MemberProp, Span, Stmt, StmtBox, ThisExpr,
+    MemberExpr, MemberProp, OptCall, OptChainBase, OptChainExpr, Span, Stmt, StmtBox, TaggedTpl,
+    ThisExpr, Tpl, TplElement,
 };
 
 /// The span of all but what a chain ends with.
@@ -20,7 +21,20 @@ enum Kind {
     Bin,
     Member,
     Call,
+    Tagged,
+    ChainMember,
+    ChainCall,
 }
+
+/// All of them.
+const KINDS: [Kind; 6] = [
+    Kind::Bin,
+    Kind::Member,
+    Kind::Call,
+    Kind::Tagged,
+    Kind::ChainMember,
+    Kind::ChainCall,
+];
 
 fn this(alloc: Global) -> Result<ExprBox, AllocError> {
     ExprBox::new(alloc, Expr::This(ThisExpr { span: SPAN }))
@@ -28,6 +42,47 @@ fn this(alloc: Global) -> Result<ExprBox, AllocError> {
 
 fn empty(alloc: Global) -> Result<StmtBox, AllocError> {
     StmtBox::new(alloc, Stmt::Empty(EmptyStmt { span: SPAN }))
+}
+
+/// A member of the rest of a chain.
+fn member(alloc: Global, obj: ExprBox) -> Result<MemberExpr, AllocError> {
+    Ok(MemberExpr {
+        span: SPAN,
+        obj,
+        prop: MemberProp::Ident(Ident {
+            span: SPAN,
+            sym: Atom::new(alloc, "a")?,
+        }),
+    })
+}
+
+/// A template of one text, behind the rest of a chain.
+fn tagged(alloc: Global, tag: ExprBox) -> Result<Expr, AllocError> {
+    let text = TplElement {
+        span: SPAN,
+        tail: true,
+        cooked: None,
+        raw: Atom::new(alloc, "b")?,
+    };
+    let tpl = Tpl {
+        span: SPAN,
+        exprs: Vec::new(alloc),
+        quasis: vec![in alloc; text]?,
+    };
+    Ok(Expr::TaggedTpl(TaggedTpl {
+        span: SPAN,
+        tag,
+        tpl: tpl.boxed(alloc)?,
+    }))
+}
+
+/// A link of an optional chain.
+fn link(alloc: Global, optional: bool, base: OptChainBase) -> Result<Expr, AllocError> {
+    Ok(Expr::OptChain(OptChainExpr {
+        span: SPAN,
+        optional,
+        base: base.boxed(alloc)?,
+    }))
 }
 
 /// A chain on the left with one link more.
@@ -39,19 +94,22 @@ fn longer(alloc: Global, chain: ExprBox, kind: Kind) -> Result<Expr, AllocError>
             left: chain,
             right: this(alloc)?,
         })),
-        Kind::Member => Ok(Expr::Member(MemberExpr {
-            span: SPAN,
-            obj: chain,
-            prop: MemberProp::Ident(Ident {
-                span: SPAN,
-                sym: Atom::new(alloc, "a")?,
-            }),
-        })),
+        Kind::Member => Ok(Expr::Member(member(alloc, chain)?)),
         Kind::Call => Ok(Expr::Call(CallExpr {
             span: SPAN,
             callee: Callee::Expr(chain),
             args: Vec::new(alloc),
         })),
+        Kind::Tagged => tagged(alloc, chain),
+        Kind::ChainMember => link(alloc, true, OptChainBase::Member(member(alloc, chain)?)),
+        Kind::ChainCall => {
+            let call = OptCall {
+                span: SPAN,
+                callee: chain,
+                args: Vec::new(alloc),
+            };
+            link(alloc, false, OptChainBase::Call(call))
+        }
     }
 }
 
@@ -118,7 +176,7 @@ const PAIRS: [((u32, u32), (u32, u32), bool); 4] = [
 fn chains_are_compared(rt: HostRuntime) -> Result<(), Fail> {
     let alloc = rt.alloc();
     for (left, right, wanted) in PAIRS {
-        for kind in [Kind::Bin, Kind::Member, Kind::Call] {
+        for kind in KINDS {
             assert!(rt; are_equal(alloc, kind, left, right)? == wanted);
         }
         assert!(rt; are_equal_branches(alloc, left, right)? == wanted);
@@ -135,9 +193,34 @@ const MEMBER: &str = "MemberExpr { span: Span { lo: BytePos(0), hi: BytePos(1) }
 
 const CALL: &str = "CallExpr { span: Span { lo: BytePos(0), hi: BytePos(1) }, args: [], .. }, ";
 
+const TAGGED: &str = "TaggedTpl { span: Span { lo: BytePos(0), hi: BytePos(1) }, \
+    tpl: Tpl { span: Span { lo: BytePos(0), hi: BytePos(1) }, exprs: [], \
+    quasis: [TplElement { span: Span { lo: BytePos(0), hi: BytePos(1) }, tail: true, cooked: None, raw: Atom { text: \"b\" } }] }, .. }, ";
+
+const CHAIN_MEMBER: &str =
+    "OptChainExpr { span: Span { lo: BytePos(0), hi: BytePos(1) }, optional: true, \
+    base: MemberExpr { span: Span { lo: BytePos(0), hi: BytePos(1) }, \
+    prop: Ident(Ident { span: Span { lo: BytePos(0), hi: BytePos(1) }, sym: Atom { text: \"a\" } }), .. } }, ";
+
+const CHAIN_CALL: &str =
+    "OptChainExpr { span: Span { lo: BytePos(0), hi: BytePos(1) }, optional: false, \
+    base: OptCall { span: Span { lo: BytePos(0), hi: BytePos(1) }, args: [], .. } }, ";
+
 const IF: &str = "IfStmt { span: Span { lo: BytePos(0), hi: BytePos(1) }, \
     test: ExprBox { node: Node { inner: Expr(This(ThisExpr { span: Span { lo: BytePos(0), hi: BytePos(1) } })) } }, \
     cons: StmtBox { node: Node { inner: Stmt(Empty(EmptyStmt { span: Span { lo: BytePos(0), hi: BytePos(1) } })) } }, .. }, ";
+
+/// How the links of a kind are printed.
+fn printed(kind: Kind) -> &'static str {
+    match kind {
+        Kind::Bin => BIN,
+        Kind::Member => MEMBER,
+        Kind::Call => CALL,
+        Kind::Tagged => TAGGED,
+        Kind::ChainMember => CHAIN_MEMBER,
+        Kind::ChainCall => CHAIN_CALL,
+    }
+}
 
 /// What stands before the links of a chain on the left, and behind them.
 const EXPRS: (&str, &str) = (
@@ -173,9 +256,9 @@ fn is_printed<T: Debug>(
 fn chains_are_printed_link_by_link(rt: HostRuntime) -> Result<(), Fail> {
     let alloc = rt.alloc();
     for links in [1, 2, 100_000] {
-        for (kind, link) in [(Kind::Bin, BIN), (Kind::Member, MEMBER), (Kind::Call, CALL)] {
+        for kind in KINDS {
             let chain = chain(alloc, kind, links, 1)?;
-            assert!(rt; is_printed(alloc, &chain, EXPRS, link, links)?);
+            assert!(rt; is_printed(alloc, &chain, EXPRS, printed(kind), links)?);
         }
         let chain = branches(alloc, links, 1)?;
         assert!(rt; is_printed(alloc, &chain, STMTS, IF, links)?);

@@ -10,6 +10,6 @@ const _: () = prove!(size_of::<SyntaxError>() == 16);
 
 const _: () = prove!(size_of::<Error>() == 24);
 
-const _: () = prove!(size_of::<Token>() == 56);
+const _: () = prove!(size_of::<Token>() == 64);
 
-const _: () = prove!(size_of::<TokenAndSpan>() == 72);
+const _: () = prove!(size_of::<TokenAndSpan>() == 80);

@@ -7,7 +7,7 @@ use Rattle.swc_ecma_parser_error.specs.Kind.{Fault, fault_of, faults_of, kind_of
 use Rattle.swc_ecma_parser_token.specs.declared.kind.TokenKind.TheVariants as kind
 use Rattle.swc_ecma_parser_token.specs.declared.token.TokenAndSpan.{TokenAndSpan}
 use Rattle.swc_ecma_parser_input.specs.declared.context.Context.{Context}
-use Rattle.swc_ecma_parser_input.specs.Place.{Place, first, second, lacks_memory, outset}
+use Rattle.swc_ecma_parser_input.specs.Place.{Place, first, second, lacks_memory}
 use Rattle.swc_ecma_parser_input.specs.TokenSource.{TokenSource, at_start, released}
 use Rattle.swc_ecma_parser_model.specs.Tree.{Tree}
 use Rattle.swc_ecma_parser_grammar.specs.Looks.{kind_at}
@@ -31,6 +31,7 @@ use Rattle.swc_ecma_parser_exactness.specs.ModuleDecides.{IsReleased, DecidesMod
 use Rattle.swc_ecma_parser_exactness.specs.Supports.{Ordered}
 use Rattle.swc_ecma_parser_exactness.specs.Walked.{Walked}
 use Rattle.swc_ecma_parser_state.specs.Opened.{opened}
+use Rattle.swc_ecma_parser_entries.specs.Refusals.{IsRefused, Refuses}
 use Rattle.swc_ecma_parser.specs.Headline.{IsNew, IsClean, AtEnd, Headline, code_of, start_of, end_of}
 use Rattle.swc_ecma_parser.specs.Reading.{IsReading}
 
@@ -143,6 +144,12 @@ module _ {X : Type 0} (view : X → Tree) (source : TokenSource) (limit n : ℕ)
       let w : s.at.left ≡ source.left = ap (λ z. z.at.left) (begun (λ m. let no : kinds.TooDeep ≡ OutOfMemory = sym k ∙ m in cc)) in
       subst (λ ts. IsToldBy ts (fault_of e)) w (h (subst (λ m. 2 * length s.at.left + 2 ≤ m) (sym is) (subst (λ ts. 2 * length ts + 2 ≤ limit) (sym w) enough)) k)
 
+  refusing : (entry : Entry) (r : Result X Error) → (Lasts r → unmarked s ≡ opened source) → Refuses s.code.flags.«module» entry n (unmarked s) r t
+      → Refuses source.context.«module» entry limit (opened source) r t
+  refusing entry (Ok y) begun h = tt
+  refusing entry (Err e) begun h = λ m.
+      subst (λ k. IsRefused source.context.«module» entry k (opened source) e t) is (subst (λ (z : State). IsRefused z.code.flags.«module» entry n z e t) (begun m) (h m))
+
   -- a whole is read up to the end
   pub at_the_end : (r : Result X Error) → (Lasts r → unmarked s ≡ opened source) → Stays s r t → IfOk r (λ y. kind_at t.at ≡ kind.End) → IfOk r (λ y. t.at ≡ end_of source)
   at_the_end (Ok y) begun b whole = behind_all source s t (ap (λ z. z.at) (begun tt)) b whole
@@ -218,13 +225,14 @@ module _ {X : Type 0} (view : X → Tree) (source : TokenSource) (limit n : ℕ)
           (subst (λ (z : State). Decides r A (λ x e. ReadsProgram n z.notes.found_module_item z.code x z.at e × (program_walk z x ≡ []))) w (h source.start.0 (in_line l)))) l
 
     pub headline : (entry : Entry) → Exactly entry → Walked view (λ x. walk (env_of (entry_code entry s.code) s.scope.labels) x) s r t
-        → IsReading view entry n (unmarked s) r t
+        → IsReading view entry n (unmarked s) r t → Refuses s.code.flags.«module» entry n (unmarked s) r t
         → (2 * length s.at.left + 2 ≤ n → IfErr r (λ e. kind_of e.kind ≡ kinds.TooDeep → IsToldBy s.at.left (fault_of e)))
         → (source.left ≡ [] → AtEnd entry source r) → Headline view entry limit source r fs d
-    headline entry exactly walks reading fits none = record {
+    headline entry exactly walks reading refusal fits none = record {
       decides = exactly;
       walk = λ new. walked view source limit n is s t fs taken d new (entry_code entry) r begun stands walks;
       reads = λ l. (t, subst (λ m. IsReading view entry m (opened source) r t) is (subst (λ z. IsReading view entry n z r t) (begun l) reading), taken, stands);
+      refuses = (t, taken, refusing view source limit n is s t fs taken d entry r begun refusal);
       fits = fitting view source limit n is s t fs taken d r begun fits;
       at_end = none;
     }

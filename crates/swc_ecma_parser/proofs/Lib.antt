@@ -1,3 +1,4 @@
 mod Kept
 mod Answered
 pub mod Same
+pub mod Plainness

@@ -15,6 +15,7 @@ use Rattle.swc_ecma_parser_reader.specs.Limits.{IsToldBy}
 use Rattle.swc_ecma_parser_reader.specs.State.{State}
 use Rattle.swc_ecma_parser_exactness.specs.Decides.{Lasts}
 use Rattle.swc_ecma_parser_state.specs.Opened.{opened}
+use Rattle.swc_ecma_parser_entries.specs.Refusals.{Refuses}
 use Rattle.swc_ecma_parser.specs.Reading.{IsReading}
 
 -- a source of which nothing was recorded nor held back
@@ -54,6 +55,9 @@ pub record Headline {X : Type 0} (view : X → Tree) (entry : Entry) (limit : �
   -- Whatever comes, unless memory ran out: the tree, or the refusal, and the faults beside it are what the reader comes to, from the
   -- state on in which a parser of the source begins.
   pub reads : Lasts answer → (t : State) × IsReading view entry limit (opened s) answer t × (fs ≡ t.faults) × IfOk answer (λ y. t.at ≡ d)
+  -- The faults beside a refusal are the reader's and no others, where the code is no module's; what a program or an item records as
+  -- module code begins is what it had held back.
+  pub refuses : (t : State) × (fs ≡ t.faults) × Refuses s.context.«module» entry limit (opened s) answer t
   -- A limit of twice the tokens and two is never met: what is refused as too deep is what an error token of the list says.
   pub fits : 2 * length s.left + 2 ≤ limit → IfErr answer (λ e. kind_of e.kind ≡ TooDeep → IsToldBy s.left (fault_of e))
   -- No tokens are never answered with want of memory.

@@ -2,3 +2,4 @@ pub mod Parsing
 pub mod Reading
 pub mod Headline
 pub mod Same
+pub mod Plain

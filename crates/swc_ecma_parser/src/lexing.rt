@@ -5,6 +5,7 @@ ghost use Rattle.std.specs.Str.{chars};
 ghost use Rattle.swc_ecma_parser_span_order.specs.Forward.{in_order};
 ghost use Rattle.swc_ecma_parser_input.specs.Place as place;
 ghost use Rattle.swc_ecma_parser_lexer.specs.Source as source;
+ghost use Rattle.swc_ecma_parser.specs.Plain.{TextsArePlain, TreesOfTextsArePlain};
 ghost use Rattle.swc_ecma_parser_state.specs.Contents.{source_of};
 ghost use Rattle.swc_ecma_parser_state.specs.Opened.{fresh, opened};
 
@@ -38,3 +39,10 @@ impl<'a> Parser<Lexer<'a>> {
         Parser::new_from(alloc, Lexer::new(alloc, syntax, input, comments))
     }
 }
+
+/// A law of every text: none of the tokens that `Lexer` hands out is a regular expression, a part of a template, `?.`, or one
+/// more that it does not read; and no tree that they spell has such a form.
+pub fn reads_plain_texts()
+    ensures tokens { TextsArePlain }
+    ensures trees { TreesOfTextsArePlain }
+{}

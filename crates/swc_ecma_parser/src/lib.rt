@@ -6,6 +6,7 @@ pub mod headline;
 mod lexing;
 mod parser;
 
+pub use lexing::reads_plain_texts;
 pub use parser::Parser;
 pub use swc_ecma_parser_ast as ast;
 pub use swc_ecma_parser_common as common;

@@ -29,6 +29,7 @@ ghost use Rattle.swc_ecma_parser_state.specs.Opened.{fresh, opened};
 ghost use Rattle.swc_ecma_parser_token.specs.declared.token.Token.TheVariants as token;
 ghost use Rattle.swc_ecma_parser_token.specs.declared.token.TokenAndSpan.{TokenAndSpan};
 ghost use Rattle.swc_ecma_parser.specs.Reading.{IsReading};
+ghost use Rattle.swc_ecma_parser_entries.specs.Refusals.{Refuses};
 
 use std::alloc::Global;
 use std::marker::Model;
@@ -122,6 +123,11 @@ impl<I: Tokens> Parser<I> {
         ensures reads { IsReading view_script programs.script self.old.limit (unmarked self.old.state) result
             self.new.state }
 
+        // The faults recorded behind a refusal are the reader's and no others, where the code around is no module's; what a program or
+        // an item records as module code begins is what it had held back.
+        ensures refuses { Refuses self.old.state.code.flags.module programs.script self.old.limit
+            (unmarked self.old.state) result self.new.state }
+
         // Of any answer: it takes the whole list, and its statements stand on its tokens; with no fault recorded the list
         // spells it within the limit; and its tabled faults are its walk where no error token stands and nothing was dropped.
         ensures sound { IfOk result
@@ -205,6 +211,11 @@ impl<I: Tokens> Parser<I> {
         // which is a function of the tokens, the code and the limit.
         ensures reads { IsReading view_module programs.«module» self.old.limit (unmarked self.old.state) result
             self.new.state }
+
+        // The faults recorded behind a refusal are the reader's and no others, where the code around is no module's; what a program or
+        // an item records as module code begins is what it had held back.
+        ensures refuses { Refuses self.old.state.code.flags.module programs.«module» self.old.limit
+            (unmarked self.old.state) result self.new.state }
 
         // Of any answer, from the state `u` on in which module code begins: it takes the whole list; with no fault recorded the
         // list spells it within the limit; and its tabled faults are its walk where no error token stands and nothing was dropped.
@@ -294,6 +305,11 @@ impl<I: Tokens> Parser<I> {
         ensures reads { IsReading view_program programs.program self.old.limit (unmarked self.old.state) result
             self.new.state }
 
+        // The faults recorded behind a refusal are the reader's and no others, where the code around is no module's; what a program or
+        // an item records as module code begins is what it had held back.
+        ensures refuses { Refuses self.old.state.code.flags.module programs.program self.old.limit
+            (unmarked self.old.state) result self.new.state }
+
         // Of any answer: it takes the whole list; with no fault recorded but what had been held back before, the list spells it
         // within the limit; and its tabled faults are its walk where no error token stands and nothing was dropped.
         ensures sound { IfOk result
@@ -382,6 +398,11 @@ impl<I: Tokens> Parser<I> {
         // which is a function of the tokens, the code and the limit.
         ensures reads { IsReading view_module_item programs.module_item self.old.limit (unmarked self.old.state) result
             self.new.state }
+
+        // The faults recorded behind a refusal are the reader's and no others, where the code around is no module's; what a program or
+        // an item records as module code begins is what it had held back.
+        ensures refuses { Refuses self.old.state.code.flags.module programs.module_item self.old.limit
+            (unmarked self.old.state) result self.new.state }
 
         // Of any answer: with no fault recorded but what had been held back, and nothing held back by decorators before its word, the
         // tokens that were taken spell it within the limit, and its walk is empty; where no error token was read and nothing was
@@ -474,6 +495,11 @@ impl<I: Tokens> Parser<I> {
         ensures reads { IsReading view_stmt (programs.stmt top_level) self.old.limit (unmarked self.old.state) result
             self.new.state }
 
+        // The faults recorded behind a refusal are the reader's and no others, where the code around is no module's; what a program or
+        // an item records as module code begins is what it had held back.
+        ensures refuses { Refuses self.old.state.code.flags.module (programs.stmt top_level) self.old.limit
+            (unmarked self.old.state) result self.new.state }
+
         // Of any answer: it stands on the tokens that were taken; with no fault recorded they spell it within the limit, and its walk
         // is empty; where no error token was read and nothing was dropped, its tabled faults are its walk.
         ensures sound { IfOk result
@@ -563,6 +589,11 @@ impl<I: Tokens> Parser<I> {
         // which is a function of the tokens, the code and the limit.
         ensures reads { IsReading view_stmt (programs.stmt_list_item top_level) self.old.limit (unmarked self.old.state) result
             self.new.state }
+
+        // The faults recorded behind a refusal are the reader's and no others, where the code around is no module's; what a program or
+        // an item records as module code begins is what it had held back.
+        ensures refuses { Refuses self.old.state.code.flags.module (programs.stmt_list_item top_level) self.old.limit
+            (unmarked self.old.state) result self.new.state }
 
         // Of any answer: it stands on the tokens that were taken; with no fault recorded they spell it within the limit, and its walk
         // is empty; where no error token was read and nothing was dropped, its tabled faults are its walk.

@@ -31,6 +31,7 @@ fn begins_expression<P: Cursor>(p: &P) -> bool
 {
     begins_operand(p.kind())
         || p.identifier_at()
+        || p.sees(TokenKind::HashIn)
         || p.flags().in_generator && p.sees(TokenKind::Yield)
 }
 

@@ -9,9 +9,10 @@ use Rattle.swc_ecma_parser_model.specs.Same.{same, alike}
 use Rattle.swc_ecma_parser_model.specs.Held.{Held, There, same_held, held_absent, absent_held}
 use Rattle.swc_ecma_parser_ast.specs.Parts.{view_option}
 use Rattle.swc_ecma_parser_ast.specs.Nodes.{there_block_stmt, there_catch_clause, there_expr_or_spread, there_pat, there_var_decl_or_expr}
-use Rattle.swc_ecma_parser_ast.specs.Equal.{equal_span, equal_ident, equal_private_name, equal_this_expr, equal_expr_or_spread, equal_array_lit, equal_spread_element, equal_computed_prop_name, equal_prop_name, equal_key_value_prop, equal_assign_prop, equal_block_stmt, equal_getter_prop, equal_binding_ident, equal_array_pat, equal_rest_pat, equal_key_value_pat_prop, equal_assign_pat_prop, equal_object_pat_prop, equal_object_pat, equal_assign_pat, equal_invalid, equal_pat, equal_setter_prop, equal_decorator, equal_param, equal_function, equal_method_prop, equal_prop, equal_prop_or_spread, equal_object_lit, equal_fn_expr, equal_unary_expr, equal_update_expr, equal_bin_expr, equal_member_prop, equal_member_expr, equal_super, equal_super_prop, equal_super_prop_expr, equal_paren_expr, equal_simple_assign_target, equal_assign_target_pat, equal_assign_target, equal_assign_expr, equal_cond_expr, equal_import, equal_callee, equal_call_expr, equal_new_expr, equal_seq_expr, equal_lit, equal_block_stmt_or_expr, equal_arrow_expr, equal_param_or_ts_param_prop, equal_constructor, equal_class_method, equal_private_method, equal_class_prop, equal_private_prop, equal_empty_stmt, equal_static_block, equal_key, equal_auto_accessor, equal_class_member, equal_class, equal_class_expr, equal_yield_expr, equal_meta_prop_expr, equal_await_expr, equal_expr, equal_class_decl, equal_fn_decl, equal_declarator, equal_var_decl, equal_using_decl, equal_decl, equal_debugger_stmt, equal_with_stmt, equal_return_stmt, equal_labeled_stmt, equal_break_stmt, equal_continue_stmt, equal_if_stmt, equal_switch_case, equal_switch_stmt, equal_throw_stmt, equal_catch_clause, equal_try_stmt, equal_while_stmt, equal_do_while_stmt, equal_var_decl_or_expr, equal_for_stmt, equal_for_head, equal_for_in_stmt, equal_for_of_stmt, equal_expr_stmt, equal_stmt, equal_stmts}
-use Rattle.swc_ecma_parser_ast.specs.View.{view_ident, view_this_expr, view_expr_or_spread, view_array_lit, view_spread_element, view_computed_prop_name, view_prop_name, view_key_value_prop, view_assign_prop, view_block_stmt, view_getter_prop, view_binding_ident, view_array_pat, view_rest_pat, view_key_value_pat_prop, view_assign_pat_prop, view_object_pat_prop, view_object_pat, view_assign_pat, view_invalid, view_pat, view_setter_prop, view_decorator, view_param, view_function, view_method_prop, view_prop, view_prop_or_spread, view_object_lit, view_fn_expr, view_unary_expr, view_update_expr, view_bin_expr, view_member_prop, view_member_expr, view_super, view_super_prop, view_super_prop_expr, view_paren_expr, view_simple_assign_target, view_assign_target_pat, view_assign_target, view_assign_expr, view_cond_expr, view_import, view_callee, view_call_expr, view_new_expr, view_seq_expr, view_lit, view_block_stmt_or_expr, view_arrow_expr, view_param_or_ts_param_prop, view_constructor, view_class_method, view_private_method, view_class_prop, view_private_prop, view_empty_stmt, view_static_block, view_key, view_auto_accessor, view_class_member, view_class, view_class_expr, view_yield_expr, view_meta_prop_expr, view_await_expr, view_expr, view_class_decl, view_fn_decl, view_declarator, view_var_decl, view_using_decl, view_decl, view_debugger_stmt, view_with_stmt, view_return_stmt, view_labeled_stmt, view_break_stmt, view_continue_stmt, view_if_stmt, view_switch_case, view_switch_stmt, view_throw_stmt, view_catch_clause, view_try_stmt, view_while_stmt, view_do_while_stmt, view_var_decl_or_expr, view_for_stmt, view_for_head, view_for_in_stmt, view_for_of_stmt, view_expr_stmt, view_stmt}
+use Rattle.swc_ecma_parser_ast.specs.Equal.{equal_span, equal_ident, equal_private_name, equal_this_expr, equal_expr_or_spread, equal_array_lit, equal_spread_element, equal_computed_prop_name, equal_prop_name, equal_key_value_prop, equal_assign_prop, equal_block_stmt, equal_getter_prop, equal_binding_ident, equal_array_pat, equal_rest_pat, equal_key_value_pat_prop, equal_assign_pat_prop, equal_object_pat_prop, equal_object_pat, equal_assign_pat, equal_invalid, equal_pat, equal_setter_prop, equal_decorator, equal_param, equal_function, equal_method_prop, equal_prop, equal_prop_or_spread, equal_object_lit, equal_fn_expr, equal_unary_expr, equal_update_expr, equal_bin_expr, equal_member_prop, equal_member_expr, equal_super, equal_super_prop, equal_super_prop_expr, equal_paren_expr, equal_simple_assign_target, equal_assign_target_pat, equal_assign_target, equal_assign_expr, equal_cond_expr, equal_import, equal_callee, equal_call_expr, equal_new_expr, equal_tpl_element, equal_opt_call, equal_opt_chain_base, equal_opt_chain_expr, equal_tpl, equal_tagged_tpl, equal_seq_expr, equal_lit, equal_block_stmt_or_expr, equal_arrow_expr, equal_param_or_ts_param_prop, equal_constructor, equal_class_method, equal_private_method, equal_class_prop, equal_private_prop, equal_empty_stmt, equal_static_block, equal_key, equal_auto_accessor, equal_class_member, equal_class, equal_class_expr, equal_yield_expr, equal_meta_prop_expr, equal_await_expr, equal_expr, equal_class_decl, equal_fn_decl, equal_declarator, equal_var_decl, equal_using_decl, equal_decl, equal_debugger_stmt, equal_with_stmt, equal_return_stmt, equal_labeled_stmt, equal_break_stmt, equal_continue_stmt, equal_if_stmt, equal_switch_case, equal_switch_stmt, equal_throw_stmt, equal_catch_clause, equal_try_stmt, equal_while_stmt, equal_do_while_stmt, equal_var_decl_or_expr, equal_for_stmt, equal_for_head, equal_for_in_stmt, equal_for_of_stmt, equal_expr_stmt, equal_stmt, equal_stmts}
+use Rattle.swc_ecma_parser_ast.specs.View.{view_ident, view_this_expr, view_expr_or_spread, view_array_lit, view_spread_element, view_computed_prop_name, view_prop_name, view_key_value_prop, view_assign_prop, view_block_stmt, view_getter_prop, view_binding_ident, view_array_pat, view_rest_pat, view_key_value_pat_prop, view_assign_pat_prop, view_object_pat_prop, view_object_pat, view_assign_pat, view_invalid, view_pat, view_setter_prop, view_decorator, view_param, view_function, view_method_prop, view_prop, view_prop_or_spread, view_object_lit, view_fn_expr, view_unary_expr, view_update_expr, view_bin_expr, view_member_prop, view_member_expr, view_super, view_super_prop, view_super_prop_expr, view_paren_expr, view_simple_assign_target, view_assign_target_pat, view_assign_target, view_assign_expr, view_cond_expr, view_import, view_callee, view_call_expr, view_new_expr, view_tpl_element, view_opt_call, view_opt_chain_base, view_opt_chain_expr, view_tpl, view_tagged_tpl, view_seq_expr, view_lit, view_block_stmt_or_expr, view_arrow_expr, view_param_or_ts_param_prop, view_constructor, view_class_method, view_private_method, view_class_prop, view_private_prop, view_empty_stmt, view_static_block, view_key, view_auto_accessor, view_class_member, view_class, view_class_expr, view_yield_expr, view_meta_prop_expr, view_await_expr, view_expr, view_class_decl, view_fn_decl, view_declarator, view_var_decl, view_using_decl, view_decl, view_debugger_stmt, view_with_stmt, view_return_stmt, view_labeled_stmt, view_break_stmt, view_continue_stmt, view_if_stmt, view_switch_case, view_switch_stmt, view_throw_stmt, view_catch_clause, view_try_stmt, view_while_stmt, view_do_while_stmt, view_var_decl_or_expr, view_for_stmt, view_for_head, view_for_in_stmt, view_for_of_stmt, view_expr_stmt, view_stmt}
 use Rattle.swc_ecma_parser_ast.specs.Differ.{alike_as_expr, as_expr_other, other_as_expr}
+use Rattle.swc_ecma_parser_model.specs.declared.leaves.TplElement.{TplElement}
 use Rattle.swc_ecma_parser_ast.specs.declared.expr.ThisExpr.{ThisExpr}
 use Rattle.swc_ecma_parser_ast.specs.declared.call.ExprOrSpread.{ExprOrSpread}
 use Rattle.swc_ecma_parser_ast.specs.declared.object.ArrayLit.{ArrayLit}
@@ -70,6 +71,12 @@ use Rattle.swc_ecma_parser_ast.specs.declared.call.Callee.{Callee}
 use Rattle.swc_ecma_parser_ast.specs.declared.call.Callee.TheVariants as v_callee
 use Rattle.swc_ecma_parser_ast.specs.declared.call.CallExpr.{CallExpr}
 use Rattle.swc_ecma_parser_ast.specs.declared.call.NewExpr.{NewExpr}
+use Rattle.swc_ecma_parser_ast.specs.declared.call.OptCall.{OptCall}
+use Rattle.swc_ecma_parser_ast.specs.declared.call.OptChainBase.{OptChainBase}
+use Rattle.swc_ecma_parser_ast.specs.declared.call.OptChainBase.TheVariants as v_opt_chain_base
+use Rattle.swc_ecma_parser_ast.specs.declared.call.OptChainExpr.{OptChainExpr}
+use Rattle.swc_ecma_parser_ast.specs.declared.template.Tpl.{Tpl}
+use Rattle.swc_ecma_parser_ast.specs.declared.template.TaggedTpl.{TaggedTpl}
 use Rattle.swc_ecma_parser_ast.specs.declared.expr.SeqExpr.{SeqExpr}
 use Rattle.swc_ecma_parser_ast.specs.declared.expr.Lit.{Lit}
 use Rattle.swc_ecma_parser_ast.specs.declared.expr.Lit.TheVariants as v_lit
@@ -359,6 +366,26 @@ alike_call_expr x y = λ k. equal_span x.span y.span && (alike_callee x.callee y
 pub alike_new_expr : (x y : NewExpr Held) → equal_new_expr same_held x y ≡ same (view_new_expr x) (view_new_expr y)
 alike_new_expr x y = λ k. equal_span x.span y.span && (same_held x.callee.node y.callee.node && alike_option (λ v w. pointwise (equal_expr_or_spread same_held) v.items w.items) (λ v. listed (map view_expr_or_spread v.items)) (λ v w. alike_each (equal_expr_or_spread same_held) view_expr_or_spread alike_expr_or_spread v.items w.items) (λ v. tt) x.args y.args k)
 
+pub alike_tpl_element : (x y : TplElement) → equal_tpl_element x y ≡ same (view_tpl_element x) (view_tpl_element y)
+alike_tpl_element x y = refl
+
+pub alike_opt_call : (x y : OptCall Held) → equal_opt_call same_held x y ≡ same (view_opt_call x) (view_opt_call y)
+alike_opt_call x y = λ k. equal_span x.span y.span && (alike_as_expr x.callee.node y.callee.node k && alike_each (equal_expr_or_spread same_held) view_expr_or_spread alike_expr_or_spread x.args.items y.args.items k)
+
+pub alike_opt_chain_base : (x y : OptChainBase Held) → equal_opt_chain_base same_held x y ≡ same (view_opt_chain_base x) (view_opt_chain_base y)
+alike_opt_chain_base (v_opt_chain_base.Member x) (v_opt_chain_base.Member y) = alike_member_expr x y
+alike_opt_chain_base (v_opt_chain_base.Call x) (v_opt_chain_base.Call y) = alike_opt_call x y
+alike_opt_chain_base _ _ = refl
+
+pub alike_opt_chain_expr : (x y : OptChainExpr Held) → equal_opt_chain_expr same_held x y ≡ same (view_opt_chain_expr x) (view_opt_chain_expr y)
+alike_opt_chain_expr x y = λ k. equal_span x.span y.span && (alike (put_bool x.optional) (put_bool y.optional) && alike_opt_chain_base x.base.value y.base.value k)
+
+pub alike_tpl : (x y : Tpl Held) → equal_tpl same_held x y ≡ same (view_tpl x) (view_tpl y)
+alike_tpl x y = λ k. equal_span x.span y.span && (alike_each (λ a b. same_held a.node b.node) (λ b. b.node.tree) (λ a b. refl) x.exprs.items y.exprs.items k && alike_each equal_tpl_element view_tpl_element alike_tpl_element x.quasis.items y.quasis.items k)
+
+pub alike_tagged_tpl : (x y : TaggedTpl Held) → equal_tagged_tpl same_held x y ≡ same (view_tagged_tpl x) (view_tagged_tpl y)
+alike_tagged_tpl x y = λ k. equal_span x.span y.span && (same_held x.tag.node y.tag.node && alike_tpl x.tpl.value y.tpl.value k)
+
 pub alike_seq_expr : (x y : SeqExpr Held) → equal_seq_expr same_held x y ≡ same (view_seq_expr x) (view_seq_expr y)
 alike_seq_expr x y = λ k. equal_span x.span y.span && alike_each (λ a b. same_held a.node b.node) (λ b. b.node.tree) (λ a b. refl) x.exprs.items y.exprs.items k
 
@@ -368,6 +395,7 @@ alike_lit (v_lit.Bool x) (v_lit.Bool y) = refl
 alike_lit (v_lit.Null x) (v_lit.Null y) = refl
 alike_lit (v_lit.Num x) (v_lit.Num y) = refl
 alike_lit (v_lit.BigInt x) (v_lit.BigInt y) = refl
+alike_lit (v_lit.Regex x) (v_lit.Regex y) = refl
 alike_lit _ _ = refl
 
 pub alike_block_stmt_or_expr : (x y : BlockStmtOrExpr Held) → equal_block_stmt_or_expr same_held x y ≡ same (view_block_stmt_or_expr x) (view_block_stmt_or_expr y)
@@ -469,17 +497,23 @@ alike_expr (v_expr.Yield x) (v_expr.Yield y) = alike_yield_expr x y
 alike_expr (v_expr.MetaProp x) (v_expr.MetaProp y) = alike_meta_prop_expr x y
 alike_expr (v_expr.Await x) (v_expr.Await y) = alike_await_expr x y
 alike_expr (v_expr.Paren x) (v_expr.Paren y) = alike_paren_expr x y
+alike_expr (v_expr.Tpl x) (v_expr.Tpl y) = alike_tpl x y
+alike_expr (v_expr.TaggedTpl x) (v_expr.TaggedTpl y) = alike_tagged_tpl x y
+alike_expr (v_expr.OptChain x) (v_expr.OptChain y) = alike_opt_chain_expr x y
+alike_expr (v_expr.PrivateName x) (v_expr.PrivateName y) = refl
 alike_expr (v_expr.Invalid x) (v_expr.Invalid y) = alike_invalid x y
 alike_expr (v_expr.Lit (v_lit.Str _)) _ = refl
 alike_expr (v_expr.Lit (v_lit.Bool _)) _ = refl
 alike_expr (v_expr.Lit (v_lit.Null _)) _ = refl
 alike_expr (v_expr.Lit (v_lit.Num _)) _ = refl
 alike_expr (v_expr.Lit (v_lit.BigInt _)) _ = refl
+alike_expr (v_expr.Lit (v_lit.Regex _)) _ = refl
 alike_expr _ (v_expr.Lit (v_lit.Str _)) = refl
 alike_expr _ (v_expr.Lit (v_lit.Bool _)) = refl
 alike_expr _ (v_expr.Lit (v_lit.Null _)) = refl
 alike_expr _ (v_expr.Lit (v_lit.Num _)) = refl
 alike_expr _ (v_expr.Lit (v_lit.BigInt _)) = refl
+alike_expr _ (v_expr.Lit (v_lit.Regex _)) = refl
 alike_expr _ _ = refl
 
 pub alike_class_decl : (x y : ClassDecl Held) → equal_class_decl same_held x y ≡ same (view_class_decl x) (view_class_decl y)

@@ -1,49 +1,11 @@
 -- The derived equality of each type is the one of specs/Equal.antt, whatever its nodes are.
-use Rattle.std.proofs.Common.{◌≡◌, List, [], ◌∷◌, refl, Bool, true, false, ◌&&◌, Option, Some, None}
-use Rattle.std.specs.Bool.{◌==◌}
+use Rattle.std.proofs.Common.{◌≡◌, List, refl, ◌&&◌}
 use Rattle.std.specs.Option.{option_eq}
 use Rattle.std.specs.Cmp.Lexicographic.{pointwise}
 use Rattle.std.specs.declared.cmp.PartialEq.{Ghosts}
-use mathlib.Core.Bool.{beq}
 use denote.RattleType.{RattleType}
 use mir.Syntax.{Dict}
-use Rattle.swc_ecma_parser_common.specs.declared.span.Span.{Span}
-use Rattle.swc_ecma_parser_common.specs.contracts.span.SpanPartialEq.TheImpl as i_span
-use Rattle.swc_ecma_parser_model.specs.Tree.{Text}
-use Rattle.swc_ecma_parser_model.specs.Leaf.{put_assign, put_binary, put_bool, put_dots, put_kind, put_meta, put_method, put_phase, put_unary, put_update}
-use Rattle.swc_ecma_parser_model.specs.Same.{alike}
-use Rattle.swc_ecma_parser_ast.specs.Equal.{equal_span, equal_text, equal_ident, equal_str, equal_bool, equal_null, equal_number, equal_big_int, equal_private_name, equal_this_expr, equal_expr_or_spread, equal_array_lit, equal_spread_element, equal_computed_prop_name, equal_prop_name, equal_key_value_prop, equal_assign_prop, equal_block_stmt, equal_getter_prop, equal_binding_ident, equal_array_pat, equal_rest_pat, equal_key_value_pat_prop, equal_assign_pat_prop, equal_object_pat_prop, equal_object_pat, equal_assign_pat, equal_invalid, equal_pat, equal_setter_prop, equal_decorator, equal_param, equal_function, equal_method_prop, equal_prop, equal_prop_or_spread, equal_object_lit, equal_fn_expr, equal_unary_expr, equal_update_expr, equal_bin_expr, equal_member_prop, equal_member_expr, equal_super, equal_super_prop, equal_super_prop_expr, equal_paren_expr, equal_simple_assign_target, equal_assign_target_pat, equal_assign_target, equal_assign_expr, equal_cond_expr, equal_import, equal_callee, equal_call_expr, equal_new_expr, equal_seq_expr, equal_lit, equal_block_stmt_or_expr, equal_arrow_expr, equal_param_or_ts_param_prop, equal_constructor, equal_class_method, equal_private_method, equal_class_prop, equal_private_prop, equal_empty_stmt, equal_static_block, equal_key, equal_auto_accessor, equal_class_member, equal_class, equal_class_expr, equal_yield_expr, equal_meta_prop_expr, equal_await_expr, equal_expr, equal_class_decl, equal_fn_decl, equal_declarator, equal_var_decl, equal_using_decl, equal_decl, equal_debugger_stmt, equal_with_stmt, equal_return_stmt, equal_labeled_stmt, equal_break_stmt, equal_continue_stmt, equal_if_stmt, equal_switch_case, equal_switch_stmt, equal_throw_stmt, equal_catch_clause, equal_try_stmt, equal_while_stmt, equal_do_while_stmt, equal_var_decl_or_expr, equal_for_stmt, equal_for_head, equal_for_in_stmt, equal_for_of_stmt, equal_expr_stmt, equal_stmt, equal_stmts}
-use Rattle.swc_ecma_parser_model.specs.declared.operators.AssignOp.{AssignOp}
-use Rattle.swc_ecma_parser_model.specs.contracts.operators.AssignOpPartialEq.TheImpl as i_assign_op
-use Rattle.swc_ecma_parser_model.specs.declared.operators.BinaryOp.{BinaryOp}
-use Rattle.swc_ecma_parser_model.specs.contracts.operators.BinaryOpPartialEq.TheImpl as i_binary_op
-use Rattle.swc_ecma_parser_model.specs.declared.leaves.ImportPhase.{ImportPhase}
-use Rattle.swc_ecma_parser_model.specs.contracts.leaves.ImportPhasePartialEq.TheImpl as i_import_phase
-use Rattle.swc_ecma_parser_model.specs.declared.leaves.MetaPropKind.{MetaPropKind}
-use Rattle.swc_ecma_parser_model.specs.contracts.leaves.MetaPropKindPartialEq.TheImpl as i_meta_prop_kind
-use Rattle.swc_ecma_parser_model.specs.declared.leaves.MethodKind.{MethodKind}
-use Rattle.swc_ecma_parser_model.specs.contracts.leaves.MethodKindPartialEq.TheImpl as i_method_kind
-use Rattle.swc_ecma_parser_model.specs.declared.operators.UnaryOp.{UnaryOp}
-use Rattle.swc_ecma_parser_model.specs.contracts.operators.UnaryOpPartialEq.TheImpl as i_unary_op
-use Rattle.swc_ecma_parser_model.specs.declared.operators.UpdateOp.{UpdateOp}
-use Rattle.swc_ecma_parser_model.specs.contracts.operators.UpdateOpPartialEq.TheImpl as i_update_op
-use Rattle.swc_ecma_parser_model.specs.declared.leaves.VarDeclKind.{VarDeclKind}
-use Rattle.swc_ecma_parser_model.specs.contracts.leaves.VarDeclKindPartialEq.TheImpl as i_var_decl_kind
-use Rattle.swc_ecma_parser_model.specs.declared.operators.AssignOp.TheVariants as o_assign_op
-use Rattle.swc_ecma_parser_model.specs.declared.operators.BinaryOp.TheVariants as o_binary_op
-use Rattle.swc_ecma_parser_model.specs.declared.leaves.ImportPhase.TheVariants as o_import_phase
-use Rattle.swc_ecma_parser_model.specs.declared.leaves.MetaPropKind.TheVariants as o_meta_prop_kind
-use Rattle.swc_ecma_parser_model.specs.declared.leaves.MethodKind.TheVariants as o_method_kind
-use Rattle.swc_ecma_parser_model.specs.declared.operators.UnaryOp.TheVariants as o_unary_op
-use Rattle.swc_ecma_parser_model.specs.declared.operators.UpdateOp.TheVariants as o_update_op
-use Rattle.swc_ecma_parser_model.specs.declared.leaves.VarDeclKind.TheVariants as o_var_decl_kind
-use Rattle.swc_ecma_parser_model.specs.declared.leaves.Ident.{Ident}
-use Rattle.swc_ecma_parser_model.specs.declared.leaves.Str.{Str}
-use Rattle.swc_ecma_parser_model.specs.declared.leaves.Bool.{Bool as BoolLit}
-use Rattle.swc_ecma_parser_model.specs.declared.leaves.Null.{Null}
-use Rattle.swc_ecma_parser_model.specs.declared.leaves.Number.{Number}
-use Rattle.swc_ecma_parser_model.specs.declared.leaves.BigInt.{BigInt}
-use Rattle.swc_ecma_parser_model.specs.declared.leaves.PrivateName.{PrivateName}
+use Rattle.swc_ecma_parser_ast.specs.Equal.{equal_span, equal_ident, equal_this_expr, equal_expr_or_spread, equal_array_lit, equal_spread_element, equal_computed_prop_name, equal_prop_name, equal_key_value_prop, equal_assign_prop, equal_block_stmt, equal_getter_prop, equal_binding_ident, equal_array_pat, equal_rest_pat, equal_key_value_pat_prop, equal_assign_pat_prop, equal_object_pat_prop, equal_object_pat, equal_assign_pat, equal_invalid, equal_pat, equal_setter_prop, equal_decorator, equal_param, equal_function, equal_method_prop, equal_prop, equal_prop_or_spread, equal_object_lit, equal_fn_expr, equal_unary_expr, equal_update_expr, equal_bin_expr, equal_member_prop, equal_member_expr, equal_super, equal_super_prop, equal_super_prop_expr, equal_paren_expr, equal_simple_assign_target, equal_assign_target_pat, equal_assign_target, equal_assign_expr, equal_cond_expr, equal_import, equal_callee, equal_call_expr, equal_new_expr, equal_tpl_element, equal_opt_call, equal_opt_chain_base, equal_opt_chain_expr, equal_tpl, equal_tagged_tpl, equal_seq_expr, equal_lit, equal_block_stmt_or_expr, equal_arrow_expr, equal_param_or_ts_param_prop, equal_constructor, equal_class_method, equal_private_method, equal_class_prop, equal_private_prop, equal_empty_stmt, equal_static_block, equal_key, equal_auto_accessor, equal_class_member, equal_class, equal_class_expr, equal_yield_expr, equal_meta_prop_expr, equal_await_expr, equal_expr, equal_class_decl, equal_fn_decl, equal_declarator, equal_var_decl, equal_using_decl, equal_decl, equal_debugger_stmt, equal_with_stmt, equal_return_stmt, equal_labeled_stmt, equal_break_stmt, equal_continue_stmt, equal_if_stmt, equal_switch_case, equal_switch_stmt, equal_throw_stmt, equal_catch_clause, equal_try_stmt, equal_while_stmt, equal_do_while_stmt, equal_var_decl_or_expr, equal_for_stmt, equal_for_head, equal_for_in_stmt, equal_for_of_stmt, equal_expr_stmt, equal_stmt, equal_stmts}
 use Rattle.swc_ecma_parser_ast.specs.declared.expr.ThisExpr.{ThisExpr}
 use Rattle.swc_ecma_parser_ast.specs.declared.call.ExprOrSpread.{ExprOrSpread}
 use Rattle.swc_ecma_parser_ast.specs.declared.object.ArrayLit.{ArrayLit}
@@ -102,6 +64,12 @@ use Rattle.swc_ecma_parser_ast.specs.declared.call.Callee.{Callee}
 use Rattle.swc_ecma_parser_ast.specs.declared.call.Callee.TheVariants as v_callee
 use Rattle.swc_ecma_parser_ast.specs.declared.call.CallExpr.{CallExpr}
 use Rattle.swc_ecma_parser_ast.specs.declared.call.NewExpr.{NewExpr}
+use Rattle.swc_ecma_parser_ast.specs.declared.call.OptCall.{OptCall}
+use Rattle.swc_ecma_parser_ast.specs.declared.call.OptChainBase.{OptChainBase}
+use Rattle.swc_ecma_parser_ast.specs.declared.call.OptChainBase.TheVariants as v_opt_chain_base
+use Rattle.swc_ecma_parser_ast.specs.declared.call.OptChainExpr.{OptChainExpr}
+use Rattle.swc_ecma_parser_ast.specs.declared.template.Tpl.{Tpl}
+use Rattle.swc_ecma_parser_ast.specs.declared.template.TaggedTpl.{TaggedTpl}
 use Rattle.swc_ecma_parser_ast.specs.declared.expr.SeqExpr.{SeqExpr}
 use Rattle.swc_ecma_parser_ast.specs.declared.expr.Lit.{Lit}
 use Rattle.swc_ecma_parser_ast.specs.declared.expr.Lit.TheVariants as v_lit
@@ -160,13 +128,6 @@ use Rattle.swc_ecma_parser_ast.specs.declared.loops.ForOfStmt.{ForOfStmt}
 use Rattle.swc_ecma_parser_ast.specs.declared.stmt.ExprStmt.{ExprStmt}
 use Rattle.swc_ecma_parser_ast.specs.declared.stmt.Stmt.{Stmt}
 use Rattle.swc_ecma_parser_ast.specs.declared.stmt.Stmt.TheVariants as v_stmt
-use Rattle.swc_ecma_parser_model.specs.contracts.leaves.IdentPartialEq.TheImpl as i_ident
-use Rattle.swc_ecma_parser_model.specs.contracts.leaves.StrPartialEq.TheImpl as i_str
-use Rattle.swc_ecma_parser_model.specs.contracts.leaves.BoolPartialEq.TheImpl as i_bool
-use Rattle.swc_ecma_parser_model.specs.contracts.leaves.NullPartialEq.TheImpl as i_null
-use Rattle.swc_ecma_parser_model.specs.contracts.leaves.NumberPartialEq.TheImpl as i_number
-use Rattle.swc_ecma_parser_model.specs.contracts.leaves.BigIntPartialEq.TheImpl as i_big_int
-use Rattle.swc_ecma_parser_model.specs.contracts.leaves.PrivateNamePartialEq.TheImpl as i_private_name
 use Rattle.swc_ecma_parser_ast.specs.contracts.expr.ThisExprPartialEq.TheImpl as i_this_expr
 use Rattle.swc_ecma_parser_ast.specs.contracts.call.ExprOrSpreadPartialEq.TheImpl as i_expr_or_spread
 use Rattle.swc_ecma_parser_ast.specs.contracts.object.ArrayLitPartialEq.TheImpl as i_array_lit
@@ -214,6 +175,11 @@ use Rattle.swc_ecma_parser_ast.specs.contracts.call.ImportPartialEq.TheImpl as i
 use Rattle.swc_ecma_parser_ast.specs.contracts.call.CalleePartialEq.TheImpl as i_callee
 use Rattle.swc_ecma_parser_ast.specs.contracts.call.CallExprPartialEq.TheImpl as i_call_expr
 use Rattle.swc_ecma_parser_ast.specs.contracts.call.NewExprPartialEq.TheImpl as i_new_expr
+use Rattle.swc_ecma_parser_ast.specs.contracts.call.OptCallPartialEq.TheImpl as i_opt_call
+use Rattle.swc_ecma_parser_ast.specs.contracts.call.OptChainBasePartialEq.TheImpl as i_opt_chain_base
+use Rattle.swc_ecma_parser_ast.specs.contracts.call.OptChainExprPartialEq.TheImpl as i_opt_chain_expr
+use Rattle.swc_ecma_parser_ast.specs.contracts.template.TplPartialEq.TheImpl as i_tpl
+use Rattle.swc_ecma_parser_ast.specs.contracts.template.TaggedTplPartialEq.TheImpl as i_tagged_tpl
 use Rattle.swc_ecma_parser_ast.specs.contracts.expr.SeqExprPartialEq.TheImpl as i_seq_expr
 use Rattle.swc_ecma_parser_ast.specs.contracts.expr.LitPartialEq.TheImpl as i_lit
 use Rattle.swc_ecma_parser_ast.specs.contracts.function.BlockStmtOrExprPartialEq.TheImpl as i_block_stmt_or_expr
@@ -262,140 +228,7 @@ use Rattle.swc_ecma_parser_ast.specs.contracts.loops.ForInStmtPartialEq.TheImpl 
 use Rattle.swc_ecma_parser_ast.specs.contracts.loops.ForOfStmtPartialEq.TheImpl as i_for_of_stmt
 use Rattle.swc_ecma_parser_ast.specs.contracts.stmt.ExprStmtPartialEq.TheImpl as i_expr_stmt
 use Rattle.swc_ecma_parser_ast.specs.contracts.stmt.StmtPartialEq.TheImpl as i_stmt
-
-pub derived_text : (t u : Text) → pointwise ◌==◌ t u ≡ equal_text t u
-derived_text [] [] = refl
-derived_text (m ∷ t) (n ∷ u) = λ k. (m == n) && derived_text t u k
-derived_text _ _ = refl
-
-derived_flag : (b c : Bool) → beq b c ≡ alike (put_bool b) (put_bool c)
-derived_flag true true = refl
-derived_flag true false = refl
-derived_flag false true = refl
-derived_flag false false = refl
-
-derived_dots : (x y : Option Span) → option_eq i_span.ghosts.eq x y ≡ alike (put_dots x) (put_dots y)
-derived_dots None None = refl
-derived_dots None (Some y) = refl
-derived_dots (Some x) None = refl
-derived_dots (Some x) (Some y) = refl
-
-pub derived_option : {X : Type 0} (f g : X → X → Bool) → ((x y : X) → f x y ≡ g x y) → (x y : Option X) → option_eq f x y ≡ option_eq g x y
-derived_option f g h None None = refl
-derived_option f g h None (Some y) = refl
-derived_option f g h (Some x) None = refl
-derived_option f g h (Some x) (Some y) = h x y
-
-pub derived_each : {X : Type 0} (f g : X → X → Bool) → ((x y : X) → f x y ≡ g x y) → (xs ys : List X) → pointwise f xs ys ≡ pointwise g xs ys
-derived_each f g h [] [] = refl
-derived_each f g h (x ∷ xs) (y ∷ ys) = λ k. h x y k && derived_each f g h xs ys k
-derived_each _ _ _ _ _ = refl
-
-derived_assign_op : (k l : AssignOp) → i_assign_op.ghosts.eq k l ≡ alike (put_assign k) (put_assign l)
-derived_assign_op o_assign_op.Assign o_assign_op.Assign = refl
-derived_assign_op o_assign_op.AddAssign o_assign_op.AddAssign = refl
-derived_assign_op o_assign_op.SubAssign o_assign_op.SubAssign = refl
-derived_assign_op o_assign_op.MulAssign o_assign_op.MulAssign = refl
-derived_assign_op o_assign_op.DivAssign o_assign_op.DivAssign = refl
-derived_assign_op o_assign_op.ModAssign o_assign_op.ModAssign = refl
-derived_assign_op o_assign_op.LShiftAssign o_assign_op.LShiftAssign = refl
-derived_assign_op o_assign_op.RShiftAssign o_assign_op.RShiftAssign = refl
-derived_assign_op o_assign_op.ZeroFillRShiftAssign o_assign_op.ZeroFillRShiftAssign = refl
-derived_assign_op o_assign_op.BitOrAssign o_assign_op.BitOrAssign = refl
-derived_assign_op o_assign_op.BitXorAssign o_assign_op.BitXorAssign = refl
-derived_assign_op o_assign_op.BitAndAssign o_assign_op.BitAndAssign = refl
-derived_assign_op o_assign_op.ExpAssign o_assign_op.ExpAssign = refl
-derived_assign_op o_assign_op.AndAssign o_assign_op.AndAssign = refl
-derived_assign_op o_assign_op.OrAssign o_assign_op.OrAssign = refl
-derived_assign_op o_assign_op.NullishAssign o_assign_op.NullishAssign = refl
-derived_assign_op _ _ = refl
-
-pub derived_binary_op : (k l : BinaryOp) → i_binary_op.ghosts.eq k l ≡ alike (put_binary k) (put_binary l)
-derived_binary_op o_binary_op.EqEq o_binary_op.EqEq = refl
-derived_binary_op o_binary_op.NotEq o_binary_op.NotEq = refl
-derived_binary_op o_binary_op.EqEqEq o_binary_op.EqEqEq = refl
-derived_binary_op o_binary_op.NotEqEq o_binary_op.NotEqEq = refl
-derived_binary_op o_binary_op.Lt o_binary_op.Lt = refl
-derived_binary_op o_binary_op.LtEq o_binary_op.LtEq = refl
-derived_binary_op o_binary_op.Gt o_binary_op.Gt = refl
-derived_binary_op o_binary_op.GtEq o_binary_op.GtEq = refl
-derived_binary_op o_binary_op.LShift o_binary_op.LShift = refl
-derived_binary_op o_binary_op.RShift o_binary_op.RShift = refl
-derived_binary_op o_binary_op.ZeroFillRShift o_binary_op.ZeroFillRShift = refl
-derived_binary_op o_binary_op.Add o_binary_op.Add = refl
-derived_binary_op o_binary_op.Sub o_binary_op.Sub = refl
-derived_binary_op o_binary_op.Mul o_binary_op.Mul = refl
-derived_binary_op o_binary_op.Div o_binary_op.Div = refl
-derived_binary_op o_binary_op.Mod o_binary_op.Mod = refl
-derived_binary_op o_binary_op.BitOr o_binary_op.BitOr = refl
-derived_binary_op o_binary_op.BitXor o_binary_op.BitXor = refl
-derived_binary_op o_binary_op.BitAnd o_binary_op.BitAnd = refl
-derived_binary_op o_binary_op.LogicalOr o_binary_op.LogicalOr = refl
-derived_binary_op o_binary_op.LogicalAnd o_binary_op.LogicalAnd = refl
-derived_binary_op o_binary_op.In o_binary_op.In = refl
-derived_binary_op o_binary_op.InstanceOf o_binary_op.InstanceOf = refl
-derived_binary_op o_binary_op.Exp o_binary_op.Exp = refl
-derived_binary_op o_binary_op.NullishCoalescing o_binary_op.NullishCoalescing = refl
-derived_binary_op _ _ = refl
-
-pub derived_import_phase : (k l : ImportPhase) → i_import_phase.ghosts.eq k l ≡ alike (put_phase k) (put_phase l)
-derived_import_phase o_import_phase.Evaluation o_import_phase.Evaluation = refl
-derived_import_phase o_import_phase.Source o_import_phase.Source = refl
-derived_import_phase o_import_phase.Defer o_import_phase.Defer = refl
-derived_import_phase _ _ = refl
-
-derived_meta_prop_kind : (k l : MetaPropKind) → i_meta_prop_kind.ghosts.eq k l ≡ alike (put_meta k) (put_meta l)
-derived_meta_prop_kind o_meta_prop_kind.NewTarget o_meta_prop_kind.NewTarget = refl
-derived_meta_prop_kind o_meta_prop_kind.ImportMeta o_meta_prop_kind.ImportMeta = refl
-derived_meta_prop_kind _ _ = refl
-
-derived_method_kind : (k l : MethodKind) → i_method_kind.ghosts.eq k l ≡ alike (put_method k) (put_method l)
-derived_method_kind o_method_kind.Method o_method_kind.Method = refl
-derived_method_kind o_method_kind.Getter o_method_kind.Getter = refl
-derived_method_kind o_method_kind.Setter o_method_kind.Setter = refl
-derived_method_kind _ _ = refl
-
-derived_unary_op : (k l : UnaryOp) → i_unary_op.ghosts.eq k l ≡ alike (put_unary k) (put_unary l)
-derived_unary_op o_unary_op.Minus o_unary_op.Minus = refl
-derived_unary_op o_unary_op.Plus o_unary_op.Plus = refl
-derived_unary_op o_unary_op.Bang o_unary_op.Bang = refl
-derived_unary_op o_unary_op.Tilde o_unary_op.Tilde = refl
-derived_unary_op o_unary_op.TypeOf o_unary_op.TypeOf = refl
-derived_unary_op o_unary_op.Void o_unary_op.Void = refl
-derived_unary_op o_unary_op.Delete o_unary_op.Delete = refl
-derived_unary_op _ _ = refl
-
-derived_update_op : (k l : UpdateOp) → i_update_op.ghosts.eq k l ≡ alike (put_update k) (put_update l)
-derived_update_op o_update_op.PlusPlus o_update_op.PlusPlus = refl
-derived_update_op o_update_op.MinusMinus o_update_op.MinusMinus = refl
-derived_update_op _ _ = refl
-
-derived_var_decl_kind : (k l : VarDeclKind) → i_var_decl_kind.ghosts.eq k l ≡ alike (put_kind k) (put_kind l)
-derived_var_decl_kind o_var_decl_kind.Var o_var_decl_kind.Var = refl
-derived_var_decl_kind o_var_decl_kind.Let o_var_decl_kind.Let = refl
-derived_var_decl_kind o_var_decl_kind.Const o_var_decl_kind.Const = refl
-derived_var_decl_kind _ _ = refl
-
-pub derived_ident : (x y : Ident) → i_ident.ghosts.eq x y ≡ equal_ident x y
-derived_ident x y = λ k. equal_span x.span y.span && derived_text x.sym y.sym k
-
-pub derived_str : (x y : Str) → i_str.ghosts.eq x y ≡ equal_str x y
-derived_str x y = λ k. equal_span x.span y.span && (derived_text x.value y.value k && derived_text x.raw y.raw k)
-
-derived_bool : (x y : BoolLit) → i_bool.ghosts.eq x y ≡ equal_bool x y
-derived_bool x y = λ k. equal_span x.span y.span && derived_flag x.value y.value k
-
-derived_null : (x y : Null) → i_null.ghosts.eq x y ≡ equal_null x y
-derived_null x y = refl
-
-derived_number : (x y : Number) → i_number.ghosts.eq x y ≡ equal_number x y
-derived_number x y = λ k. equal_span x.span y.span && derived_text x.raw y.raw k
-
-derived_big_int : (x y : BigInt) → i_big_int.ghosts.eq x y ≡ equal_big_int x y
-derived_big_int x y = λ k. equal_span x.span y.span && derived_text x.raw y.raw k
-
-derived_private_name : (x y : PrivateName) → i_private_name.ghosts.eq x y ≡ equal_private_name x y
-derived_private_name x y = λ k. equal_span x.span y.span && (equal_span x.id.span y.id.span && derived_text x.id.sym y.id.sym k)
+use Rattle.swc_ecma_parser_ast.proofs.DerivedLeaf.{derived_flag, derived_dots, derived_option, derived_each, derived_assign_op, derived_binary_op, derived_meta_prop_kind, derived_method_kind, derived_unary_op, derived_update_op, derived_var_decl_kind, derived_ident, derived_str, derived_bool, derived_null, derived_number, derived_big_int, derived_private_name, derived_regex, derived_tpl_element}
 
 pub derived_this_expr : (x y : ThisExpr) → i_this_expr.ghosts.eq x y ≡ equal_this_expr x y
 derived_this_expr x y = refl
@@ -418,6 +251,7 @@ derived_lit (v_lit.Bool x) (v_lit.Bool y) = derived_bool x y
 derived_lit (v_lit.Null x) (v_lit.Null y) = derived_null x y
 derived_lit (v_lit.Num x) (v_lit.Num y) = derived_number x y
 derived_lit (v_lit.BigInt x) (v_lit.BigInt y) = derived_big_int x y
+derived_lit (v_lit.Regex x) (v_lit.Regex y) = derived_regex x y
 derived_lit _ _ = refl
 
 pub derived_empty_stmt : (x y : EmptyStmt) → i_empty_stmt.ghosts.eq x y ≡ equal_empty_stmt x y
@@ -601,6 +435,23 @@ module _ (R : RattleType) (g : Ghosts R.Denot) (dict : Dict) where
   pub derived_new_expr : (x y : NewExpr R.Denot) → (i_new_expr.eq-value R g dict).it x y ≡ equal_new_expr g.eq x y
   derived_new_expr x y = λ k. equal_span x.span y.span && (g.eq x.callee.node y.callee.node && derived_option _ (λ v w. pointwise (equal_expr_or_spread g.eq) v.items w.items) (λ v w. derived_each _ (equal_expr_or_spread g.eq) derived_expr_or_spread v.items w.items) x.args y.args k)
 
+  pub derived_opt_call : (x y : OptCall R.Denot) → (i_opt_call.eq-value R g dict).it x y ≡ equal_opt_call g.eq x y
+  derived_opt_call x y = λ k. equal_span x.span y.span && (g.eq x.callee.node y.callee.node && derived_each _ (equal_expr_or_spread g.eq) derived_expr_or_spread x.args.items y.args.items k)
+
+  pub derived_opt_chain_base : (x y : OptChainBase R.Denot) → (i_opt_chain_base.eq-value R g dict).it x y ≡ equal_opt_chain_base g.eq x y
+  derived_opt_chain_base (v_opt_chain_base.Member x) (v_opt_chain_base.Member y) = derived_member_expr x y
+  derived_opt_chain_base (v_opt_chain_base.Call x) (v_opt_chain_base.Call y) = derived_opt_call x y
+  derived_opt_chain_base _ _ = refl
+
+  pub derived_opt_chain_expr : (x y : OptChainExpr R.Denot) → (i_opt_chain_expr.eq-value R g dict).it x y ≡ equal_opt_chain_expr g.eq x y
+  derived_opt_chain_expr x y = λ k. equal_span x.span y.span && (derived_flag x.optional y.optional k && derived_opt_chain_base x.base.value y.base.value k)
+
+  pub derived_tpl : (x y : Tpl R.Denot) → (i_tpl.eq-value R g dict).it x y ≡ equal_tpl g.eq x y
+  derived_tpl x y = λ k. equal_span x.span y.span && (pointwise (λ a b. g.eq a.node b.node) x.exprs.items y.exprs.items && derived_each _ equal_tpl_element derived_tpl_element x.quasis.items y.quasis.items k)
+
+  pub derived_tagged_tpl : (x y : TaggedTpl R.Denot) → (i_tagged_tpl.eq-value R g dict).it x y ≡ equal_tagged_tpl g.eq x y
+  derived_tagged_tpl x y = λ k. equal_span x.span y.span && (g.eq x.tag.node y.tag.node && derived_tpl x.tpl.value y.tpl.value k)
+
   pub derived_seq_expr : (x y : SeqExpr R.Denot) → (i_seq_expr.eq-value R g dict).it x y ≡ equal_seq_expr g.eq x y
   derived_seq_expr x y = refl
 
@@ -687,6 +538,10 @@ module _ (R : RattleType) (g : Ghosts R.Denot) (dict : Dict) where
   derived_expr (v_expr.MetaProp x) (v_expr.MetaProp y) = derived_meta_prop_expr x y
   derived_expr (v_expr.Await x) (v_expr.Await y) = derived_await_expr x y
   derived_expr (v_expr.Paren x) (v_expr.Paren y) = derived_paren_expr x y
+  derived_expr (v_expr.Tpl x) (v_expr.Tpl y) = derived_tpl x y
+  derived_expr (v_expr.TaggedTpl x) (v_expr.TaggedTpl y) = derived_tagged_tpl x y
+  derived_expr (v_expr.OptChain x) (v_expr.OptChain y) = derived_opt_chain_expr x y
+  derived_expr (v_expr.PrivateName x) (v_expr.PrivateName y) = derived_private_name x y
   derived_expr (v_expr.Invalid x) (v_expr.Invalid y) = derived_invalid x y
   derived_expr _ _ = refl
 

@@ -1,16 +1,11 @@
 -- As Derived.antt, for the items of a module.
-use Rattle.std.proofs.Common.{◌≡◌, refl, ◌&&◌, Option, Some, None}
-use Rattle.std.specs.Bool.{◌==◌}
-use Rattle.std.specs.Option.{option_eq}
-use Rattle.std.specs.Cmp.Lexicographic.{pointwise}
+use Rattle.std.proofs.Common.{◌≡◌, refl, ◌&&◌}
 use Rattle.std.specs.declared.cmp.PartialEq.{Ghosts}
 use denote.RattleType.{RattleType}
 use mir.Syntax.{Dict}
-use Rattle.swc_ecma_parser_model.specs.Tree.{Text}
-use Rattle.swc_ecma_parser_model.specs.Leaf.{put_option}
-use Rattle.swc_ecma_parser_model.specs.Same.{alike}
 use Rattle.swc_ecma_parser_ast.specs.Equal.{equal_span, equal_str, equal_object_lit, equal_stmt, equal_script, equal_module_export_name, equal_import_named_specifier, equal_import_default_specifier, equal_import_star_as_specifier, equal_import_specifier, equal_import_decl, equal_export_decl, equal_export_namespace_specifier, equal_export_default_specifier, equal_export_named_specifier, equal_export_specifier, equal_named_export, equal_default_decl, equal_export_default_decl, equal_export_default_expr, equal_export_all, equal_module_decl, equal_module_item, equal_module, equal_program}
-use Rattle.swc_ecma_parser_ast.proofs.Derived.{derived_text, derived_each, derived_option, derived_import_phase, derived_ident, derived_str, derived_object_lit, derived_decl, derived_class_expr, derived_fn_expr, derived_stmt}
+use Rattle.swc_ecma_parser_ast.proofs.Derived.{derived_object_lit, derived_decl, derived_class_expr, derived_fn_expr, derived_stmt}
+use Rattle.swc_ecma_parser_ast.proofs.DerivedLeaf.{derived_each, derived_option, derived_optional_text, derived_import_phase, derived_ident, derived_str}
 use Rattle.swc_ecma_parser_ast.specs.declared.script.Script.{Script}
 use Rattle.swc_ecma_parser_ast.specs.declared.imports.ModuleExportName.{ModuleExportName}
 use Rattle.swc_ecma_parser_ast.specs.declared.imports.ModuleExportName.TheVariants as v_module_export_name
@@ -61,12 +56,6 @@ use Rattle.swc_ecma_parser_ast.specs.contracts.program.ModuleItemPartialEq.TheIm
 use Rattle.swc_ecma_parser_ast.specs.contracts.program.ModulePartialEq.TheImpl as i_module
 use Rattle.swc_ecma_parser_ast.specs.contracts.program.ProgramPartialEq.TheImpl as i_program
 
-derived_shebang : (x y : Option Text) → option_eq (pointwise ◌==◌) x y ≡ alike (put_option x) (put_option y)
-derived_shebang None None = refl
-derived_shebang None (Some y) = refl
-derived_shebang (Some x) None = refl
-derived_shebang (Some x) (Some y) = derived_text x y
-
 pub derived_module_export_name : (x y : ModuleExportName) → i_module_export_name.ghosts.eq x y ≡ equal_module_export_name x y
 derived_module_export_name (v_module_export_name.Ident x) (v_module_export_name.Ident y) = derived_ident x y
 derived_module_export_name (v_module_export_name.Str x) (v_module_export_name.Str y) = derived_str x y
@@ -104,7 +93,7 @@ derived_export_specifier _ _ = refl
 
 module _ (R : RattleType) (g : Ghosts R.Denot) (dict : Dict) where
   pub derived_script : (x y : Script R.Denot) → (i_script.eq-value R g dict).it x y ≡ equal_script g.eq x y
-  derived_script x y = λ k. equal_span x.span y.span && (derived_each _ (equal_stmt g.eq) (derived_stmt R g dict) x.body.items y.body.items k && derived_shebang x.shebang y.shebang k)
+  derived_script x y = λ k. equal_span x.span y.span && (derived_each _ (equal_stmt g.eq) (derived_stmt R g dict) x.body.items y.body.items k && derived_optional_text x.shebang y.shebang k)
 
   pub derived_import_decl : (x y : ImportDecl R.Denot) → (i_import_decl.eq-value R g dict).it x y ≡ equal_import_decl g.eq x y
   derived_import_decl x y = λ k. equal_span x.span y.span && (derived_each _ equal_import_specifier derived_import_specifier x.specifiers.items y.specifiers.items k && (derived_str x.src y.src k && (derived_option _ (equal_object_lit g.eq) (derived_object_lit R g dict) x.with y.with k && derived_import_phase x.phase y.phase k)))
@@ -144,7 +133,7 @@ module _ (R : RattleType) (g : Ghosts R.Denot) (dict : Dict) where
   derived_module_item _ _ = refl
 
   pub derived_module : (x y : Module R.Denot) → (i_module.eq-value R g dict).it x y ≡ equal_module g.eq x y
-  derived_module x y = λ k. equal_span x.span y.span && (derived_each _ (equal_module_item g.eq) derived_module_item x.body.items y.body.items k && derived_shebang x.shebang y.shebang k)
+  derived_module x y = λ k. equal_span x.span y.span && (derived_each _ (equal_module_item g.eq) derived_module_item x.body.items y.body.items k && derived_optional_text x.shebang y.shebang k)
 
   pub derived_program : (x y : Program R.Denot) → (i_program.eq-value R g dict).it x y ≡ equal_program g.eq x y
   derived_program (v_program.Module x) (v_program.Module y) = derived_module x y

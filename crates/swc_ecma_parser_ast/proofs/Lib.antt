@@ -1,4 +1,5 @@
 pub mod Derived
+pub mod DerivedLeaf
 pub mod DerivedItem
 pub mod Alike
 pub mod Links

@@ -6,10 +6,10 @@ use Rattle.std.specs.Cmp.Lexicographic.{pointwise}
 use Rattle.swc_ecma_parser_model.specs.Leaf.{put_binary}
 use Rattle.swc_ecma_parser_model.specs.Same.{alike}
 use Rattle.swc_ecma_parser_model.specs.Held.{Held}
-use Rattle.swc_ecma_parser_ast.specs.Like.{any_span, like_callee, like_expr, like_expr_or_spread, like_member_prop, like_stmt}
+use Rattle.swc_ecma_parser_ast.specs.Like.{any_span, like_callee, like_expr, like_expr_or_spread, like_flag, like_member_prop, like_opt_chain_base, like_stmt, like_tpl}
 use Rattle.swc_ecma_parser_ast.specs.Nodes.{view_any}
-use Rattle.swc_ecma_parser_ast.specs.Chain.{rest_of_any, rest_of_callee, rest_of_else, rest_of_expr, rest_of_stmt}
-use Rattle.swc_ecma_parser_ast.specs.LikeChain.{like_bins, like_calls, like_exprs, like_ifs, like_links, like_members, like_stmts}
+use Rattle.swc_ecma_parser_ast.specs.Chain.{rest_of_any, rest_of_base, rest_of_callee, rest_of_else, rest_of_expr, rest_of_stmt}
+use Rattle.swc_ecma_parser_ast.specs.LikeChain.{like_bases, like_bins, like_calls, like_exprs, like_ifs, like_links, like_members, like_opt_calls, like_stmts, like_tagged}
 use Rattle.swc_ecma_parser_ast.specs.Respanned.{alike_expr, alike_stmt}
 use Rattle.swc_ecma_parser_ast.proofs.Unlike.{expr_stmt, stmt_expr}
 use Rattle.swc_ecma_parser_ast.specs.declared.branch.IfStmt.{IfStmt}
@@ -17,6 +17,9 @@ use Rattle.swc_ecma_parser_ast.specs.declared.call.CallExpr.{CallExpr}
 use Rattle.swc_ecma_parser_ast.specs.declared.call.Callee.{Callee}
 use Rattle.swc_ecma_parser_ast.specs.declared.call.Callee.TheVariants as v_callee
 use Rattle.swc_ecma_parser_ast.specs.declared.call.MemberExpr.{MemberExpr}
+use Rattle.swc_ecma_parser_ast.specs.declared.call.OptChainBase.{OptChainBase}
+use Rattle.swc_ecma_parser_ast.specs.declared.call.OptChainBase.TheVariants as v_opt_chain_base
+use Rattle.swc_ecma_parser_ast.specs.declared.call.OptChainExpr.{OptChainExpr}
 use Rattle.swc_ecma_parser_ast.specs.declared.expr.BinExpr.{BinExpr}
 use Rattle.swc_ecma_parser_ast.specs.declared.expr.Expr.{Expr}
 use Rattle.swc_ecma_parser_ast.specs.declared.expr.Expr.TheVariants as v_expr
@@ -25,6 +28,7 @@ use Rattle.swc_ecma_parser_ast.specs.declared.node.Any.TheVariants as v_any
 use Rattle.swc_ecma_parser_ast.specs.declared.node.StmtBox.{StmtBox}
 use Rattle.swc_ecma_parser_ast.specs.declared.stmt.Stmt.{Stmt}
 use Rattle.swc_ecma_parser_ast.specs.declared.stmt.Stmt.TheVariants as v_stmt
+use Rattle.swc_ecma_parser_ast.specs.declared.template.TaggedTpl.{TaggedTpl}
 use Rattle.swc_ecma_parser_common.specs.declared.span.Span.{Span}
 use Rattle.swc_ecma_parser_ast.specs.Unspanned.{like_held, no_span}
 
@@ -54,6 +58,12 @@ last_of_three true true true = refl
 last_of_three true true false = refl
 last_of_three true false true = refl
 last_of_three true false false = refl
+
+-- the part that goes on, in what stands last
+last_of_last : (s o b l e : Bool) → (b && l) ≡ e → ((s && (o && b)) && l) ≡ (s && (o && e))
+last_of_last false o b l e h = refl
+last_of_last true false b l e h = refl
+last_of_last true true b l e h = h
 
 in_order : (s t c a : Bool) → ((s && (t && c)) && a) ≡ (s && (t && (c && a)))
 in_order false t c a = refl
@@ -93,11 +103,37 @@ module _ (same_span : Span → Span → Bool) (held : Held → Held → Bool) wh
       ∙ last_of_three (same_span x.span y.span) (pointwise (like_expr_or_spread same_span held) x.args.items y.args.items) (like_callee same_span held x.callee y.callee)
   of_call x _ l r h k = refl
 
+  of_tagged : (x : TaggedTpl Held) (y : Expr Held) (l r : Held) → Some x.tag.node ≡ Some l → rest_of_expr y ≡ Some r
+      → (like_exprs same_span held (v_expr.TaggedTpl x) y && held l r) ≡ like_expr same_span held (v_expr.TaggedTpl x) y
+  of_tagged x (v_expr.TaggedTpl y) l r h k =
+      (λ i. like_tagged same_span held x y && parts x.tag.node y.tag.node l r h k i)
+      ∙ last_of_three (same_span x.span y.span) (like_tpl same_span held x.tpl.value y.tpl.value) (held x.tag.node y.tag.node)
+  of_tagged x _ l r h k = refl
+
+  of_base : (x y : OptChainBase Held) (l r : Held) → Some (rest_of_base x) ≡ Some l → Some (rest_of_base y) ≡ Some r
+      → (like_bases same_span held x y && held l r) ≡ like_opt_chain_base same_span held x y
+  of_base (v_opt_chain_base.Member x) (v_opt_chain_base.Member y) l r h k =
+      (λ i. like_members same_span held x y && parts x.obj.node y.obj.node l r h k i)
+      ∙ last_of_three (same_span x.span y.span) (like_member_prop same_span held x.prop y.prop) (held x.obj.node y.obj.node)
+  of_base (v_opt_chain_base.Call x) (v_opt_chain_base.Call y) l r h k =
+      (λ i. like_opt_calls same_span held x y && parts x.callee.node y.callee.node l r h k i)
+      ∙ last_of_three (same_span x.span y.span) (pointwise (like_expr_or_spread same_span held) x.args.items y.args.items) (held x.callee.node y.callee.node)
+  of_base _ _ l r h k = refl
+
+  of_opt_chain : (x : OptChainExpr Held) (y : Expr Held) (l r : Held) → Some (rest_of_base x.base.value) ≡ Some l → rest_of_expr y ≡ Some r
+      → (like_exprs same_span held (v_expr.OptChain x) y && held l r) ≡ like_expr same_span held (v_expr.OptChain x) y
+  of_opt_chain x (v_expr.OptChain y) l r h k =
+      last_of_last (same_span x.span y.span) (like_flag x.optional y.optional) (like_bases same_span held x.base.value y.base.value) (held l r)
+      (like_opt_chain_base same_span held x.base.value y.base.value) (of_base x.base.value y.base.value l r h k)
+  of_opt_chain x _ l r h k = refl
+
   of_expr : (x y : Expr Held) (l r : Held) → rest_of_expr x ≡ Some l → rest_of_expr y ≡ Some r
       → (like_exprs same_span held x y && held l r) ≡ like_expr same_span held x y
   of_expr (v_expr.Bin x) y l r h k = of_bin x y l r h k
   of_expr (v_expr.Member x) y l r h k = of_member x y l r h k
   of_expr (v_expr.Call x) y l r h k = of_call x y l r h k
+  of_expr (v_expr.TaggedTpl x) y l r h k = of_tagged x y l r h k
+  of_expr (v_expr.OptChain x) y l r h k = of_opt_chain x y l r h k
   of_expr _ y l r h k = no (ap is_some h)
 
   of_else : (x y : Option (StmtBox Held)) (l r : Held) → rest_of_else x ≡ Some l → rest_of_else y ≡ Some r

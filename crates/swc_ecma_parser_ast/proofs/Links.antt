@@ -2,17 +2,17 @@
 use Rattle.std.proofs.Common.{◌≡◌, refl, Bool, true, false, true≢false, ◌&&◌, ◌∙◌, sym, ap, Option, Some, None, ℕ, ◌<◌, ◌+◌, ◌*◌, ◌≤◌, max, arith}
 use Rattle.std.specs.Option.{option_eq}
 use Rattle.std.specs.Cmp.Lexicographic.{pointwise}
-use Rattle.swc_ecma_parser_model.specs.Leaf.{put_binary}
+use Rattle.swc_ecma_parser_model.specs.Leaf.{put_binary, put_bool}
 use Rattle.swc_ecma_parser_model.specs.Same.{alike}
 use Rattle.swc_ecma_parser_model.specs.Held.{Held, same_held}
 use Rattle.swc_ecma_parser_model.specs.Size.{tree_size}
 use Rattle.swc_ecma_parser_model.specs.Kinds.{is_expr}
-use Rattle.swc_ecma_parser_ast.specs.Equal.{equal_callee, equal_expr, equal_expr_or_spread, equal_member_prop, equal_span, equal_stmt}
+use Rattle.swc_ecma_parser_ast.specs.Equal.{equal_callee, equal_expr, equal_expr_or_spread, equal_member_prop, equal_opt_chain_base, equal_span, equal_stmt, equal_tpl}
 use Rattle.swc_ecma_parser_ast.specs.Nodes.{view_any}
 use Rattle.swc_ecma_parser_ast.specs.Parts.{view_option}
-use Rattle.swc_ecma_parser_ast.specs.View.{view_callee, view_expr, view_stmt}
+use Rattle.swc_ecma_parser_ast.specs.View.{view_callee, view_expr, view_opt_chain_base, view_stmt}
 use Rattle.swc_ecma_parser_ast.specs.Falls.{le_any, marked_size}
-use Rattle.swc_ecma_parser_ast.specs.Chain.{alike_bins, alike_calls, alike_exprs, alike_ifs, alike_links, alike_members, alike_stmts, rest_of_any, rest_of_callee, rest_of_else, rest_of_expr, rest_of_stmt}
+use Rattle.swc_ecma_parser_ast.specs.Chain.{alike_bases, alike_bins, alike_calls, alike_exprs, alike_ifs, alike_links, alike_members, alike_opt_calls, alike_stmts, alike_tagged, rest_of_any, rest_of_base, rest_of_callee, rest_of_else, rest_of_expr, rest_of_stmt}
 use Rattle.swc_ecma_parser_ast.proofs.Alike.{alike_expr, alike_stmt}
 use Rattle.swc_ecma_parser_ast.specs.Apart.{expr_stmt, stmt_expr}
 use Rattle.swc_ecma_parser_ast.specs.declared.branch.IfStmt.{IfStmt}
@@ -20,6 +20,9 @@ use Rattle.swc_ecma_parser_ast.specs.declared.call.CallExpr.{CallExpr}
 use Rattle.swc_ecma_parser_ast.specs.declared.call.Callee.{Callee}
 use Rattle.swc_ecma_parser_ast.specs.declared.call.Callee.TheVariants as v_callee
 use Rattle.swc_ecma_parser_ast.specs.declared.call.MemberExpr.{MemberExpr}
+use Rattle.swc_ecma_parser_ast.specs.declared.call.OptChainBase.{OptChainBase}
+use Rattle.swc_ecma_parser_ast.specs.declared.call.OptChainBase.TheVariants as v_opt_chain_base
+use Rattle.swc_ecma_parser_ast.specs.declared.call.OptChainExpr.{OptChainExpr}
 use Rattle.swc_ecma_parser_ast.specs.declared.expr.BinExpr.{BinExpr}
 use Rattle.swc_ecma_parser_ast.specs.declared.expr.Expr.{Expr}
 use Rattle.swc_ecma_parser_ast.specs.declared.expr.Expr.TheVariants as v_expr
@@ -29,6 +32,7 @@ use Rattle.swc_ecma_parser_ast.specs.declared.node.Node.TheDeep.{deep-Any}
 use Rattle.swc_ecma_parser_ast.specs.declared.node.StmtBox.{StmtBox}
 use Rattle.swc_ecma_parser_ast.specs.declared.stmt.Stmt.{Stmt}
 use Rattle.swc_ecma_parser_ast.specs.declared.stmt.Stmt.TheVariants as v_stmt
+use Rattle.swc_ecma_parser_ast.specs.declared.template.TaggedTpl.{TaggedTpl}
 
 no : {A : Type 0} → false ≡ true → A
 no p = absurd (true≢false (sym p))
@@ -60,6 +64,12 @@ last_of_three true true true = refl
 last_of_three true true false = refl
 last_of_three true false true = refl
 last_of_three true false false = refl
+
+-- the part that goes on, in what stands last
+last_of_last : (s o b l e : Bool) → (b && l) ≡ e → ((s && (o && b)) && l) ≡ (s && (o && e))
+last_of_last false o b l e h = refl
+last_of_last true false b l e h = refl
+last_of_last true true b l e h = h
 
 in_order : (s t c a : Bool) → ((s && (t && c)) && a) ≡ (s && (t && (c && a)))
 in_order false t c a = refl
@@ -94,11 +104,37 @@ of_call x (v_expr.Call y) l r h k =
     ∙ last_of_three (equal_span x.span y.span) (pointwise (equal_expr_or_spread same_held) x.args.items y.args.items) (equal_callee same_held x.callee y.callee)
 of_call x _ l r h k = refl
 
+of_tagged : (x : TaggedTpl Held) (y : Expr Held) (l r : Held) → Some x.tag.node ≡ Some l → rest_of_expr y ≡ Some r
+    → (alike_exprs same_held (v_expr.TaggedTpl x) y && same_held l r) ≡ equal_expr same_held (v_expr.TaggedTpl x) y
+of_tagged x (v_expr.TaggedTpl y) l r h k =
+    (λ i. alike_tagged same_held x y && parts x.tag.node y.tag.node l r h k i)
+    ∙ last_of_three (equal_span x.span y.span) (equal_tpl same_held x.tpl.value y.tpl.value) (same_held x.tag.node y.tag.node)
+of_tagged x _ l r h k = refl
+
+of_base : (x y : OptChainBase Held) (l r : Held) → Some (rest_of_base x) ≡ Some l → Some (rest_of_base y) ≡ Some r
+    → (alike_bases same_held x y && same_held l r) ≡ equal_opt_chain_base same_held x y
+of_base (v_opt_chain_base.Member x) (v_opt_chain_base.Member y) l r h k =
+    (λ i. alike_members same_held x y && parts x.obj.node y.obj.node l r h k i)
+    ∙ last_of_three (equal_span x.span y.span) (equal_member_prop same_held x.prop y.prop) (same_held x.obj.node y.obj.node)
+of_base (v_opt_chain_base.Call x) (v_opt_chain_base.Call y) l r h k =
+    (λ i. alike_opt_calls same_held x y && parts x.callee.node y.callee.node l r h k i)
+    ∙ last_of_three (equal_span x.span y.span) (pointwise (equal_expr_or_spread same_held) x.args.items y.args.items) (same_held x.callee.node y.callee.node)
+of_base _ _ l r h k = refl
+
+of_opt_chain : (x : OptChainExpr Held) (y : Expr Held) (l r : Held) → Some (rest_of_base x.base.value) ≡ Some l → rest_of_expr y ≡ Some r
+    → (alike_exprs same_held (v_expr.OptChain x) y && same_held l r) ≡ equal_expr same_held (v_expr.OptChain x) y
+of_opt_chain x (v_expr.OptChain y) l r h k =
+    last_of_last (equal_span x.span y.span) (alike (put_bool x.optional) (put_bool y.optional)) (alike_bases same_held x.base.value y.base.value) (same_held l r)
+    (equal_opt_chain_base same_held x.base.value y.base.value) (of_base x.base.value y.base.value l r h k)
+of_opt_chain x _ l r h k = refl
+
 of_expr : (x y : Expr Held) (l r : Held) → rest_of_expr x ≡ Some l → rest_of_expr y ≡ Some r
     → (alike_exprs same_held x y && same_held l r) ≡ equal_expr same_held x y
 of_expr (v_expr.Bin x) y l r h k = of_bin x y l r h k
 of_expr (v_expr.Member x) y l r h k = of_member x y l r h k
 of_expr (v_expr.Call x) y l r h k = of_call x y l r h k
+of_expr (v_expr.TaggedTpl x) y l r h k = of_tagged x y l r h k
+of_expr (v_expr.OptChain x) y l r h k = of_opt_chain x y l r h k
 of_expr _ y l r h k = no (ap is_some h)
 
 of_else : (x y : Option (StmtBox Held)) (l r : Held) → rest_of_else x ≡ Some l → rest_of_else y ≡ Some r
@@ -158,10 +194,16 @@ fits_else : (x : Option (StmtBox Held)) → part_size (rest_of_else x) ≤ 1 + t
 fits_else (Some x) = omega arith
 fits_else None = omega arith
 
+fits_base : (x : OptChainBase Held) → tree_size (rest_of_base x).tree ≤ tree_size (view_opt_chain_base x)
+fits_base (v_opt_chain_base.Member x) = omega arith
+fits_base (v_opt_chain_base.Call x) = omega (arith, marked_size (is_expr x.callee.node.tree) x.callee.node.tree)
+
 fits_expr : (x : Expr Held) → part_size (rest_of_expr x) ≤ tree_size (view_expr x)
 fits_expr (v_expr.Bin x) = omega arith
 fits_expr (v_expr.Member x) = omega arith
 fits_expr (v_expr.Call x) = omega (arith, fits_callee x.callee)
+fits_expr (v_expr.TaggedTpl x) = omega arith
+fits_expr (v_expr.OptChain x) = omega (arith, fits_base x.base.value)
 fits_expr _ = omega arith
 
 fits_stmt : (x : Stmt Held) → part_size (rest_of_stmt x) ≤ tree_size (view_stmt x)

@@ -38,12 +38,17 @@ kind_expr (v_expr.Lit (v_lit.Bool _)) = refl
 kind_expr (v_expr.Lit (v_lit.Null _)) = refl
 kind_expr (v_expr.Lit (v_lit.Num _)) = refl
 kind_expr (v_expr.Lit (v_lit.BigInt _)) = refl
+kind_expr (v_expr.Lit (v_lit.Regex _)) = refl
 kind_expr (v_expr.Arrow _) = refl
 kind_expr (v_expr.Class _) = refl
 kind_expr (v_expr.Yield _) = refl
 kind_expr (v_expr.MetaProp _) = refl
 kind_expr (v_expr.Await _) = refl
 kind_expr (v_expr.Paren _) = refl
+kind_expr (v_expr.Tpl _) = refl
+kind_expr (v_expr.TaggedTpl _) = refl
+kind_expr (v_expr.OptChain _) = refl
+kind_expr (v_expr.PrivateName _) = refl
 kind_expr (v_expr.Invalid _) = refl
 
 -- each is of its kind
@@ -102,12 +107,17 @@ not_stmt_expr (v_expr.Lit (v_lit.Bool _)) = refl
 not_stmt_expr (v_expr.Lit (v_lit.Null _)) = refl
 not_stmt_expr (v_expr.Lit (v_lit.Num _)) = refl
 not_stmt_expr (v_expr.Lit (v_lit.BigInt _)) = refl
+not_stmt_expr (v_expr.Lit (v_lit.Regex _)) = refl
 not_stmt_expr (v_expr.Arrow _) = refl
 not_stmt_expr (v_expr.Class _) = refl
 not_stmt_expr (v_expr.Yield _) = refl
 not_stmt_expr (v_expr.MetaProp _) = refl
 not_stmt_expr (v_expr.Await _) = refl
 not_stmt_expr (v_expr.Paren _) = refl
+not_stmt_expr (v_expr.Tpl _) = refl
+not_stmt_expr (v_expr.TaggedTpl _) = refl
+not_stmt_expr (v_expr.OptChain _) = refl
+not_stmt_expr (v_expr.PrivateName _) = refl
 not_stmt_expr (v_expr.Invalid _) = refl
 
 pub stmt_expr : (x : Stmt Held) (y : Expr Held) → same (view_stmt x) (view_expr y) ≡ false
@@ -134,12 +144,17 @@ not_pat_expr (v_expr.Lit (v_lit.Bool _)) = refl
 not_pat_expr (v_expr.Lit (v_lit.Null _)) = refl
 not_pat_expr (v_expr.Lit (v_lit.Num _)) = refl
 not_pat_expr (v_expr.Lit (v_lit.BigInt _)) = refl
+not_pat_expr (v_expr.Lit (v_lit.Regex _)) = refl
 not_pat_expr (v_expr.Arrow _) = refl
 not_pat_expr (v_expr.Class _) = refl
 not_pat_expr (v_expr.Yield _) = refl
 not_pat_expr (v_expr.MetaProp _) = refl
 not_pat_expr (v_expr.Await _) = refl
 not_pat_expr (v_expr.Paren _) = refl
+not_pat_expr (v_expr.Tpl _) = refl
+not_pat_expr (v_expr.TaggedTpl _) = refl
+not_pat_expr (v_expr.OptChain _) = refl
+not_pat_expr (v_expr.PrivateName _) = refl
 not_pat_expr (v_expr.Invalid _) = refl
 
 pub pat_expr : (x : Pat Held) (y : Expr Held) → same (view_pat x) (view_expr y) ≡ false

@@ -13,6 +13,8 @@ use Rattle.swc_ecma_parser_model.specs.declared.leaves.Null.{Null}
 use Rattle.swc_ecma_parser_model.specs.declared.leaves.Number.{Number}
 use Rattle.swc_ecma_parser_model.specs.declared.leaves.BigInt.{BigInt}
 use Rattle.swc_ecma_parser_model.specs.declared.leaves.PrivateName.{PrivateName}
+use Rattle.swc_ecma_parser_model.specs.declared.leaves.Regex.{Regex}
+use Rattle.swc_ecma_parser_model.specs.declared.leaves.TplElement.{TplElement}
 use Rattle.swc_ecma_parser_ast.specs.declared.expr.ThisExpr.{ThisExpr}
 use Rattle.swc_ecma_parser_ast.specs.declared.call.ExprOrSpread.{ExprOrSpread}
 use Rattle.swc_ecma_parser_ast.specs.declared.object.ArrayLit.{ArrayLit}
@@ -71,6 +73,12 @@ use Rattle.swc_ecma_parser_ast.specs.declared.call.Callee.{Callee}
 use Rattle.swc_ecma_parser_ast.specs.declared.call.Callee.TheVariants as v_callee
 use Rattle.swc_ecma_parser_ast.specs.declared.call.CallExpr.{CallExpr}
 use Rattle.swc_ecma_parser_ast.specs.declared.call.NewExpr.{NewExpr}
+use Rattle.swc_ecma_parser_ast.specs.declared.call.OptCall.{OptCall}
+use Rattle.swc_ecma_parser_ast.specs.declared.call.OptChainBase.{OptChainBase}
+use Rattle.swc_ecma_parser_ast.specs.declared.call.OptChainBase.TheVariants as v_opt_chain_base
+use Rattle.swc_ecma_parser_ast.specs.declared.call.OptChainExpr.{OptChainExpr}
+use Rattle.swc_ecma_parser_ast.specs.declared.template.Tpl.{Tpl}
+use Rattle.swc_ecma_parser_ast.specs.declared.template.TaggedTpl.{TaggedTpl}
 use Rattle.swc_ecma_parser_ast.specs.declared.expr.SeqExpr.{SeqExpr}
 use Rattle.swc_ecma_parser_ast.specs.declared.expr.Lit.{Lit}
 use Rattle.swc_ecma_parser_ast.specs.declared.expr.Lit.TheVariants as v_lit
@@ -185,6 +193,12 @@ equal_big_int x y = equal_span x.span y.span && equal_text x.raw y.raw
 abbrev pub equal_private_name : PrivateName → PrivateName → Bool
 equal_private_name x y = equal_span x.span y.span && (equal_span x.id.span y.id.span && equal_text x.id.sym y.id.sym)
 
+abbrev pub equal_regex : Regex → Regex → Bool
+equal_regex x y = equal_span x.span y.span && (equal_text x.exp y.exp && equal_text x.flags y.flags)
+
+abbrev pub equal_tpl_element : TplElement → TplElement → Bool
+equal_tpl_element x y = equal_span x.span y.span && (alike (put_bool x.tail) (put_bool y.tail) && (alike (put_option x.cooked) (put_option y.cooked) && equal_text x.raw y.raw))
+
 abbrev pub equal_this_expr : ThisExpr → ThisExpr → Bool
 equal_this_expr x y = equal_span x.span y.span
 
@@ -206,6 +220,7 @@ equal_lit (v_lit.Bool x) (v_lit.Bool y) = equal_bool x y
 equal_lit (v_lit.Null x) (v_lit.Null y) = equal_null x y
 equal_lit (v_lit.Num x) (v_lit.Num y) = equal_number x y
 equal_lit (v_lit.BigInt x) (v_lit.BigInt y) = equal_big_int x y
+equal_lit (v_lit.Regex x) (v_lit.Regex y) = equal_regex x y
 equal_lit _ _ = false
 
 abbrev pub equal_empty_stmt : EmptyStmt → EmptyStmt → Bool
@@ -424,6 +439,23 @@ module _ {N : Type 0} (equal : N → N → Bool) where
   abbrev pub equal_new_expr : NewExpr N → NewExpr N → Bool
   equal_new_expr x y = equal_span x.span y.span && (equal x.callee.node y.callee.node && option_eq (λ v w. pointwise equal_expr_or_spread v.items w.items) x.args y.args)
 
+  abbrev pub equal_opt_call : OptCall N → OptCall N → Bool
+  equal_opt_call x y = equal_span x.span y.span && (equal x.callee.node y.callee.node && pointwise equal_expr_or_spread x.args.items y.args.items)
+
+  abbrev pub equal_opt_chain_base : OptChainBase N → OptChainBase N → Bool
+  equal_opt_chain_base (v_opt_chain_base.Member x) (v_opt_chain_base.Member y) = equal_member_expr x y
+  equal_opt_chain_base (v_opt_chain_base.Call x) (v_opt_chain_base.Call y) = equal_opt_call x y
+  equal_opt_chain_base _ _ = false
+
+  abbrev pub equal_opt_chain_expr : OptChainExpr N → OptChainExpr N → Bool
+  equal_opt_chain_expr x y = equal_span x.span y.span && (alike (put_bool x.optional) (put_bool y.optional) && equal_opt_chain_base x.base.value y.base.value)
+
+  abbrev pub equal_tpl : Tpl N → Tpl N → Bool
+  equal_tpl x y = equal_span x.span y.span && (pointwise (λ a b. equal a.node b.node) x.exprs.items y.exprs.items && pointwise equal_tpl_element x.quasis.items y.quasis.items)
+
+  abbrev pub equal_tagged_tpl : TaggedTpl N → TaggedTpl N → Bool
+  equal_tagged_tpl x y = equal_span x.span y.span && (equal x.tag.node y.tag.node && equal_tpl x.tpl.value y.tpl.value)
+
   abbrev pub equal_seq_expr : SeqExpr N → SeqExpr N → Bool
   equal_seq_expr x y = equal_span x.span y.span && pointwise (λ a b. equal a.node b.node) x.exprs.items y.exprs.items
 
@@ -510,6 +542,10 @@ module _ {N : Type 0} (equal : N → N → Bool) where
   equal_expr (v_expr.MetaProp x) (v_expr.MetaProp y) = equal_meta_prop_expr x y
   equal_expr (v_expr.Await x) (v_expr.Await y) = equal_await_expr x y
   equal_expr (v_expr.Paren x) (v_expr.Paren y) = equal_paren_expr x y
+  equal_expr (v_expr.Tpl x) (v_expr.Tpl y) = equal_tpl x y
+  equal_expr (v_expr.TaggedTpl x) (v_expr.TaggedTpl y) = equal_tagged_tpl x y
+  equal_expr (v_expr.OptChain x) (v_expr.OptChain y) = equal_opt_chain_expr x y
+  equal_expr (v_expr.PrivateName x) (v_expr.PrivateName y) = equal_private_name x y
   equal_expr (v_expr.Invalid x) (v_expr.Invalid y) = equal_invalid x y
   equal_expr _ _ = false
 

@@ -17,6 +17,8 @@ use Rattle.swc_ecma_parser_ast.specs.declared.expr.Expr.{Expr}
 use Rattle.swc_ecma_parser_ast.specs.declared.expr.Expr.TheVariants as e
 use Rattle.swc_ecma_parser_ast.specs.declared.call.Callee.{Callee}
 use Rattle.swc_ecma_parser_ast.specs.declared.call.Callee.TheVariants as c
+use Rattle.swc_ecma_parser_ast.specs.declared.call.OptChainBase.{OptChainBase}
+use Rattle.swc_ecma_parser_ast.specs.declared.call.OptChainBase.TheVariants as n
 use Rattle.swc_ecma_parser_ast.specs.declared.pat.Pat.{Pat}
 use Rattle.swc_ecma_parser_ast.specs.declared.pat.Pat.TheVariants as v
 use Rattle.swc_ecma_parser_model.specs.declared.operators.AssignOp.{AssignOp}
@@ -38,6 +40,7 @@ use denote.RawPtr.{null_ptr}
 use Rattle.swc_ecma_parser_ast.specs.declared.node.Any.{Any}
 use Rattle.swc_ecma_parser_ast.specs.declared.node.Any.TheVariants as a
 use Rattle.swc_ecma_parser_ast.specs.declared.node.ExprBox.{ExprBox}
+use Rattle.swc_ecma_parser_ast.specs.declared.template.Tpl.{Tpl}
 use Rattle.swc_ecma_parser_model.specs.declared.leaves.Ident.{Ident}
 use Rattle.swc_ecma_parser_ast.specs.declared.function.Param.{Param}
 use Rattle.swc_ecma_parser_ast.specs.declared.function.Function.{Function}
@@ -145,6 +148,20 @@ le_new : (p : _) (g : Global) (s : Span) (b : ExprBox Node) (o : _) → Fits p g
 le_new p g s b None = omega arith
 le_new p g s b (Some xs) = last (last (last (past (both (omega arith) (last (last (below view_expr_or_spread (λ y. omega arith) xs.items (omega arith))))))))
 
+le_opt_chain : (p : _) (g : Global) (s : Span) (o : Bool) (q : _) (h : Global) (b : OptChainBase Node)
+    → Fits p g (e.OptChain (record { span = s; optional = o; base = boxed q h b }))
+le_opt_chain p g s o q h (n.Member x) = Prim.grind arith
+le_opt_chain p g s o q h (n.Call x) =
+    last (last (last (past (past (last (last (past (both (omega (arith, marked_size (is_expr x.callee.node.tree) x.callee.node.tree)) (last (below view_expr_or_spread (λ y. omega arith) x.args.items (omega arith)))))))))))
+
+le_tpl : (p : _) (g : Global) (x : Tpl Node) → Fits p g (e.Tpl x)
+le_tpl p g x = last (last (last (past (both (below (λ b. b.node.tree) (λ y. omega arith) x.exprs.items (omega arith)) (omega arith)))))
+
+le_tagged : (p : _) (g : Global) (s : Span) (b : ExprBox Node) (q : _) (h : Global) (t : Tpl Node)
+    → Fits p g (e.TaggedTpl (record { span = s; tag = b; tpl = boxed q h t }))
+le_tagged p g s b q h t =
+    last (last (last (past (both (omega arith) (last (past (both (below (λ b. b.node.tree) (λ y. omega arith) t.exprs.items (omega arith)) (omega arith))))))))
+
 le_assign : (p : _) (g : Global) (s : Span) (o : AssignOp) (q : _) (h : Global) (t : AssignTarget Node) (r : ExprBox Node)
     → Fits p g (e.Assign (record { span = s; op = o; left = boxed q h t; right = r }))
 le_assign p g s o q h (t.Simple x) r = Prim.grind arith
@@ -184,6 +201,10 @@ le_expr p g (e.SuperProp x) = Prim.grind arith
 le_expr p g (e.Cond x) = omega arith
 le_expr p g (e.Call x) = le_call p g x.span x.callee x.args
 le_expr p g (e.New x) = le_new p g x.span x.callee x.args
+le_expr p g (e.Tpl x) = le_tpl p g x
+le_expr p g (e.TaggedTpl x) = le_tagged p g x.span x.tag x.tpl.ptr x.tpl.alloc x.tpl.value
+le_expr p g (e.OptChain x) = le_opt_chain p g x.span x.optional x.base.ptr x.base.alloc x.base.value
+le_expr p g (e.PrivateName x) = omega arith
 le_expr p g (e.Seq x) = last (last (last (past (last (below (λ b. b.node.tree) (λ y. omega arith) x.exprs.items (omega arith))))))
 le_expr p g (e.Ident x) = omega arith
 le_expr p g (e.Lit x) = omega arith

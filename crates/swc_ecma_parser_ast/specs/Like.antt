@@ -13,6 +13,8 @@ use Rattle.swc_ecma_parser_model.specs.declared.leaves.Null.{Null}
 use Rattle.swc_ecma_parser_model.specs.declared.leaves.Number.{Number}
 use Rattle.swc_ecma_parser_model.specs.declared.leaves.BigInt.{BigInt}
 use Rattle.swc_ecma_parser_model.specs.declared.leaves.PrivateName.{PrivateName}
+use Rattle.swc_ecma_parser_model.specs.declared.leaves.Regex.{Regex}
+use Rattle.swc_ecma_parser_model.specs.declared.leaves.TplElement.{TplElement}
 use Rattle.swc_ecma_parser_ast.specs.declared.expr.ThisExpr.{ThisExpr}
 use Rattle.swc_ecma_parser_ast.specs.declared.call.ExprOrSpread.{ExprOrSpread}
 use Rattle.swc_ecma_parser_ast.specs.declared.object.ArrayLit.{ArrayLit}
@@ -71,6 +73,12 @@ use Rattle.swc_ecma_parser_ast.specs.declared.call.Callee.{Callee}
 use Rattle.swc_ecma_parser_ast.specs.declared.call.Callee.TheVariants as v_callee
 use Rattle.swc_ecma_parser_ast.specs.declared.call.CallExpr.{CallExpr}
 use Rattle.swc_ecma_parser_ast.specs.declared.call.NewExpr.{NewExpr}
+use Rattle.swc_ecma_parser_ast.specs.declared.call.OptCall.{OptCall}
+use Rattle.swc_ecma_parser_ast.specs.declared.call.OptChainBase.{OptChainBase}
+use Rattle.swc_ecma_parser_ast.specs.declared.call.OptChainBase.TheVariants as v_opt_chain_base
+use Rattle.swc_ecma_parser_ast.specs.declared.call.OptChainExpr.{OptChainExpr}
+use Rattle.swc_ecma_parser_ast.specs.declared.template.Tpl.{Tpl}
+use Rattle.swc_ecma_parser_ast.specs.declared.template.TaggedTpl.{TaggedTpl}
 use Rattle.swc_ecma_parser_ast.specs.declared.expr.SeqExpr.{SeqExpr}
 use Rattle.swc_ecma_parser_ast.specs.declared.expr.Lit.{Lit}
 use Rattle.swc_ecma_parser_ast.specs.declared.expr.Lit.TheVariants as v_lit
@@ -190,6 +198,12 @@ module _ (same_span : Span → Span → Bool) where
   abbrev pub like_private_name : PrivateName → PrivateName → Bool
   like_private_name x y = same_span x.span y.span && (same_span x.id.span y.id.span && like_text x.id.sym y.id.sym)
 
+  abbrev pub like_regex : Regex → Regex → Bool
+  like_regex x y = same_span x.span y.span && (like_text x.exp y.exp && like_text x.flags y.flags)
+
+  abbrev pub like_tpl_element : TplElement → TplElement → Bool
+  like_tpl_element x y = same_span x.span y.span && (like_flag x.tail y.tail && (option_eq like_text x.cooked y.cooked && like_text x.raw y.raw))
+
   abbrev pub like_this_expr : ThisExpr → ThisExpr → Bool
   like_this_expr x y = same_span x.span y.span
 
@@ -211,6 +225,7 @@ module _ (same_span : Span → Span → Bool) where
   like_lit (v_lit.Null x) (v_lit.Null y) = like_null x y
   like_lit (v_lit.Num x) (v_lit.Num y) = like_number x y
   like_lit (v_lit.BigInt x) (v_lit.BigInt y) = like_big_int x y
+  like_lit (v_lit.Regex x) (v_lit.Regex y) = like_regex x y
   like_lit _ _ = false
 
   abbrev pub like_empty_stmt : EmptyStmt → EmptyStmt → Bool
@@ -429,6 +444,23 @@ module _ (same_span : Span → Span → Bool) where
     abbrev pub like_new_expr : NewExpr N → NewExpr N → Bool
     like_new_expr x y = same_span x.span y.span && (like x.callee.node y.callee.node && option_eq (λ v w. pointwise like_expr_or_spread v.items w.items) x.args y.args)
 
+    abbrev pub like_opt_call : OptCall N → OptCall N → Bool
+    like_opt_call x y = same_span x.span y.span && (like x.callee.node y.callee.node && pointwise like_expr_or_spread x.args.items y.args.items)
+
+    abbrev pub like_opt_chain_base : OptChainBase N → OptChainBase N → Bool
+    like_opt_chain_base (v_opt_chain_base.Member x) (v_opt_chain_base.Member y) = like_member_expr x y
+    like_opt_chain_base (v_opt_chain_base.Call x) (v_opt_chain_base.Call y) = like_opt_call x y
+    like_opt_chain_base _ _ = false
+
+    abbrev pub like_opt_chain_expr : OptChainExpr N → OptChainExpr N → Bool
+    like_opt_chain_expr x y = same_span x.span y.span && (like_flag x.optional y.optional && like_opt_chain_base x.base.value y.base.value)
+
+    abbrev pub like_tpl : Tpl N → Tpl N → Bool
+    like_tpl x y = same_span x.span y.span && (pointwise (λ a b. like a.node b.node) x.exprs.items y.exprs.items && pointwise like_tpl_element x.quasis.items y.quasis.items)
+
+    abbrev pub like_tagged_tpl : TaggedTpl N → TaggedTpl N → Bool
+    like_tagged_tpl x y = same_span x.span y.span && (like x.tag.node y.tag.node && like_tpl x.tpl.value y.tpl.value)
+
     abbrev pub like_seq_expr : SeqExpr N → SeqExpr N → Bool
     like_seq_expr x y = same_span x.span y.span && pointwise (λ a b. like a.node b.node) x.exprs.items y.exprs.items
 
@@ -515,6 +547,10 @@ module _ (same_span : Span → Span → Bool) where
     like_expr (v_expr.MetaProp x) (v_expr.MetaProp y) = like_meta_prop_expr x y
     like_expr (v_expr.Await x) (v_expr.Await y) = like_await_expr x y
     like_expr (v_expr.Paren x) (v_expr.Paren y) = like_paren_expr x y
+    like_expr (v_expr.Tpl x) (v_expr.Tpl y) = like_tpl x y
+    like_expr (v_expr.TaggedTpl x) (v_expr.TaggedTpl y) = like_tagged_tpl x y
+    like_expr (v_expr.OptChain x) (v_expr.OptChain y) = like_opt_chain_expr x y
+    like_expr (v_expr.PrivateName x) (v_expr.PrivateName y) = like_private_name x y
     like_expr (v_expr.Invalid x) (v_expr.Invalid y) = like_invalid x y
     like_expr _ _ = false
 

@@ -52,12 +52,17 @@ there_expr (v_expr.Lit (v_lit.Bool x)) = tt
 there_expr (v_expr.Lit (v_lit.Null x)) = tt
 there_expr (v_expr.Lit (v_lit.Num x)) = tt
 there_expr (v_expr.Lit (v_lit.BigInt x)) = tt
+there_expr (v_expr.Lit (v_lit.Regex x)) = tt
 there_expr (v_expr.Arrow x) = tt
 there_expr (v_expr.Class x) = tt
 there_expr (v_expr.Yield x) = tt
 there_expr (v_expr.MetaProp x) = tt
 there_expr (v_expr.Await x) = tt
 there_expr (v_expr.Paren x) = tt
+there_expr (v_expr.Tpl x) = tt
+there_expr (v_expr.TaggedTpl x) = tt
+there_expr (v_expr.OptChain x) = tt
+there_expr (v_expr.PrivateName x) = tt
 there_expr (v_expr.Invalid x) = tt
 
 pub there_expr_or_spread : (x : ExprOrSpread Held) → There (view_expr_or_spread x)

@@ -14,9 +14,10 @@ use Rattle.swc_ecma_parser_model.specs.Code.{codes}
 use Rattle.swc_ecma_parser_model.specs.Same.{same, alike}
 use Rattle.swc_ecma_parser_model.specs.Held.{Held, There, held_absent, absent_held}
 use Rattle.swc_ecma_parser_ast.specs.Nodes.{there_block_stmt, there_catch_clause, there_expr_or_spread, there_pat, there_var_decl_or_expr}
-use Rattle.swc_ecma_parser_ast.specs.Like.{like_ident, like_private_name, like_this_expr, like_expr_or_spread, like_array_lit, like_spread_element, like_computed_prop_name, like_prop_name, like_key_value_prop, like_assign_prop, like_block_stmt, like_getter_prop, like_binding_ident, like_array_pat, like_rest_pat, like_key_value_pat_prop, like_assign_pat_prop, like_object_pat_prop, like_object_pat, like_assign_pat, like_invalid, like_pat, like_setter_prop, like_decorator, like_param, like_function, like_method_prop, like_prop, like_prop_or_spread, like_object_lit, like_fn_expr, like_unary_expr, like_update_expr, like_bin_expr, like_member_prop, like_member_expr, like_super, like_super_prop, like_super_prop_expr, like_paren_expr, like_simple_assign_target, like_assign_target_pat, like_assign_target, like_assign_expr, like_cond_expr, like_import, like_callee, like_call_expr, like_new_expr, like_seq_expr, like_lit, like_block_stmt_or_expr, like_arrow_expr, like_param_or_ts_param_prop, like_constructor, like_class_method, like_private_method, like_class_prop, like_private_prop, like_empty_stmt, like_static_block, like_key, like_auto_accessor, like_class_member, like_class, like_class_expr, like_yield_expr, like_meta_prop_expr, like_await_expr, like_expr, like_class_decl, like_fn_decl, like_declarator, like_var_decl, like_using_decl, like_decl, like_debugger_stmt, like_with_stmt, like_return_stmt, like_labeled_stmt, like_break_stmt, like_continue_stmt, like_if_stmt, like_switch_case, like_switch_stmt, like_throw_stmt, like_catch_clause, like_try_stmt, like_while_stmt, like_do_while_stmt, like_var_decl_or_expr, like_for_stmt, like_for_head, like_for_in_stmt, like_for_of_stmt, like_expr_stmt, like_stmt, like_stmts, like_flag, like_text}
-use Rattle.swc_ecma_parser_ast.specs.View.{view_ident, view_this_expr, view_expr_or_spread, view_array_lit, view_spread_element, view_computed_prop_name, view_prop_name, view_key_value_prop, view_assign_prop, view_block_stmt, view_getter_prop, view_binding_ident, view_array_pat, view_rest_pat, view_key_value_pat_prop, view_assign_pat_prop, view_object_pat_prop, view_object_pat, view_assign_pat, view_invalid, view_pat, view_setter_prop, view_decorator, view_param, view_function, view_method_prop, view_prop, view_prop_or_spread, view_object_lit, view_fn_expr, view_unary_expr, view_update_expr, view_bin_expr, view_member_prop, view_member_expr, view_super, view_super_prop, view_super_prop_expr, view_paren_expr, view_simple_assign_target, view_assign_target_pat, view_assign_target, view_assign_expr, view_cond_expr, view_import, view_callee, view_call_expr, view_new_expr, view_seq_expr, view_lit, view_block_stmt_or_expr, view_arrow_expr, view_param_or_ts_param_prop, view_constructor, view_class_method, view_private_method, view_class_prop, view_private_prop, view_empty_stmt, view_static_block, view_key, view_auto_accessor, view_class_member, view_class, view_class_expr, view_yield_expr, view_meta_prop_expr, view_await_expr, view_expr, view_class_decl, view_fn_decl, view_declarator, view_var_decl, view_using_decl, view_decl, view_debugger_stmt, view_with_stmt, view_return_stmt, view_labeled_stmt, view_break_stmt, view_continue_stmt, view_if_stmt, view_switch_case, view_switch_stmt, view_throw_stmt, view_catch_clause, view_try_stmt, view_while_stmt, view_do_while_stmt, view_var_decl_or_expr, view_for_stmt, view_for_head, view_for_in_stmt, view_for_of_stmt, view_expr_stmt, view_stmt}
+use Rattle.swc_ecma_parser_ast.specs.Like.{like_ident, like_private_name, like_this_expr, like_expr_or_spread, like_array_lit, like_spread_element, like_computed_prop_name, like_prop_name, like_key_value_prop, like_assign_prop, like_block_stmt, like_getter_prop, like_binding_ident, like_array_pat, like_rest_pat, like_key_value_pat_prop, like_assign_pat_prop, like_object_pat_prop, like_object_pat, like_assign_pat, like_invalid, like_pat, like_setter_prop, like_decorator, like_param, like_function, like_method_prop, like_prop, like_prop_or_spread, like_object_lit, like_fn_expr, like_unary_expr, like_update_expr, like_bin_expr, like_member_prop, like_member_expr, like_super, like_super_prop, like_super_prop_expr, like_paren_expr, like_simple_assign_target, like_assign_target_pat, like_assign_target, like_assign_expr, like_cond_expr, like_import, like_callee, like_call_expr, like_new_expr, like_tpl_element, like_opt_call, like_opt_chain_base, like_opt_chain_expr, like_tpl, like_tagged_tpl, like_seq_expr, like_lit, like_block_stmt_or_expr, like_arrow_expr, like_param_or_ts_param_prop, like_constructor, like_class_method, like_private_method, like_class_prop, like_private_prop, like_empty_stmt, like_static_block, like_key, like_auto_accessor, like_class_member, like_class, like_class_expr, like_yield_expr, like_meta_prop_expr, like_await_expr, like_expr, like_class_decl, like_fn_decl, like_declarator, like_var_decl, like_using_decl, like_decl, like_debugger_stmt, like_with_stmt, like_return_stmt, like_labeled_stmt, like_break_stmt, like_continue_stmt, like_if_stmt, like_switch_case, like_switch_stmt, like_throw_stmt, like_catch_clause, like_try_stmt, like_while_stmt, like_do_while_stmt, like_var_decl_or_expr, like_for_stmt, like_for_head, like_for_in_stmt, like_for_of_stmt, like_expr_stmt, like_stmt, like_stmts, like_flag, like_text}
+use Rattle.swc_ecma_parser_ast.specs.View.{view_ident, view_this_expr, view_expr_or_spread, view_array_lit, view_spread_element, view_computed_prop_name, view_prop_name, view_key_value_prop, view_assign_prop, view_block_stmt, view_getter_prop, view_binding_ident, view_array_pat, view_rest_pat, view_key_value_pat_prop, view_assign_pat_prop, view_object_pat_prop, view_object_pat, view_assign_pat, view_invalid, view_pat, view_setter_prop, view_decorator, view_param, view_function, view_method_prop, view_prop, view_prop_or_spread, view_object_lit, view_fn_expr, view_unary_expr, view_update_expr, view_bin_expr, view_member_prop, view_member_expr, view_super, view_super_prop, view_super_prop_expr, view_paren_expr, view_simple_assign_target, view_assign_target_pat, view_assign_target, view_assign_expr, view_cond_expr, view_import, view_callee, view_call_expr, view_new_expr, view_tpl_element, view_opt_call, view_opt_chain_base, view_opt_chain_expr, view_tpl, view_tagged_tpl, view_seq_expr, view_lit, view_block_stmt_or_expr, view_arrow_expr, view_param_or_ts_param_prop, view_constructor, view_class_method, view_private_method, view_class_prop, view_private_prop, view_empty_stmt, view_static_block, view_key, view_auto_accessor, view_class_member, view_class, view_class_expr, view_yield_expr, view_meta_prop_expr, view_await_expr, view_expr, view_class_decl, view_fn_decl, view_declarator, view_var_decl, view_using_decl, view_decl, view_debugger_stmt, view_with_stmt, view_return_stmt, view_labeled_stmt, view_break_stmt, view_continue_stmt, view_if_stmt, view_switch_case, view_switch_stmt, view_throw_stmt, view_catch_clause, view_try_stmt, view_while_stmt, view_do_while_stmt, view_var_decl_or_expr, view_for_stmt, view_for_head, view_for_in_stmt, view_for_of_stmt, view_expr_stmt, view_stmt}
 use Rattle.swc_ecma_parser_ast.specs.Differ.{alike_as_expr, as_expr_other, other_as_expr}
+use Rattle.swc_ecma_parser_model.specs.declared.leaves.TplElement.{TplElement}
 use Rattle.swc_ecma_parser_ast.specs.declared.expr.ThisExpr.{ThisExpr}
 use Rattle.swc_ecma_parser_ast.specs.declared.call.ExprOrSpread.{ExprOrSpread}
 use Rattle.swc_ecma_parser_ast.specs.declared.object.ArrayLit.{ArrayLit}
@@ -75,6 +76,12 @@ use Rattle.swc_ecma_parser_ast.specs.declared.call.Callee.{Callee}
 use Rattle.swc_ecma_parser_ast.specs.declared.call.Callee.TheVariants as v_callee
 use Rattle.swc_ecma_parser_ast.specs.declared.call.CallExpr.{CallExpr}
 use Rattle.swc_ecma_parser_ast.specs.declared.call.NewExpr.{NewExpr}
+use Rattle.swc_ecma_parser_ast.specs.declared.call.OptCall.{OptCall}
+use Rattle.swc_ecma_parser_ast.specs.declared.call.OptChainBase.{OptChainBase}
+use Rattle.swc_ecma_parser_ast.specs.declared.call.OptChainBase.TheVariants as v_opt_chain_base
+use Rattle.swc_ecma_parser_ast.specs.declared.call.OptChainExpr.{OptChainExpr}
+use Rattle.swc_ecma_parser_ast.specs.declared.template.Tpl.{Tpl}
+use Rattle.swc_ecma_parser_ast.specs.declared.template.TaggedTpl.{TaggedTpl}
 use Rattle.swc_ecma_parser_ast.specs.declared.expr.SeqExpr.{SeqExpr}
 use Rattle.swc_ecma_parser_ast.specs.declared.expr.Lit.{Lit}
 use Rattle.swc_ecma_parser_ast.specs.declared.expr.Lit.TheVariants as v_lit
@@ -415,6 +422,26 @@ module _ (f : Span → Span) where
   pub alike_new_expr : (x y : NewExpr Held) → like_new_expr same_span held x y ≡ like (view_new_expr x) (view_new_expr y)
   alike_new_expr x y = λ k. same_span x.span y.span && (held x.callee.node y.callee.node && alike_option (λ v w. pointwise (like_expr_or_spread same_span held) v.items w.items) (λ v. listed (map view_expr_or_spread v.items)) (λ v w. alike_each (like_expr_or_spread same_span held) view_expr_or_spread alike_expr_or_spread v.items w.items) (λ v. tt) x.args y.args k)
 
+  pub alike_tpl_element : (x y : TplElement) → like_tpl_element same_span x y ≡ like (view_tpl_element x) (view_tpl_element y)
+  alike_tpl_element x y = λ k. same_span x.span y.span && (like_flag x.tail y.tail && (alike_shebang x.cooked y.cooked k && like_text x.raw y.raw))
+
+  pub alike_opt_call : (x y : OptCall Held) → like_opt_call same_span held x y ≡ like (view_opt_call x) (view_opt_call y)
+  alike_opt_call x y = λ k. same_span x.span y.span && (alike_as_expr_at x.callee.node y.callee.node k && alike_each (like_expr_or_spread same_span held) view_expr_or_spread alike_expr_or_spread x.args.items y.args.items k)
+
+  pub alike_opt_chain_base : (x y : OptChainBase Held) → like_opt_chain_base same_span held x y ≡ like (view_opt_chain_base x) (view_opt_chain_base y)
+  alike_opt_chain_base (v_opt_chain_base.Member x) (v_opt_chain_base.Member y) = alike_member_expr x y
+  alike_opt_chain_base (v_opt_chain_base.Call x) (v_opt_chain_base.Call y) = alike_opt_call x y
+  alike_opt_chain_base _ _ = refl
+
+  pub alike_opt_chain_expr : (x y : OptChainExpr Held) → like_opt_chain_expr same_span held x y ≡ like (view_opt_chain_expr x) (view_opt_chain_expr y)
+  alike_opt_chain_expr x y = λ k. same_span x.span y.span && (like_flag x.optional y.optional && alike_opt_chain_base x.base.value y.base.value k)
+
+  pub alike_tpl : (x y : Tpl Held) → like_tpl same_span held x y ≡ like (view_tpl x) (view_tpl y)
+  alike_tpl x y = λ k. same_span x.span y.span && (alike_each (λ a b. held a.node b.node) (λ b. b.node.tree) (λ a b. refl) x.exprs.items y.exprs.items k && alike_each (like_tpl_element same_span) view_tpl_element alike_tpl_element x.quasis.items y.quasis.items k)
+
+  pub alike_tagged_tpl : (x y : TaggedTpl Held) → like_tagged_tpl same_span held x y ≡ like (view_tagged_tpl x) (view_tagged_tpl y)
+  alike_tagged_tpl x y = λ k. same_span x.span y.span && (held x.tag.node y.tag.node && alike_tpl x.tpl.value y.tpl.value k)
+
   pub alike_seq_expr : (x y : SeqExpr Held) → like_seq_expr same_span held x y ≡ like (view_seq_expr x) (view_seq_expr y)
   alike_seq_expr x y = λ k. same_span x.span y.span && alike_each (λ a b. held a.node b.node) (λ b. b.node.tree) (λ a b. refl) x.exprs.items y.exprs.items k
 
@@ -424,6 +451,7 @@ module _ (f : Span → Span) where
   alike_lit (v_lit.Null x) (v_lit.Null y) = refl
   alike_lit (v_lit.Num x) (v_lit.Num y) = refl
   alike_lit (v_lit.BigInt x) (v_lit.BigInt y) = refl
+  alike_lit (v_lit.Regex x) (v_lit.Regex y) = refl
   alike_lit _ _ = refl
 
   pub alike_block_stmt_or_expr : (x y : BlockStmtOrExpr Held) → like_block_stmt_or_expr same_span held x y ≡ like (view_block_stmt_or_expr x) (view_block_stmt_or_expr y)
@@ -525,17 +553,23 @@ module _ (f : Span → Span) where
   alike_expr (v_expr.MetaProp x) (v_expr.MetaProp y) = alike_meta_prop_expr x y
   alike_expr (v_expr.Await x) (v_expr.Await y) = alike_await_expr x y
   alike_expr (v_expr.Paren x) (v_expr.Paren y) = alike_paren_expr x y
+  alike_expr (v_expr.Tpl x) (v_expr.Tpl y) = alike_tpl x y
+  alike_expr (v_expr.TaggedTpl x) (v_expr.TaggedTpl y) = alike_tagged_tpl x y
+  alike_expr (v_expr.OptChain x) (v_expr.OptChain y) = alike_opt_chain_expr x y
+  alike_expr (v_expr.PrivateName x) (v_expr.PrivateName y) = refl
   alike_expr (v_expr.Invalid x) (v_expr.Invalid y) = alike_invalid x y
   alike_expr (v_expr.Lit (v_lit.Str _)) _ = refl
   alike_expr (v_expr.Lit (v_lit.Bool _)) _ = refl
   alike_expr (v_expr.Lit (v_lit.Null _)) _ = refl
   alike_expr (v_expr.Lit (v_lit.Num _)) _ = refl
   alike_expr (v_expr.Lit (v_lit.BigInt _)) _ = refl
+  alike_expr (v_expr.Lit (v_lit.Regex _)) _ = refl
   alike_expr _ (v_expr.Lit (v_lit.Str _)) = refl
   alike_expr _ (v_expr.Lit (v_lit.Bool _)) = refl
   alike_expr _ (v_expr.Lit (v_lit.Null _)) = refl
   alike_expr _ (v_expr.Lit (v_lit.Num _)) = refl
   alike_expr _ (v_expr.Lit (v_lit.BigInt _)) = refl
+  alike_expr _ (v_expr.Lit (v_lit.Regex _)) = refl
   alike_expr _ _ = refl
 
   pub alike_class_decl : (x y : ClassDecl Held) → like_class_decl same_span held x y ≡ like (view_class_decl x) (view_class_decl y)

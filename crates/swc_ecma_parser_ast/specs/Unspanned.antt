@@ -17,6 +17,7 @@ abbrev mutual
   respan f (tree.null s) = tree.null (f s)
   respan f (tree.num s raw) = tree.num (f s) raw
   respan f (tree.big_int s raw) = tree.big_int (f s) raw
+  respan f (tree.regex s exp flags) = tree.regex (f s) exp flags
   respan f (tree.this s) = tree.this (f s)
   respan f (tree.array s elems) = tree.array (f s) (respan f elems)
   respan f (tree.object s props) = tree.object (f s) (respan f props)
@@ -35,6 +36,9 @@ abbrev mutual
   respan f (tree.super_prop s word prop) = tree.super_prop (f s) (f word) (respan f prop)
   respan f (tree.call s callee args) = tree.call (f s) (respan f callee) (respan f args)
   respan f (tree.new s callee args) = tree.new (f s) (respan f callee) (respan f args)
+  respan f (tree.tpl s exprs quasis) = tree.tpl (f s) (respan f exprs) (respan f quasis)
+  respan f (tree.tagged_tpl s tag template) = tree.tagged_tpl (f s) (respan f tag) (respan f template)
+  respan f (tree.opt_chain s optional base) = tree.opt_chain (f s) optional (respan f base)
   respan f (tree.arrow s params body is_async) = tree.arrow (f s) (respan f params) (respan f body) is_async
   respan f (tree.yield s arg delegate) = tree.yield (f s) (respan f arg) delegate
   respan f (tree.await s arg) = tree.await (f s) (respan f arg)
@@ -43,6 +47,7 @@ abbrev mutual
   respan f (tree.computed s e) = tree.computed (f s) (respan f e)
   respan f (tree.super_callee s) = tree.super_callee (f s)
   respan f (tree.import_callee s) = tree.import_callee (f s)
+  respan f (tree.quasi s tail cooked raw) = tree.quasi (f s) tail cooked raw
   respan f (tree.spread_prop dots e) = tree.spread_prop (f dots) (respan f e)
   respan f (tree.shorthand_prop s text) = tree.shorthand_prop (f s) text
   respan f (tree.key_value_prop s key value) = tree.key_value_prop (f s) (respan f key) (respan f value)

@@ -11,6 +11,8 @@ use Rattle.swc_ecma_parser_model.specs.declared.leaves.Null.{Null}
 use Rattle.swc_ecma_parser_model.specs.declared.leaves.Number.{Number}
 use Rattle.swc_ecma_parser_model.specs.declared.leaves.BigInt.{BigInt}
 use Rattle.swc_ecma_parser_model.specs.declared.leaves.PrivateName.{PrivateName}
+use Rattle.swc_ecma_parser_model.specs.declared.leaves.Regex.{Regex}
+use Rattle.swc_ecma_parser_model.specs.declared.leaves.TplElement.{TplElement}
 use Rattle.swc_ecma_parser_ast.specs.declared.expr.ThisExpr.{ThisExpr}
 use Rattle.swc_ecma_parser_ast.specs.declared.call.ExprOrSpread.{ExprOrSpread}
 use Rattle.swc_ecma_parser_ast.specs.declared.object.ArrayLit.{ArrayLit}
@@ -69,6 +71,12 @@ use Rattle.swc_ecma_parser_ast.specs.declared.call.Callee.{Callee}
 use Rattle.swc_ecma_parser_ast.specs.declared.call.Callee.TheVariants as v_callee
 use Rattle.swc_ecma_parser_ast.specs.declared.call.CallExpr.{CallExpr}
 use Rattle.swc_ecma_parser_ast.specs.declared.call.NewExpr.{NewExpr}
+use Rattle.swc_ecma_parser_ast.specs.declared.call.OptCall.{OptCall}
+use Rattle.swc_ecma_parser_ast.specs.declared.call.OptChainBase.{OptChainBase}
+use Rattle.swc_ecma_parser_ast.specs.declared.call.OptChainBase.TheVariants as v_opt_chain_base
+use Rattle.swc_ecma_parser_ast.specs.declared.call.OptChainExpr.{OptChainExpr}
+use Rattle.swc_ecma_parser_ast.specs.declared.template.Tpl.{Tpl}
+use Rattle.swc_ecma_parser_ast.specs.declared.template.TaggedTpl.{TaggedTpl}
 use Rattle.swc_ecma_parser_ast.specs.declared.expr.SeqExpr.{SeqExpr}
 use Rattle.swc_ecma_parser_ast.specs.declared.expr.Lit.{Lit}
 use Rattle.swc_ecma_parser_ast.specs.declared.expr.Lit.TheVariants as v_lit
@@ -176,6 +184,12 @@ view_big_int x = tree.big_int x.span x.raw
 
 abbrev pub view_private_name : PrivateName → Tree
 view_private_name x = tree.private_name x.span x.id.span x.id.sym
+
+abbrev pub view_regex : Regex → Tree
+view_regex x = tree.regex x.span x.exp x.flags
+
+abbrev pub view_tpl_element : TplElement → Tree
+view_tpl_element x = tree.quasi x.span x.tail x.cooked x.raw
 
 abbrev pub view_this_expr : ThisExpr → Tree
 view_this_expr x = tree.this x.span
@@ -346,6 +360,22 @@ view_call_expr x = tree.call x.span (view_callee x.callee) (listed (map view_exp
 abbrev pub view_new_expr : NewExpr Held → Tree
 view_new_expr x = tree.new x.span x.callee.node.tree (view_option (λ v. listed (map view_expr_or_spread v.items)) x.args)
 
+abbrev pub view_opt_call : OptCall Held → Tree
+view_opt_call x = tree.call x.span (as_expr x.callee.node.tree) (listed (map view_expr_or_spread x.args.items))
+
+abbrev pub view_opt_chain_base : OptChainBase Held → Tree
+view_opt_chain_base (v_opt_chain_base.Member x) = view_member_expr x
+view_opt_chain_base (v_opt_chain_base.Call x) = view_opt_call x
+
+abbrev pub view_opt_chain_expr : OptChainExpr Held → Tree
+view_opt_chain_expr x = tree.opt_chain x.span x.optional (view_opt_chain_base x.base.value)
+
+abbrev pub view_tpl : Tpl Held → Tree
+view_tpl x = tree.tpl x.span (listed (map (λ b. b.node.tree) x.exprs.items)) (listed (map view_tpl_element x.quasis.items))
+
+abbrev pub view_tagged_tpl : TaggedTpl Held → Tree
+view_tagged_tpl x = tree.tagged_tpl x.span x.tag.node.tree (view_tpl x.tpl.value)
+
 abbrev pub view_seq_expr : SeqExpr Held → Tree
 view_seq_expr x = tree.seq x.span (listed (map (λ b. b.node.tree) x.exprs.items))
 
@@ -355,6 +385,7 @@ view_lit (v_lit.Bool x) = view_bool x
 view_lit (v_lit.Null x) = view_null x
 view_lit (v_lit.Num x) = view_number x
 view_lit (v_lit.BigInt x) = view_big_int x
+view_lit (v_lit.Regex x) = view_regex x
 
 abbrev pub view_block_stmt_or_expr : BlockStmtOrExpr Held → Tree
 view_block_stmt_or_expr (v_block_stmt_or_expr.BlockStmt x) = view_block_stmt x
@@ -442,6 +473,10 @@ view_expr (v_expr.Yield x) = view_yield_expr x
 view_expr (v_expr.MetaProp x) = view_meta_prop_expr x
 view_expr (v_expr.Await x) = view_await_expr x
 view_expr (v_expr.Paren x) = view_paren_expr x
+view_expr (v_expr.Tpl x) = view_tpl x
+view_expr (v_expr.TaggedTpl x) = view_tagged_tpl x
+view_expr (v_expr.OptChain x) = view_opt_chain_expr x
+view_expr (v_expr.PrivateName x) = view_private_name x
 view_expr (v_expr.Invalid x) = view_invalid x
 
 abbrev pub view_class_decl : ClassDecl Held → Tree

@@ -4,20 +4,29 @@
 ghost use Rattle.std.specs.Prelude.{◌≡◌, IfOk};
 
 use crate::branch::TryStmt;
+use crate::call::OptChainBase;
 use crate::class::{Class, ClassMethod, Constructor, PrivateMethod};
 use crate::function::Function;
 use crate::loops::{ForInStmt, ForOfStmt, ForStmt};
 use crate::member::{AutoAccessor, ClassProp, PrivateProp};
 use crate::object::Prop;
 use crate::target::AssignTarget;
+use crate::template::Tpl;
 use std::alloc::{AllocError, Global};
+
+/// A value, in a block of its own. It knows the value by its bound alone, so what is dropped where memory runs out is proved once.
+pub(crate) fn in_block<T: Drop>(alloc: Global, value: T) -> Result<Box<T>, AllocError>
+    ensures { IfOk result (λ b. b.value ≡ value) }
+{
+    Ok(Box::new(alloc, value)?)
+}
 
 impl<N: Drop> Class<N> {
     /// It, in a block of its own; it fails only where memory runs out.
     pub fn boxed(self, alloc: Global) -> Result<Box<Class<N>>, AllocError>
         ensures { IfOk result (λ b. b.value ≡ self) }
     {
-        Ok(Box::new(alloc, self)?)
+        in_block(alloc, self)
     }
 }
 
@@ -26,7 +35,7 @@ impl<N: Drop> ClassMethod<N> {
     pub fn boxed(self, alloc: Global) -> Result<Box<ClassMethod<N>>, AllocError>
         ensures { IfOk result (λ b. b.value ≡ self) }
     {
-        Ok(Box::new(alloc, self)?)
+        in_block(alloc, self)
     }
 }
 
@@ -35,7 +44,7 @@ impl<N: Drop> Constructor<N> {
     pub fn boxed(self, alloc: Global) -> Result<Box<Constructor<N>>, AllocError>
         ensures { IfOk result (λ b. b.value ≡ self) }
     {
-        Ok(Box::new(alloc, self)?)
+        in_block(alloc, self)
     }
 }
 
@@ -44,7 +53,7 @@ impl<N: Drop> PrivateMethod<N> {
     pub fn boxed(self, alloc: Global) -> Result<Box<PrivateMethod<N>>, AllocError>
         ensures { IfOk result (λ b. b.value ≡ self) }
     {
-        Ok(Box::new(alloc, self)?)
+        in_block(alloc, self)
     }
 }
 
@@ -53,7 +62,7 @@ impl<N: Drop> Function<N> {
     pub fn boxed(self, alloc: Global) -> Result<Box<Function<N>>, AllocError>
         ensures { IfOk result (λ b. b.value ≡ self) }
     {
-        Ok(Box::new(alloc, self)?)
+        in_block(alloc, self)
     }
 }
 
@@ -62,7 +71,7 @@ impl<N: Drop> ForInStmt<N> {
     pub fn boxed(self, alloc: Global) -> Result<Box<ForInStmt<N>>, AllocError>
         ensures { IfOk result (λ b. b.value ≡ self) }
     {
-        Ok(Box::new(alloc, self)?)
+        in_block(alloc, self)
     }
 }
 
@@ -71,7 +80,7 @@ impl<N: Drop> ForOfStmt<N> {
     pub fn boxed(self, alloc: Global) -> Result<Box<ForOfStmt<N>>, AllocError>
         ensures { IfOk result (λ b. b.value ≡ self) }
     {
-        Ok(Box::new(alloc, self)?)
+        in_block(alloc, self)
     }
 }
 
@@ -80,7 +89,7 @@ impl<N: Drop> ForStmt<N> {
     pub fn boxed(self, alloc: Global) -> Result<Box<ForStmt<N>>, AllocError>
         ensures { IfOk result (λ b. b.value ≡ self) }
     {
-        Ok(Box::new(alloc, self)?)
+        in_block(alloc, self)
     }
 }
 
@@ -89,7 +98,7 @@ impl<N: Drop> AutoAccessor<N> {
     pub fn boxed(self, alloc: Global) -> Result<Box<AutoAccessor<N>>, AllocError>
         ensures { IfOk result (λ b. b.value ≡ self) }
     {
-        Ok(Box::new(alloc, self)?)
+        in_block(alloc, self)
     }
 }
 
@@ -98,7 +107,7 @@ impl<N: Drop> ClassProp<N> {
     pub fn boxed(self, alloc: Global) -> Result<Box<ClassProp<N>>, AllocError>
         ensures { IfOk result (λ b. b.value ≡ self) }
     {
-        Ok(Box::new(alloc, self)?)
+        in_block(alloc, self)
     }
 }
 
@@ -107,7 +116,7 @@ impl<N: Drop> PrivateProp<N> {
     pub fn boxed(self, alloc: Global) -> Result<Box<PrivateProp<N>>, AllocError>
         ensures { IfOk result (λ b. b.value ≡ self) }
     {
-        Ok(Box::new(alloc, self)?)
+        in_block(alloc, self)
     }
 }
 
@@ -116,7 +125,7 @@ impl<N: Drop> Prop<N> {
     pub fn boxed(self, alloc: Global) -> Result<Box<Prop<N>>, AllocError>
         ensures { IfOk result (λ b. b.value ≡ self) }
     {
-        Ok(Box::new(alloc, self)?)
+        in_block(alloc, self)
     }
 }
 
@@ -125,7 +134,25 @@ impl<N: Drop> TryStmt<N> {
     pub fn boxed(self, alloc: Global) -> Result<Box<TryStmt<N>>, AllocError>
         ensures { IfOk result (λ b. b.value ≡ self) }
     {
-        Ok(Box::new(alloc, self)?)
+        in_block(alloc, self)
+    }
+}
+
+impl<N: Drop> OptChainBase<N> {
+    /// It, in a block of its own; it fails only where memory runs out.
+    pub fn boxed(self, alloc: Global) -> Result<Box<OptChainBase<N>>, AllocError>
+        ensures { IfOk result (λ b. b.value ≡ self) }
+    {
+        in_block(alloc, self)
+    }
+}
+
+impl<N: Drop> Tpl<N> {
+    /// It, in a block of its own; it fails only where memory runs out.
+    pub fn boxed(self, alloc: Global) -> Result<Box<Tpl<N>>, AllocError>
+        ensures { IfOk result (λ b. b.value ≡ self) }
+    {
+        in_block(alloc, self)
     }
 }
 
@@ -134,6 +161,6 @@ impl<N: Drop> AssignTarget<N> {
     pub fn boxed(self, alloc: Global) -> Result<Box<AssignTarget<N>>, AllocError>
         ensures { IfOk result (λ b. b.value ≡ self) }
     {
-        Ok(Box::new(alloc, self)?)
+        in_block(alloc, self)
     }
 }

@@ -56,6 +56,30 @@ pub struct CallExpr<N = Node> {
     pub args: Vec<ExprOrSpread<N>>,
 }
 
+/// A link of an optional chain (ECMA-262, 13.3.9); `optional` says that `?.` stands before it. What it is a link of is a link itself,
+/// without parentheses, or `optional` holds: so a chain begins at `?.`.
+#[derive(Debug, PartialEq, Eq, Drop)]
+pub struct OptChainExpr<N = Node> {
+    pub span: Span,
+    pub optional: bool,
+    pub base: Box<OptChainBase<N>>,
+}
+
+/// What a link of an optional chain is; its span is that of the link (ECMA-262, 13.3.9).
+#[derive(Debug, PartialEq, Eq, Drop)]
+pub enum OptChainBase<N = Node> {
+    Member(MemberExpr<N>),
+    Call(OptCall<N>),
+}
+
+/// A call as a link of an optional chain (ECMA-262, 13.3.9).
+#[derive(Debug, PartialEq, Eq, Drop)]
+pub struct OptCall<N = Node> {
+    pub span: Span,
+    pub callee: ExprBox<N>,
+    pub args: Vec<ExprOrSpread<N>>,
+}
+
 /// What is called (ECMA-262, 13.3.6).
 #[derive(Debug, PartialEq, Eq, Drop)]
 pub enum Callee<N = Node> {
@@ -145,6 +169,36 @@ impl<N> Spanned for CallExpr<N> {
 
     fn span(&self) -> Span {
         self.span
+    }
+}
+
+impl<N> Spanned for OptChainExpr<N> {
+    ghost span_of = { λ x. x.span };
+
+    fn span(&self) -> Span {
+        self.span
+    }
+}
+
+impl<N> Spanned for OptCall<N> {
+    ghost span_of = { λ x. x.span };
+
+    fn span(&self) -> Span {
+        self.span
+    }
+}
+
+impl Spanned for OptChainBase {
+    ghost use Rattle.swc_ecma_parser_model.specs.Forms as model;
+    ghost use Rattle.swc_ecma_parser_ast.specs.View.{view_opt_chain_base};
+
+    ghost span_of = { λ x. model.span_of (view_opt_chain_base x) };
+
+    fn span(&self) -> Span {
+        match self {
+            OptChainBase::Member(x) => x.span(),
+            OptChainBase::Call(x) => x.span(),
+        }
     }
 }
 

@@ -1,13 +1,14 @@
-//! Links of chains: on the left (`a + a + ..`, `a.a.a..`, `f()()..`), or of `else if`. No limit on levels bounds a chain, so it is
+//! Links of chains: on the left (`a + a + ..`, `a.a.a..`, `f()()..`, `a?.a?.a..`, tags of templates), or of `else if`. No limit on levels bounds a chain, so it is
 //! gone along in a loop, one link at a time.
 
 ghost use Rattle.std.specs.Prelude.{◌≡◌, IfSome, Some};
 ghost use Rattle.swc_ecma_parser_ast.specs.Chain as chain;
 
 use crate::branch::IfStmt;
-use crate::call::{CallExpr, Callee, MemberExpr};
+use crate::call::{CallExpr, Callee, MemberExpr, OptCall, OptChainBase, OptChainExpr};
 use crate::expr::{BinExpr, Expr};
 use crate::stmt::Stmt;
+use crate::template::TaggedTpl;
 use std::fmt::{self, Debug, DebugList, Formatter, Write};
 
 /// The part on which a chain goes on, if this is a link of one.
@@ -21,7 +22,19 @@ pub(crate) fn expr_rest<N>(expr: &Expr<N>) -> Option<&N>
             Callee::Expr(callee) => Some(&callee.node),
             _ => None,
         },
+        Expr::TaggedTpl(x) => Some(&x.tag.node),
+        Expr::OptChain(x) => Some(base_rest(&x.base)),
         _ => None,
+    }
+}
+
+/// The part on which an optional chain goes on.
+fn base_rest<N>(base: &OptChainBase<N>) -> &N
+    ensures { result.now ≡ chain.rest_of_base base.now }
+{
+    match base {
+        OptChainBase::Member(x) => &x.obj.node,
+        OptChainBase::Call(x) => &x.callee.node,
     }
 }
 
@@ -42,10 +55,27 @@ pub(crate) fn stmt_rest<N>(stmt: &Stmt<N>) -> Option<&N>
 pub(crate) fn are_alike_exprs<N: PartialEq>(a: &Box<Expr<N>>, b: &Box<Expr<N>>) -> bool
     ensures { result ≡ chain.alike_exprs N.eq a.now.value b.now.value }
 {
-    match (&**a, &**b) {
-        (Expr::Bin(x), Expr::Bin(y)) => are_alike_bins(x, y),
-        (Expr::Member(x), Expr::Member(y)) => are_alike_members(x, y),
-        (Expr::Call(x), Expr::Call(y)) => are_alike_calls(x, y),
+    match &**a {
+        Expr::Bin(x) => match &**b {
+            Expr::Bin(y) => are_alike_bins(x, y),
+            _ => false,
+        },
+        Expr::Member(x) => match &**b {
+            Expr::Member(y) => are_alike_members(x, y),
+            _ => false,
+        },
+        Expr::Call(x) => match &**b {
+            Expr::Call(y) => are_alike_calls(x, y),
+            _ => false,
+        },
+        Expr::TaggedTpl(x) => match &**b {
+            Expr::TaggedTpl(y) => are_alike_tagged(x, y),
+            _ => false,
+        },
+        Expr::OptChain(x) => match &**b {
+            Expr::OptChain(y) => are_alike_opt_chains(x, y),
+            _ => false,
+        },
         _ => false,
     }
 }
@@ -81,6 +111,43 @@ fn are_alike_calls<N: PartialEq>(a: &CallExpr<N>, b: &CallExpr<N>) -> bool
     a.span == b.span && a.args == b.args
 }
 
+/// Whether two templates are alike but for their tags.
+fn are_alike_tagged<N: PartialEq>(a: &TaggedTpl<N>, b: &TaggedTpl<N>) -> bool
+    ensures { result ≡ chain.alike_tagged N.eq a.now b.now }
+{
+    a.span == b.span && a.tpl == b.tpl
+}
+
+/// Whether two links of optional chains are alike but for what they are links of.
+fn are_alike_opt_chains<N: PartialEq>(a: &OptChainExpr<N>, b: &OptChainExpr<N>) -> bool
+    ensures { result ≡ chain.alike_opt_chains N.eq a.now b.now }
+{
+    a.span == b.span && a.optional == b.optional && are_alike_bases(&a.base, &b.base)
+}
+
+/// As `are_alike_opt_chains`.
+fn are_alike_bases<N: PartialEq>(a: &OptChainBase<N>, b: &OptChainBase<N>) -> bool
+    ensures { result ≡ chain.alike_bases N.eq a.now b.now }
+{
+    match a {
+        OptChainBase::Member(x) => match b {
+            OptChainBase::Member(y) => are_alike_members(x, y),
+            OptChainBase::Call(_) => false,
+        },
+        OptChainBase::Call(x) => match b {
+            OptChainBase::Call(y) => are_alike_opt_calls(x, y),
+            OptChainBase::Member(_) => false,
+        },
+    }
+}
+
+/// Whether two calls are alike but for what they call.
+fn are_alike_opt_calls<N: PartialEq>(a: &OptCall<N>, b: &OptCall<N>) -> bool
+    ensures { result ≡ chain.alike_opt_calls N.eq a.now b.now }
+{
+    a.span == b.span && a.args == b.args
+}
+
 /// Whether two `if` are alike but for what stands behind `else`.
 fn are_alike_ifs<N: PartialEq>(a: &IfStmt<N>, b: &IfStmt<N>) -> bool
     ensures { result ≡ chain.alike_ifs N.eq a.now b.now }
@@ -94,6 +161,8 @@ enum Link<'a, N> {
     Bin(&'a BinExpr<N>),
     Member(&'a MemberExpr<N>),
     Call(&'a CallExpr<N>),
+    TaggedTpl(&'a TaggedTpl<N>),
+    OptChain(&'a OptChainExpr<N>),
     If(&'a IfStmt<N>),
 }
 
@@ -116,11 +185,45 @@ impl<N: Debug> Debug for Link<'_, N> {
                 .field("span", &x.span)
                 .field("args", &x.args)
                 .finish_non_exhaustive(),
+            Link::TaggedTpl(x) => f
+                .debug_struct("TaggedTpl")
+                .field("span", &x.span)
+                .field("tpl", &x.tpl)
+                .finish_non_exhaustive(),
+            Link::OptChain(x) => f
+                .debug_struct("OptChainExpr")
+                .field("span", &x.span)
+                .field("optional", &x.optional)
+                .field("base", &LinkBase { base: &x.base })
+                .finish(),
             Link::If(x) => f
                 .debug_struct("IfStmt")
                 .field("span", &x.span)
                 .field("test", &x.test)
                 .field("cons", &x.cons)
+                .finish_non_exhaustive(),
+        }
+    }
+}
+
+/// What a link of an optional chain is, as it is printed.
+#[derive(Drop)]
+struct LinkBase<'a, N> {
+    base: &'a OptChainBase<N>,
+}
+
+impl<N: Debug> Debug for LinkBase<'_, N> {
+    fn fmt<W: Write>(&self, f: &mut Formatter<W>) -> fmt::Result {
+        match self.base {
+            OptChainBase::Member(x) => f
+                .debug_struct("MemberExpr")
+                .field("span", &x.span)
+                .field("prop", &x.prop)
+                .finish_non_exhaustive(),
+            OptChainBase::Call(x) => f
+                .debug_struct("OptCall")
+                .field("span", &x.span)
+                .field("args", &x.args)
                 .finish_non_exhaustive(),
         }
     }
@@ -137,6 +240,8 @@ pub(crate) fn add_expr_link<N: Debug, W: Write>(list: &mut DebugList<'_, W>, exp
         Expr::Bin(x) => add_entry(list, &Link::Bin(x)),
         Expr::Member(x) => add_entry(list, &Link::Member(x)),
         Expr::Call(x) => add_entry(list, &Link::Call(x)),
+        Expr::TaggedTpl(x) => add_entry(list, &Link::TaggedTpl(x)),
+        Expr::OptChain(x) => add_entry(list, &Link::OptChain(x)),
         _ => {}
     }
 }

@@ -1,14 +1,16 @@
 ghost use Rattle.std.specs.Prelude.{◌≡◌};
 
-use crate::call::{CallExpr, MemberExpr, NewExpr, SuperPropExpr};
+use crate::call::{CallExpr, MemberExpr, NewExpr, OptChainExpr, SuperPropExpr};
 use crate::class::ClassExpr;
 use crate::function::{ArrowExpr, FnExpr};
 use crate::node::{ExprBox, Node};
 use crate::object::{ArrayLit, ObjectLit};
 use crate::target::AssignExpr;
+use crate::template::{TaggedTpl, Tpl};
 use swc_ecma_parser_common::{Span, Spanned};
 use swc_ecma_parser_model::{
-    BigInt, BinaryOp, Bool, Ident, MetaPropKind, Null, Number, Str, UnaryOp, UpdateOp,
+    BigInt, BinaryOp, Bool, Ident, MetaPropKind, Null, Number, PrivateName, Regex, Str, UnaryOp,
+    UpdateOp,
 };
 
 /// An expression (ECMA-262, 13).
@@ -36,6 +38,11 @@ pub enum Expr<N = Node> {
     MetaProp(MetaPropExpr),
     Await(AwaitExpr<N>),
     Paren(ParenExpr<N>),
+    Tpl(Tpl<N>),
+    TaggedTpl(TaggedTpl<N>),
+    OptChain(OptChainExpr<N>),
+    /// The left operand of `in` alone.
+    PrivateName(PrivateName),
     Invalid(Invalid),
 }
 
@@ -47,6 +54,7 @@ pub enum Lit {
     Null(Null),
     Num(Number),
     BigInt(BigInt),
+    Regex(Regex),
 }
 
 /// `this` (ECMA-262, 13.2.1).
@@ -162,6 +170,10 @@ impl Spanned for Expr {
             Expr::MetaProp(x) => x.span(),
             Expr::Await(x) => x.span(),
             Expr::Paren(x) => x.span(),
+            Expr::Tpl(x) => x.span(),
+            Expr::TaggedTpl(x) => x.span(),
+            Expr::OptChain(x) => x.span(),
+            Expr::PrivateName(x) => x.span(),
             Expr::Invalid(x) => x.span(),
         }
     }
@@ -180,6 +192,7 @@ impl Spanned for Lit {
             Lit::Null(x) => x.span(),
             Lit::Num(x) => x.span(),
             Lit::BigInt(x) => x.span(),
+            Lit::Regex(x) => x.span(),
         }
     }
 }

@@ -7,6 +7,18 @@ ghost use Rattle.swc_ecma_parser_model.specs.Same.{same};
 ghost use Rattle.swc_ecma_parser_model.specs.Tree.{Tree};
 ghost use Rattle.swc_ecma_parser_ast.specs.Unspanned.{unspanned};
 
+/// Whether two values of an enum are of one form, and alike but for spans. One is matched inside the other, which takes fewer steps than a pair.
+macro_rules! are_like_forms {
+    ($self:expr, $other:ident, $kind:ident: $($form:ident)+) => {
+        match $self {
+            $($kind::$form(a) => match $other {
+                $kind::$form(b) => a.eq_ignore_span(b),
+                _ => false,
+            },)+
+        }
+    };
+}
+
 mod exprs;
 mod functions;
 mod items;

@@ -9,14 +9,18 @@ ghost use Rattle.swc_ecma_parser_ast.specs.Nodes.{view_any};
 ghost use Rattle.swc_ecma_parser_ast.specs.Chain as chain;
 ghost use Rattle.swc_ecma_parser_ast.specs.Equal as equal;
 
+use crate::boxed::in_block;
 use crate::branch::IfStmt;
-use crate::call::{CallExpr, Callee, ExprOrSpread, MemberExpr, MemberProp};
+use crate::call::{
+    CallExpr, Callee, ExprOrSpread, MemberExpr, MemberProp, OptCall, OptChainBase, OptChainExpr,
+};
 use crate::chain::{
     add_entry, add_expr_link, add_stmt_link, are_alike_exprs, are_alike_stmts, expr_rest, stmt_rest,
 };
 use crate::expr::{BinExpr, Expr};
 use crate::pat::Pat;
 use crate::stmt::Stmt;
+use crate::template::{TaggedTpl, Tpl};
 use std::alloc::{AllocError, Global};
 use std::fmt::{self, Debug, DebugList, Formatter, Write};
 use std::marker::Model;
@@ -57,7 +61,7 @@ pub enum Any {
 
 /// A part of a tree, of any kind. Contracts see it as the model's tree, which is never one that is left out.
 ///
-/// A chain on the left (`a + a + ..`, `a.a.a..`, `f()()..`) or of `else if` may be longer than any limit on levels. It is compared,
+/// A chain on the left (`a + a + ..`, `a.a.a..`, `f()()..`, `a?.a?.a..`) or of `else if` may be longer than any limit on levels. It is compared,
 /// printed and let go in a loop. `{:?}` lists its links, outermost first, each with `..` for the part on which the chain goes on, and
 /// last what it ends with, so a link adds its own text and no depth. But for spans and handles `a.b + c` is printed as
 /// `Node [BinExpr { op: Add, right: c, .. }, MemberExpr { prop: b, .. }, Expr(Ident(a))]`.
@@ -88,9 +92,12 @@ fn discard_prop<N: Drop>(_prop: MemberProp<N>) {}
 /// As `discard_stmts`.
 fn discard_head<N: Drop>(_test: ExprBox<N>, _cons: StmtBox<N>) {}
 
+/// As `discard_stmts`.
+fn discard_tpl<N: Drop>(_tpl: Box<Tpl<N>>) {}
+
 impl Drop for Node {
-    /// A chain on the left (`a + a + ..`, `a.a.a..`, `f()()..`) or of `else if`, which no limit on levels bounds, is dropped in
-    /// a loop.
+    /// A chain on the left (`a + a + ..`, `a.a.a..`, `f()()..`, `a?.a?.a..`) or of `else if`, which no limit on levels bounds, is
+    /// dropped in a loop.
     #[cycle(ast)]
     fn drop(mut self) {
         loop {
@@ -117,6 +124,29 @@ impl Drop for Node {
                                 self = node;
                             }
                             Callee::Super(_) | Callee::Import(_) => return,
+                        }
+                    }
+                    Expr::TaggedTpl(tagged) => {
+                        let TaggedTpl { tag, tpl, .. } = tagged;
+                        discard_tpl(tpl);
+                        let ExprBox { node } = tag;
+                        self = node;
+                    }
+                    Expr::OptChain(link) => {
+                        let OptChainExpr { base, .. } = link;
+                        match Box::into_inner(base) {
+                            OptChainBase::Member(member) => {
+                                let MemberExpr { obj, prop, .. } = member;
+                                discard_prop(prop);
+                                let ExprBox { node } = obj;
+                                self = node;
+                            }
+                            OptChainBase::Call(call) => {
+                                let OptCall { callee, args, .. } = call;
+                                discard_args(args);
+                                let ExprBox { node } = callee;
+                                self = node;
+                            }
                         }
                     }
                     other => return other.discard(),
@@ -345,7 +375,7 @@ impl ExprBox<Node> {
     pub fn new(alloc: Global, value: Expr<Node>) -> Result<ExprBox<Node>, AllocError>
         ensures { IfOk result (λ b. b.node.tree ≡ view_expr value) }
     {
-        let inner = Any::Expr(Box::new(alloc, value)?);
+        let inner = Any::Expr(in_block(alloc, value)?);
         Ok(ExprBox {
             node: Node { inner },
         })
@@ -385,7 +415,7 @@ impl PatBox<Node> {
     pub fn new(alloc: Global, value: Pat<Node>) -> Result<PatBox<Node>, AllocError>
         ensures { IfOk result (λ b. b.node.tree ≡ view_pat value) }
     {
-        let inner = Any::Pat(Box::new(alloc, value)?);
+        let inner = Any::Pat(in_block(alloc, value)?);
         Ok(PatBox {
             node: Node { inner },
         })
@@ -425,7 +455,7 @@ impl StmtBox<Node> {
     pub fn new(alloc: Global, value: Stmt<Node>) -> Result<StmtBox<Node>, AllocError>
         ensures { IfOk result (λ b. b.node.tree ≡ view_stmt value) }
     {
-        let inner = Any::Stmt(Box::new(alloc, value)?);
+        let inner = Any::Stmt(in_block(alloc, value)?);
         Ok(StmtBox {
             node: Node { inner },
         })
@@ -463,7 +493,7 @@ impl StmtList<Node> {
     pub fn new(alloc: Global, stmts: Vec<Stmt<Node>>) -> Result<StmtList<Node>, AllocError>
         ensures { IfOk result (λ l. l.node.tree ≡ listed (map view_stmt stmts.items)) }
     {
-        let inner = Any::Stmts(Box::new(alloc, stmts)?);
+        let inner = Any::Stmts(in_block(alloc, stmts)?);
         Ok(StmtList {
             node: Node { inner },
         })

@@ -13,9 +13,8 @@ use crate::boxes::{beside, beside_found};
 use std::alloc::{AllocError, Global};
 use swc_ecma_parser_ast::{
     ArrayPat, AssignExpr, AssignOp, AssignPat, AssignPatProp, AssignTarget, AssignTargetPat,
-    BindingIdent, BlockStmt, Expr, ExprBox, ExprOrSpread, FnExpr, Ident, KeyValuePatProp,
-    ObjectPat, ObjectPatProp, Pat, PatBox, Prop, PropName, PropOrSpread, RestPat,
-    SimpleAssignTarget, Span, Spanned, SpreadElement, Stmt,
+    BindingIdent, Expr, ExprBox, ExprOrSpread, Ident, KeyValuePatProp, ObjectPat, ObjectPatProp,
+    Pat, PatBox, Prop, PropOrSpread, RestPat, SimpleAssignTarget, Span, Spanned, SpreadElement,
 };
 
 /// An expression as a pattern, with a default where one may stand.
@@ -188,45 +187,11 @@ fn plain_property(alloc: Global, prop: Prop) -> Result<Option<ObjectPatProp>, Al
         Prop::Shorthand(x) => Ok(Some(named(x.span, x, None))),
         Prop::Assign(x) => Ok(Some(named(x.span, x.key, Some(x.value)))),
         other => {
-            discard_prop(other);
+            other.discard();
             Ok(None)
         }
     }
 }
-
-/// Drops it part by part, as expressions and statements: a drop of the whole would be proved here for each of its forms.
-fn discard_prop(prop: Prop) {
-    match prop {
-        Prop::Shorthand(_x) => {}
-        Prop::Assign(_x) => {}
-        Prop::KeyValue(x) => discard_key(x.key),
-        Prop::Getter(x) => discard_accessor(x.key, x.body),
-        Prop::Setter(x) => {
-            x.param.discard();
-            discard_accessor(x.key, x.body)
-        }
-        Prop::Method(x) => {
-            discard_key(x.key);
-            Expr::Fn(FnExpr {
-                span: x.span,
-                ident: None,
-                function: x.function,
-            })
-            .discard()
-        }
-    }
-}
-
-/// As `discard_prop`.
-fn discard_accessor(key: PropName, body: Option<BlockStmt>) {
-    discard_key(key);
-    if let Some(body) = body {
-        Stmt::Block(body).discard()
-    }
-}
-
-/// As `discard_prop`.
-fn discard_key(_key: PropName) {}
 
 /// A name that is its own key, with its default where it has one.
 fn named(span: Span, id: Ident, value: Option<ExprBox>) -> ObjectPatProp

@@ -24,7 +24,7 @@ mod variables;
 use std::alloc::{AllocError, Global};
 use swc_ecma_parser_ast::{
     Atom, BigInt, BindingIdent, BlockStmt, Bool, DebuggerStmt, EmptyStmt, Expr, ExprStmt, Ident,
-    Lit, Null, Number, ParenExpr, Pat, Script, Span, Spanned, Stmt, StmtList, Str,
+    Lit, Null, Number, ParenExpr, Pat, Regex, Script, Span, Spanned, Stmt, StmtList, Str,
 };
 use swc_ecma_parser_ast_parts::made::Made;
 use swc_ecma_parser_trees::{
@@ -104,6 +104,10 @@ impl BuildsExpr for Ast {
 
     fn big_int(alloc: Global, big_int: BigInt) -> Result<Made, AllocError> {
         Made::new(alloc, Expr::Lit(Lit::BigInt(big_int)))
+    }
+
+    fn regex(alloc: Global, regex: Regex) -> Result<Made, AllocError> {
+        Made::new(alloc, Expr::Lit(Lit::Regex(regex)))
     }
 
     fn paren(alloc: Global, span: Span, expr: Made) -> Result<Made, AllocError> {

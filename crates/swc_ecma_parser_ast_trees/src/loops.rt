@@ -5,7 +5,7 @@ ghost use Rattle.swc_ecma_parser_ast_parts.specs.View.{view_made};
 use crate::Ast;
 use std::alloc::{AllocError, Global};
 use swc_ecma_parser_ast::{
-    Decl, DoWhileStmt, ForHead, ForInStmt, ForOfStmt, ForStmt, Pat, Span, Spanned, Stmt, StmtBox,
+    DoWhileStmt, ForHead, ForInStmt, ForOfStmt, ForStmt, Pat, Span, Spanned, Stmt, StmtBox,
     UsingDecl, VarDecl, VarDeclKind, VarDeclOrExpr, VarDeclarator, WhileStmt,
 };
 use swc_ecma_parser_ast_parts::boxes::beside;
@@ -61,7 +61,9 @@ impl BuildsFor for Ast {
                 Ok(Stmt::For(found.boxed(alloc)?))
             }
             Err(e) => {
-                discard_init(init);
+                if let Some(init) = init {
+                    init.discard();
+                }
                 Err(e)
             }
         }
@@ -102,7 +104,7 @@ impl BuildsFor for Ast {
                 Ok(Stmt::ForIn(found.boxed(alloc)?))
             }
             Err(e) => {
-                discard_head(left);
+                left.discard();
                 Err(e)
             }
         }
@@ -128,7 +130,7 @@ impl BuildsFor for Ast {
                 Ok(Stmt::ForOf(found.boxed(alloc)?))
             }
             Err(e) => {
-                discard_head(left);
+                left.discard();
                 Err(e)
             }
         }
@@ -166,23 +168,5 @@ impl BuildsFor for Ast {
 
     fn pat_head(alloc: Global, pat: Pat) -> Result<ForHead, AllocError> {
         Ok(ForHead::Pat(pat))
-    }
-}
-
-/// Drops it, as a statement: a drop of its own would be proved for each of its parts.
-fn discard_head(head: ForHead) {
-    match head {
-        ForHead::VarDecl(x) => Stmt::Decl(Decl::Var(x)).discard(),
-        ForHead::UsingDecl(x) => Stmt::Decl(Decl::Using(x)).discard(),
-        ForHead::Pat(x) => x.discard(),
-    }
-}
-
-/// As `discard_head`.
-fn discard_init(init: Option<VarDeclOrExpr>) {
-    match init {
-        Some(VarDeclOrExpr::VarDecl(x)) => Stmt::Decl(Decl::Var(x)).discard(),
-        Some(VarDeclOrExpr::Expr(_expr)) => {}
-        None => {}
     }
 }

@@ -8,8 +8,8 @@ use std::alloc::{AllocError, Global};
 use swc_ecma_parser_ast::{
     AssignExpr, AssignOp, AssignTarget, AssignTargetPat, AwaitExpr, BinExpr, BinaryOp,
     BindingIdent, CondExpr, Expr, ExprBox, Ident, Invalid, MetaPropExpr, MetaPropKind, Pat,
-    SeqExpr, SimpleAssignTarget, Span, ThisExpr, UnaryExpr, UnaryOp, UpdateExpr, UpdateOp,
-    YieldExpr,
+    PrivateName, SeqExpr, SimpleAssignTarget, Span, ThisExpr, UnaryExpr, UnaryOp, UpdateExpr,
+    UpdateOp, YieldExpr,
 };
 use swc_ecma_parser_ast_parts::boxes::{all, beside};
 use swc_ecma_parser_ast_parts::made::Made;
@@ -30,6 +30,10 @@ impl BuildsOperator for Ast {
 
     fn invalid(alloc: Global, span: Span) -> Result<Made, AllocError> {
         Made::new(alloc, Expr::Invalid(Invalid { span }))
+    }
+
+    fn private_name(alloc: Global, name: PrivateName) -> Result<Made, AllocError> {
+        Made::new(alloc, Expr::PrivateName(name))
     }
 
     fn unary(alloc: Global, span: Span, op: UnaryOp, arg: Made) -> Result<Made, AllocError> {

@@ -1,3 +1,4 @@
+mod ByKind
 pub mod Clauses
 pub mod Labels
 pub mod Strays

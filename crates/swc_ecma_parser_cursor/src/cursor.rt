@@ -22,7 +22,7 @@ ghost use Rattle.swc_ecma_parser_reader.specs.State as reader;
 ghost use Rattle.swc_ecma_parser_reader.specs.State.{Gives, GivesAs};
 ghost use Rattle.swc_ecma_parser_cursor.specs.Around.{left_body};
 ghost use Rattle.swc_ecma_parser_cursor.specs.Labels.{LeavesLabel};
-ghost use Rattle.swc_ecma_parser_cursor.specs.Literals.{literal_tree};
+ghost use Rattle.swc_ecma_parser_cursor.specs.Literals.{literal_tree, quasi_tree, regex_tree};
 ghost use Rattle.swc_ecma_parser_cursor.specs.Wanted.{wanted_kind};
 
 use crate::around::Around;
@@ -33,7 +33,7 @@ use swc_ecma_parser_common::{Atom, Span};
 use swc_ecma_parser_error::{Error, PResult, SyntaxError};
 use swc_ecma_parser_grammar::Position;
 use swc_ecma_parser_input::Context;
-use swc_ecma_parser_model::Ident;
+use swc_ecma_parser_model::{Ident, Regex, TplElement};
 use swc_ecma_parser_token::TokenKind;
 
 /// What the rules read from: a state, without the type of its source. Each step that reads gives what the reader gives,
@@ -296,6 +296,15 @@ pub trait Cursor {
     fn literal(&mut self) -> PResult<Option<Literal>>
         ensures { GivesAs (option_map literal_tree) (exprs.literal (seen self.old))
             result (seen self.new) };
+
+    /// Takes a regular expression.
+    fn regex(&mut self) -> PResult<Regex>
+        ensures { GivesAs regex_tree (exprs.regex (seen self.old)) result (seen self.new) };
+
+    /// Takes a text of a template. An escape in it that is none is refused, unless a tag stands before the template.
+    fn template_text(&mut self, tagged: bool) -> PResult<TplElement>
+        ensures { GivesAs quasi_tree (exprs.template_text tagged (seen self.old)) result
+            (seen self.new) };
 
     /// The text of a shebang, if one stands here.
     fn shebang(&mut self) -> PResult<Option<Atom>>

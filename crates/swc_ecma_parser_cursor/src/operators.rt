@@ -32,6 +32,9 @@ pub fn begins_operand(kind: TokenKind) -> bool
         TokenKind::Str
             | TokenKind::Num
             | TokenKind::BigInt
+            | TokenKind::Regex
+            | TokenKind::Template
+            | TokenKind::TemplateHead
             | TokenKind::Null
             | TokenKind::True
             | TokenKind::False

@@ -37,6 +37,11 @@ fn text_of(token: Option<&Token>) -> &str {
         Token::AssignOp(op) => op.as_str(),
         Token::Str { raw, .. } | Token::Num { raw } | Token::BigInt { raw } => raw.as_str(),
         Token::Shebang(text) => text.as_str(),
+        Token::Regex { exp, .. } => exp.as_str(),
+        Token::Template { raw, .. }
+        | Token::TemplateHead { raw, .. }
+        | Token::TemplateMiddle { raw, .. }
+        | Token::TemplateTail { raw, .. } => raw.as_str(),
         Token::Error(_) => "<error>",
         other => mark_text(other),
     }
@@ -61,6 +66,9 @@ fn mark_text(token: &Token) -> &'static str {
         Token::Comma => ",",
         Token::Colon => ":",
         Token::QuestionMark => "?",
+        Token::QuestionDot => "?.",
+        Token::NewDot => ".",
+        Token::HashIn => "#",
         Token::PlusPlus => "++",
         Token::MinusMinus => "--",
         Token::Tilde => "~",

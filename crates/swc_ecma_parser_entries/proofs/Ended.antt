@@ -1,5 +1,5 @@
 -- What a call came to, as it ends.
-use Rattle.std.proofs.Common.{◌≡◌, ℕ, Bool, Result, Ok, Err, None, Some, IsOk, IsErrAnd, OnErr, ap, subst, sym, ◌∙◌, true≢false}
+use Rattle.std.proofs.Common.{◌≡◌, ◌≢◌, ℕ, Bool, true, false, Result, Ok, Err, None, Some, IsOk, IsErrAnd, OnErr, refl, ap, subst, sym, ◌∙◌, true≢false}
 use Rattle.swc_ecma_parser_error.specs.declared.error.Error.{Error}
 use Rattle.swc_ecma_parser_error.specs.Kind.{Fault, OutOfMemory, fault_of, kind_of}
 use Rattle.swc_ecma_parser_input.specs.declared.context.Context.{Context}
@@ -10,7 +10,15 @@ use Rattle.swc_ecma_parser_reader.specs.declared.mark.Mark.TheVariants as mark
 use Rattle.swc_ecma_parser_module_reader.specs.Entry.{AnswersModule}
 use Rattle.swc_ecma_parser_module_reader.specs.ItemEntry.{AnswersItem}
 use Rattle.swc_ecma_parser_module_reader.specs.ProgramEntry.{AnswersProgram}
+use Rattle.swc_ecma_parser_grammar.specs.language.Programs as programs
+use Rattle.swc_ecma_parser_grammar.specs.language.Programs.{Entry, at_top}
+use Rattle.swc_ecma_parser_reader.specs.Reader.{script, whole_stmt}
+use Rattle.swc_ecma_parser_reader.specs.State.{Outcome}
+use Rattle.swc_ecma_parser_module_reader.specs.Items.{item_whole}
+use Rattle.swc_ecma_parser_module_reader.specs.Modules.{module_whole}
+use Rattle.swc_ecma_parser_module_reader.specs.Programs.{program_whole}
 use Rattle.swc_ecma_parser_entries.specs.Ends.{Ends}
+use Rattle.swc_ecma_parser_entries.specs.Refusals.{IsRefusal, IsRefused, Refuses}
 use Rattle.swc_ecma_parser_entries.proofs.SetBack.{script_told, module_told, statement_told, program_told, item_told}
 
 module _ {X : Type 0} (outer : Context) (found : Bool) (call left : State) where
@@ -62,3 +70,27 @@ module _ {X : Type 0} (outer : Context) (found : Bool) (call left : State) where
         → AnswersStatement view limit include_decl top_level s read call → AnswersStatement view limit include_decl top_level s told left
     statement_ended d l (Ok x) told (same, is) h = subst (λ r. AnswersStatement view limit d l s r left) (sym is) (subst (AnswersStatement view limit d l s (Ok x)) (sym same) h)
     statement_ended d l (Err e) told (f, is, t) h = subst (λ r. AnswersStatement view limit d l s r left) (sym is) (statement_told X view limit s e f call left t.same t.back d l h)
+
+-- ---- the faults beside a refusal
+
+module _ (outer : Context) (call left : State) (stay : outer.«module» ≡ false → left.faults ≡ call.faults) (e f : Error) (same : fault_of f ≡ fault_of e) where
+  refusal_told : {A : Type 0} (o : Outcome A) → IsRefusal false o e call → IsRefusal outer.«module» o f left
+  refusal_told o h = record {
+    stopped = h.stopped;
+    refused = h.refused ∙ ap (λ z. Err (z, h.stopped)) (sym same);
+    faults = λ k. stay k ∙ h.faults refl;
+  }
+
+  told_by : (entry : Entry) (limit : ℕ) (s : State) → IsRefused false entry limit s e call → IsRefused outer.«module» entry limit s f left
+  told_by programs.script limit s h = refusal_told (script limit s) h
+  told_by programs.«module» limit s (u, i, h) = (u, i, refusal_told (module_whole limit u) h)
+  told_by programs.program limit s (recorded, held, h) = (recorded, held, refusal_told (program_whole limit recorded s) h)
+  told_by programs.module_item limit s (recorded, held, h) = (recorded, held, refusal_told (item_whole limit recorded s) h)
+  told_by (programs.stmt top_level) limit s h = refusal_told (whole_stmt limit (at_top false top_level) s) h
+  told_by (programs.stmt_list_item top_level) limit s h = refusal_told (whole_stmt limit (at_top true top_level) s) h
+
+module _ {X : Type 0} (outer : Context) (found : Bool) (call left : State) (entry : Entry) (limit : ℕ) (s : State) where
+  pub refuses_ended : (read told : Result X Error) → Ends read call outer found left told → Refuses false entry limit s read call → (b : Bool) → outer.«module» ≡ b → Refuses b entry limit s told left
+  refuses_ended (Ok x) told (same, is) h b k = subst (λ r. Refuses b entry limit s r left) (sym is) tt
+  refuses_ended (Err e) told (f, is, t) h b k = subst (λ r. Refuses b entry limit s r left) (sym is)
+      (λ m. subst (λ c. IsRefused c entry limit s f left) k (told_by outer call left t.faults e f (t.same m) entry limit s (h (λ n. m (ap (λ z. z.kind) (t.same m) ∙ n)))))

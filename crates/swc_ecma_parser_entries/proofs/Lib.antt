@@ -3,3 +3,4 @@ mod SetBack
 mod Begun
 mod Read
 mod Ended
+mod Programs

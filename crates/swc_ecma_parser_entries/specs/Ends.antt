@@ -1,5 +1,5 @@
 -- How a call ends.
-use Rattle.std.specs.Prelude.{◌≡◌, ◌≢◌, Bool, [], None, Some, Result, Ok, Err}
+use Rattle.std.specs.Prelude.{◌≡◌, ◌≢◌, Bool, false, [], None, Some, Result, Ok, Err}
 use Rattle.swc_ecma_parser_error.specs.declared.error.Error.{Error}
 use Rattle.swc_ecma_parser_error.specs.Kind.{OutOfMemory, fault_of, kind_of}
 use Rattle.swc_ecma_parser_input.specs.declared.context.Context.{Context}
@@ -13,6 +13,8 @@ pub record IsTold (e f : Error) (call : State) (outer : Context) (found_module_i
   pub same : kind_of f.kind ≢ OutOfMemory → fault_of f ≡ fault_of e
   pub plain : call.scope.mark ≡ None → f ≡ e
   pub back : IsSetBack call left
+  -- in code that is no module's nothing is recorded as it ends
+  pub faults : outer.«module» ≡ false → left.faults ≡ call.faults
   pub flags : left.code.flags ≡ outer
   pub labels : left.scope.labels ≡ []
   pub noted : left.notes.found_module_item ≡ found_module_item

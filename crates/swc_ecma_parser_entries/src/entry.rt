@@ -1,17 +1,19 @@
 //! What every entry does around its rules: the context is set and set back, and what a call met is answered.
 
-ghost use Rattle.std.specs.Prelude.{◌≡◌, ◌≢◌, true, List, map, Some, None, [], IfErr, IsErrAnd, IsOk, OnErr};
+ghost use Rattle.std.specs.Prelude.{◌≡◌, ◌≢◌, false, true, List, map, Some, None, [], IfErr, IsErrAnd, IsOk, OnErr};
 ghost use Rattle.swc_ecma_parser_entries.specs.Ends.{Ends};
+ghost use Rattle.swc_ecma_parser_entries.specs.Refusals.{Refuses, item_held};
 ghost use Rattle.swc_ecma_parser_error.specs.Kind.{Eof, Fault, OutOfMemory, fault_of, kind_of};
 ghost use Rattle.swc_ecma_parser_module_reader.specs.Entry.{IsEntered, AnswersModule};
 ghost use Rattle.swc_ecma_parser_grammar.specs.Notes.{as_note};
+ghost use Rattle.swc_ecma_parser_grammar.specs.language.Programs as programs;
 ghost use Rattle.swc_ecma_parser_module_reader.specs.ItemEntry.{AnswersItem};
 ghost use Rattle.swc_ecma_parser_module_reader.specs.Items.{begun_item, held_at, item_whole};
 ghost use Rattle.swc_ecma_parser_module_reader.specs.ProgramEntry.{AnswersProgram};
 ghost use Rattle.swc_ecma_parser_reader.specs.Calls.{Leaves, Says, lacks_ahead};
 ghost use Rattle.swc_ecma_parser_reader.specs.State as reader;
 ghost use Rattle.swc_ecma_parser_reader.specs.State.{GivesAs};
-ghost use Rattle.swc_ecma_parser_reader.specs.Entry.{unmarked, AnswersScript, AnswersStatement, IsRestored, IsSetBack};
+ghost use Rattle.swc_ecma_parser_reader.specs.Entry.{unmarked, statement_entry, AnswersScript, AnswersStatement, IsRestored, IsSetBack};
 ghost use Rattle.swc_ecma_parser_reader.specs.declared.mark.Mark.TheVariants as mark;
 ghost use Rattle.swc_ecma_parser_state.specs.Contents.{seen, source_of};
 ghost use Rattle.swc_ecma_parser_state.specs.Keeps.{Keeps};
@@ -45,6 +47,7 @@ fn refused<O: Origin, I: Tokens>(
     ensures same { kind_of result.1.kind ≢ OutOfMemory → fault_of result.1 ≡ fault_of error }
     ensures plain { call.scope.mark ≡ None → result.1 ≡ error }
     ensures back { IsSetBack call (seen result.0) }
+    ensures faults { outer.module ≡ false → (seen result.0).faults ≡ call.faults }
     ensures flags { result.0.buffer.context ≡ outer }
     ensures labels { result.0.labels ≡ [] }
     ensures noted { result.0.found_module_item ≡ found_module_item }
@@ -88,6 +91,8 @@ fn script_in<O: Origin, I: Tokens, T: BuildsStatements + BuildsScript>(
 ) -> PResult<T::Script>
     ensures answers { (s : reader.State) → call.old ≡ begun s
         → AnswersScript T.script_of limit (unmarked s) result call.new }
+    ensures refuses { (s : reader.State) → call.old ≡ begun s
+        → Refuses false programs.script limit (unmarked s) result call.new }
     ensures outright { (s : reader.State) → call.old ≡ begun s → s.at.left ≡ [] → IsOk result }
     ensures ahead { (s : reader.State) → call.old ≡ begun s → lacks_ahead s.at ≡ true
         → IsErrAnd result (λ e. call.new.scope.mark ≡ Some mark.OutOfMemory) }
@@ -114,6 +119,8 @@ fn script_from<O: Origin, I: Tokens, T: BuildsStatements + BuildsScript>(
     requires { O.start ≡ state }
     ensures answers { AnswersScript T.script_of limit (unmarked (seen state)) result.1
         (seen result.0) }
+    ensures refuses { Refuses (seen state).code.flags.module programs.script limit
+        (unmarked (seen state)) result.1 (seen result.0) }
     ensures outright { state.buffer.place.left ≡ [] → IsOk result.1 }
     ensures refused { OnErr result.1 (IsRestored (seen state) (seen result.0)) }
     ensures leaves { Leaves (seen O.start) (seen result.0) }
@@ -137,6 +144,8 @@ pub fn script<I: Tokens, T: BuildsStatements + BuildsScript>(
 ) -> (State<I>, PResult<T::Script>)
     ensures answers { AnswersScript T.script_of limit (unmarked (seen state)) result.1
         (seen result.0) }
+    ensures refuses { Refuses (seen state).code.flags.module programs.script limit
+        (unmarked (seen state)) result.1 (seen result.0) }
     ensures outright { state.buffer.place.left ≡ [] → IsOk result.1 }
     ensures refused { OnErr result.1 (IsRestored (seen state) (seen result.0)) }
     ensures leaves { Leaves (seen state) (seen result.0) }
@@ -156,6 +165,8 @@ fn module_in<O: Origin, I: Tokens, T: BuildsStatements + BuildsExport + BuildsVa
 ) -> PResult<T::Module>
     ensures answers { (s : reader.State) → call.old ≡ begun s → (u : reader.State)
         × IsEntered (unmarked s) u × AnswersModule T.module_of limit u result call.new }
+    ensures refuses { (s : reader.State) → call.old ≡ begun s
+        → Refuses false programs.«module» limit (unmarked s) result call.new }
     ensures outright { (s : reader.State) → call.old ≡ begun s → s.at.left ≡ [] → IsOk result }
     ensures ahead { (s : reader.State) → call.old ≡ begun s → lacks_ahead s.at ≡ true
         → IsErrAnd result (λ e. call.new.scope.mark ≡ Some mark.OutOfMemory) }
@@ -180,6 +191,8 @@ fn module_from<O: Origin, I: Tokens, T: BuildsStatements + BuildsExport + Builds
     requires { O.start ≡ state }
     ensures answers { (u : reader.State) × IsEntered (unmarked (seen state)) u
         × AnswersModule T.module_of limit u result.1 (seen result.0) }
+    ensures refuses { Refuses (seen state).code.flags.module programs.«module» limit
+        (unmarked (seen state)) result.1 (seen result.0) }
     ensures outright { state.buffer.place.left ≡ [] → IsOk result.1 }
     ensures refused { OnErr result.1 (IsRestored (seen state) (seen result.0)) }
     ensures leaves { Leaves (seen O.start) (seen result.0) }
@@ -203,6 +216,8 @@ pub fn module<I: Tokens, T: BuildsStatements + BuildsExport + BuildsVarDecl>(
 ) -> (State<I>, PResult<T::Module>)
     ensures answers { (u : reader.State) × IsEntered (unmarked (seen state)) u
         × AnswersModule T.module_of limit u result.1 (seen result.0) }
+    ensures refuses { Refuses (seen state).code.flags.module programs.«module» limit
+        (unmarked (seen state)) result.1 (seen result.0) }
     ensures outright { state.buffer.place.left ≡ [] → IsOk result.1 }
     ensures refused { OnErr result.1 (IsRestored (seen state) (seen result.0)) }
     ensures leaves { Leaves (seen state) (seen result.0) }
@@ -223,6 +238,8 @@ fn program_in<O: Origin, I: Tokens, T: BuildsStatements + BuildsExport + BuildsV
 ) -> PResult<T::Program>
     ensures answers { (s : reader.State) → call.old ≡ begun s → outer ≡ s.code.flags
         → AnswersProgram T.program_of limit (unmarked s) result call.new }
+    ensures refuses { (s : reader.State) → call.old ≡ begun s → outer ≡ s.code.flags
+        → Refuses false programs.program limit (unmarked s) result call.new }
     ensures outright { (s : reader.State) → call.old ≡ begun s → s.at.left ≡ [] → IsOk result }
     ensures ahead { (s : reader.State) → call.old ≡ begun s → lacks_ahead s.at ≡ true
         → IsErrAnd result (λ e. call.new.scope.mark ≡ Some mark.OutOfMemory) }
@@ -246,6 +263,8 @@ fn program_from<O: Origin, I: Tokens, T: BuildsStatements + BuildsExport + Build
     requires { O.start ≡ state }
     ensures answers { AnswersProgram T.program_of limit (unmarked (seen state)) result.1
         (seen result.0) }
+    ensures refuses { Refuses (seen state).code.flags.module programs.program limit
+        (unmarked (seen state)) result.1 (seen result.0) }
     ensures outright { state.buffer.place.left ≡ [] → IsOk result.1 }
     ensures refused { OnErr result.1 (IsRestored (seen state) (seen result.0)) }
     ensures leaves { Leaves (seen O.start) (seen result.0) }
@@ -269,6 +288,8 @@ pub fn program<I: Tokens, T: BuildsStatements + BuildsExport + BuildsVarDecl>(
 ) -> (State<I>, PResult<T::Program>)
     ensures answers { AnswersProgram T.program_of limit (unmarked (seen state)) result.1
         (seen result.0) }
+    ensures refuses { Refuses (seen state).code.flags.module programs.program limit
+        (unmarked (seen state)) result.1 (seen result.0) }
     ensures outright { state.buffer.place.left ≡ [] → IsOk result.1 }
     ensures refused { OnErr result.1 (IsRestored (seen state) (seen result.0)) }
     ensures leaves { Leaves (seen state) (seen result.0) }
@@ -299,7 +320,9 @@ fn item_alone<O: Origin, I: Tokens, T: BuildsStatements + BuildsExport + BuildsV
 ) -> PResult<T::Item>
     ensures { (recorded : List Fault)
         × GivesAs (λ x. (T.item_of x, map as_note recorded)) (item_whole limit recorded call.old)
-        result call.new }
+        result call.new
+        × IfErr result (λ e. kind_of e.kind ≢ OutOfMemory
+        → map as_note recorded ≡ item_held limit call.old) }
 {
     if !begins_decorators(call) {
         begin_item(call);
@@ -321,6 +344,8 @@ fn item_in<O: Origin, I: Tokens, T: BuildsStatements + BuildsExport + BuildsVarD
 ) -> PResult<T::Item>
     ensures answers { (s : reader.State) → call.old ≡ begun s
         → AnswersItem T.item_of limit (unmarked s) result call.new }
+    ensures refuses { (s : reader.State) → call.old ≡ begun s
+        → Refuses false programs.module_item limit (unmarked s) result call.new }
     ensures at_end { (s : reader.State) → call.old ≡ begun s → s.at.left ≡ []
         → (call.new.scope.mark ≡ None) × IsErrAnd result (λ e. fault_of e ≡ reader.fault_at (reader.end_of s.at.last) Eof) }
     ensures ahead { (s : reader.State) → call.old ≡ begun s → lacks_ahead s.at ≡ true
@@ -346,6 +371,8 @@ fn item_from<O: Origin, I: Tokens, T: BuildsStatements + BuildsExport + BuildsVa
 ) -> (State<I>, PResult<T::Item>)
     requires { O.start ≡ state }
     ensures answers { AnswersItem T.item_of limit (unmarked (seen state)) result.1 (seen result.0) }
+    ensures refuses { Refuses (seen state).code.flags.module programs.module_item limit
+        (unmarked (seen state)) result.1 (seen result.0) }
     ensures at_end { state.buffer.place.left ≡ []
         → IsErrAnd result.1
         (λ e. fault_of e ≡ reader.fault_at (reader.end_of state.buffer.place.last) Eof) }
@@ -370,6 +397,8 @@ pub fn item<I: Tokens, T: BuildsStatements + BuildsExport + BuildsVarDecl>(
     limit: usize,
 ) -> (State<I>, PResult<T::Item>)
     ensures answers { AnswersItem T.item_of limit (unmarked (seen state)) result.1 (seen result.0) }
+    ensures refuses { Refuses (seen state).code.flags.module programs.module_item limit
+        (unmarked (seen state)) result.1 (seen result.0) }
     ensures at_end { state.buffer.place.left ≡ []
         → IsErrAnd result.1
         (λ e. fault_of e ≡ reader.fault_at (reader.end_of state.buffer.place.last) Eof) }
@@ -393,6 +422,8 @@ fn statement_in<O: Origin, I: Tokens, T: BuildsStatements>(
     ensures answers { (s : reader.State) → call.old ≡ begun s
         → AnswersStatement T.stmt_of limit at.include_decl at.top_level (unmarked s) result
         call.new }
+    ensures refuses { (s : reader.State) → call.old ≡ begun s
+        → Refuses false (statement_entry at.include_decl at.top_level) limit (unmarked s) result call.new }
     ensures at_end { (s : reader.State) → call.old ≡ begun s → s.at.left ≡ []
         → (call.new.scope.mark ≡ None) × IsErrAnd result (λ e. fault_of e ≡ reader.fault_at (reader.end_of s.at.last) Eof) }
     ensures ahead { (s : reader.State) → call.old ≡ begun s → lacks_ahead s.at ≡ true
@@ -420,6 +451,8 @@ fn statement_from<O: Origin, I: Tokens, T: BuildsStatements>(
     requires { O.start ≡ state }
     ensures answers { AnswersStatement T.stmt_of limit at.include_decl at.top_level
         (unmarked (seen state)) result.1 (seen result.0) }
+    ensures refuses { Refuses (seen state).code.flags.module (statement_entry at.include_decl at.top_level) limit
+        (unmarked (seen state)) result.1 (seen result.0) }
     ensures at_end { state.buffer.place.left ≡ []
         → IsErrAnd result.1
         (λ e. fault_of e ≡ reader.fault_at (reader.end_of state.buffer.place.last) Eof) }
@@ -445,6 +478,8 @@ pub fn statement<I: Tokens, T: BuildsStatements>(
     at: Position,
 ) -> (State<I>, PResult<T::Stmt>)
     ensures answers { AnswersStatement T.stmt_of limit at.include_decl at.top_level
+        (unmarked (seen state)) result.1 (seen result.0) }
+    ensures refuses { Refuses (seen state).code.flags.module (statement_entry at.include_decl at.top_level) limit
         (unmarked (seen state)) result.1 (seen result.0) }
     ensures at_end { state.buffer.place.left ≡ []
         → IsErrAnd result.1

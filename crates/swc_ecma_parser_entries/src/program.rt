@@ -1,6 +1,8 @@
 //! Programs, over a state whose code can become a module's: ECMA-262, sections 16.1 and 16.2.
 
-ghost use Rattle.std.specs.Prelude.{◌≡◌, ◌&&◌, not, [], IsOk};
+ghost use Rattle.std.specs.Prelude.{◌≡◌, ◌&&◌, false, not, [], IsOk};
+ghost use Rattle.swc_ecma_parser_entries.specs.Refusals.{Refuses};
+ghost use Rattle.swc_ecma_parser_grammar.specs.language.Programs as programs;
 ghost use Rattle.swc_ecma_parser_module_reader.specs.ProgramEntry.{AnswersProgram};
 ghost use Rattle.swc_ecma_parser_module_reader.specs.Programs.{program_code};
 ghost use Rattle.swc_ecma_parser_reader.specs.Reader.{at_end};
@@ -33,6 +35,9 @@ pub(crate) fn program_body<
     ensures answers { (s : reader.State) → outer ≡ s.code.flags
         → state.old ≡ reader.coded (program_code s.code) s
         → AnswersProgram T.program_of limit s result state.new }
+    ensures refuses { (s : reader.State) → outer ≡ s.code.flags
+        → state.old ≡ reader.coded (program_code s.code) s
+        → Refuses false programs.program limit s result state.new }
     ensures outright { state.old.at.left ≡ [] → IsOk result }
 {
     let start = whole_start(state);

@@ -78,6 +78,8 @@ pub data Kind : Type 0 where
   UnterminatedBlockComment : Kind
   InvalidNumber : Kind
   InvalidStrEscape : Kind
+  UnterminatedRegxp : Kind
+  UnterminatedTpl : Kind
 
 -- a kind without what it holds
 abbrev pub kind_of : SyntaxError → Kind
@@ -153,6 +155,8 @@ kind_of v.UnterminatedStrLit = UnterminatedStrLit
 kind_of v.UnterminatedBlockComment = UnterminatedBlockComment
 kind_of v.InvalidNumber = InvalidNumber
 kind_of v.InvalidStrEscape = InvalidStrEscape
+kind_of v.UnterminatedRegxp = UnterminatedRegxp
+kind_of v.UnterminatedTpl = UnterminatedTpl
 
 pub record Fault : Type 0 where
   pub span : Span
@@ -238,6 +242,8 @@ name_of UnterminatedStrLit = codes "UnterminatedStrLit"
 name_of UnterminatedBlockComment = codes "UnterminatedBlockComment"
 name_of InvalidNumber = codes "InvalidNumber"
 name_of InvalidStrEscape = codes "InvalidStrEscape"
+name_of UnterminatedRegxp = codes "UnterminatedRegxp"
+name_of UnterminatedTpl = codes "UnterminatedTpl"
 
 -- the fault that stands for want of memory, where no place is known
 abbrev pub no_memory : Fault

@@ -231,6 +231,10 @@ pub enum SyntaxError {
     InvalidNumber,
     /// A string literal with an escape that is written wrong.
     InvalidStrEscape,
+    /// A regular expression that does not end on its line.
+    UnterminatedRegxp,
+    /// A template without its end.
+    UnterminatedTpl,
 }
 
 /// The name of each kind of the list, as the code spells it.
@@ -292,6 +296,7 @@ impl SyntaxError {
             InvalidPat NotSimpleAssign AssignProperty NullishCoalescingWithLogicalOp UnaryInExp
             LineBreakBeforeArrow InvalidSuper WithLabel OutOfMemory TooDeep UnexpectedChar
             UnterminatedStrLit UnterminatedBlockComment InvalidNumber InvalidStrEscape
+            UnterminatedRegxp UnterminatedTpl
         ])
     }
 
@@ -316,7 +321,7 @@ impl SyntaxError {
             AsyncConstructor InvalidPat NotSimpleAssign AssignProperty
             NullishCoalescingWithLogicalOp UnaryInExp LineBreakBeforeArrow InvalidSuper
             OutOfMemory TooDeep UnexpectedChar UnterminatedStrLit UnterminatedBlockComment
-            InvalidNumber InvalidStrEscape
+            InvalidNumber InvalidStrEscape UnterminatedRegxp UnterminatedTpl
         ], {
             SyntaxError::DuplicateLabel(text) => SyntaxError::DuplicateLabel(copied(text)?),
             SyntaxError::ExportExpectFrom(text) => SyntaxError::ExportExpectFrom(copied(text)?),

@@ -16,6 +16,8 @@ use Rattle.swc_ecma_parser_grammar.specs.language.Operators.{precedence}
 use Rattle.swc_ecma_parser_grammar.specs.language.Parts.{ElementRule}
 use Rattle.swc_ecma_parser_grammar.specs.language.Objects as objects
 use Rattle.swc_ecma_parser_grammar.specs.language.Objects.{PropertyRule}
+use Rattle.swc_ecma_parser_grammar.specs.language.Templates.{TemplateRest, last_text, more_texts, TemplateRule, only_text, first_text}
+use Rattle.swc_ecma_parser_grammar.specs.language.Links.{LinkRule, name_link, private_link, access_link, arguments_link}
 use Rattle.swc_ecma_parser_grammar.specs.language.LeftSides as left
 use Rattle.swc_ecma_parser_grammar.specs.language.LeftSides.{PrimaryRule, LeftSideRule}
 use Rattle.swc_ecma_parser_grammar.specs.language.Patterns as patterns
@@ -25,7 +27,7 @@ use Rattle.swc_ecma_parser_grammar.specs.language.Expressions.{UnaryRule, Binary
 use Rattle.swc_ecma_parser_grammar.specs.language.Decorators as decorators
 use Rattle.swc_ecma_parser_grammar.specs.language.Decorators.{ChainRule, GroupRule, DecoratedRule}
 use Rattle.swc_ecma_parser_grammar.proofs.Tests.{and_both}
-use Rattle.swc_ecma_parser_grammar.specs.scaffold.Supported.{supported}
+use Rattle.swc_ecma_parser_grammar.specs.scaffold.Supported.{supported, is_supported_property_in}
 use Rattle.swc_ecma_parser_exactness.specs.Supports.{Whole, WholeGoal}
 use Rattle.swc_ecma_parser_exactness.proofs.Wholes.{as_form, both, three, WholeKey, EachWhole, each_as, list_whole, parameters_whole, listed_whole, separated_whole, elements_whole}
 use Rattle.swc_ecma_parser_exactness.proofs.Parts.{name_supported, WholeParts, key_whole, access_whole, element_whole, arguments_whole, block_whole, pattern_item_whole, patterns_whole, function_parts, function_whole, class_whole}
@@ -60,6 +62,22 @@ module _ (In : Goal → Type 0) (small : (g : Goal) → In g → WholeGoal g) wh
       as_form x (tree.method_prop (spanned c d) key (tree.function (spanned c d) (listed []) (parameters ps) body is_async is_generator)) i
       (method_whole (spanned c d) key ps body is_async is_generator (key_whole In small k key r.behind_head r.behind_key r.reads_key) (function_parts In small r.reads_parts))
 
+  -- ---- templates, and links of optional chains
+
+  rest_whole : {tagged : Bool} {k : Code} {es qs : List Tree} {c d : Place} → TemplateRest In tagged k es qs c d → EachWhole es
+  rest_whole {k = k} {c = c} (last_text e q m r t i j) = each_as (e ∷ []) i (small (expr_goal expression (with_in k) e c m) r, tt)
+  rest_whole {k = k} {c = c} (more_texts e q es qs m n r t rest i j) = each_as (e ∷ es) i (small (expr_goal expression (with_in k) e c m) r, rest_whole rest)
+
+  template_whole : {tagged : Bool} {k : Code} {es qs : List Tree} {c d : Place} → TemplateRule In tagged k es qs c d → EachWhole es
+  template_whole (only_text q t i j) = each_as [] i tt
+  template_whole (first_text q qs m t rest i) = rest_whole rest
+
+  link_whole : {k : Code} {behind_question : Bool} {whole : Span} {object base : Tree} {c d : Place} → LinkRule In k behind_question whole object base c d → Whole object → Whole base
+  link_whole {whole = whole} {object = o} {base = base} (name_link text s h r e) w = as_form base (tree.member whole o (tree.ident s text)) e (and_both _ true w refl)
+  link_whole {whole = whole} {object = o} {base = base} (private_link name h r e) w = as_form base (tree.member whole o name) e (and_both _ _ w (ap (is_supported_property_in false) r.is))
+  link_whole {whole = whole} {object = o} {base = base} (access_link property h r e) w = as_form base (tree.member whole o property) e (and_both _ _ w (access_whole In small r))
+  link_whole {whole = whole} {object = o} {base = base} (arguments_link args r e) w = as_form base (tree.call whole o args) e (both o args w (arguments_whole In small r))
+
   -- ---- primary and left-hand-side expressions
 
   no_decorators : Whole (listed [])
@@ -73,6 +91,8 @@ module _ (In : Goal → Type 0) (small : (g : Goal) → In g → WholeGoal g) wh
   primary_whole {x = x} (left.null_rule s r e) = ap supported e
   primary_whole {x = x} (left.number_rule raw s r e) = ap supported e
   primary_whole {x = x} (left.big_int_rule raw s r e) = ap supported e
+  primary_whole {x = x} (left.regex_rule exp flags s r e) = ap supported e
+  primary_whole {x = x} {c = c} {d = d} (left.template_rule es qs r e) = as_form x (tree.tpl (spanned c d) (listed es) (listed qs)) e (list_whole es (template_whole r))
   primary_whole {x = x} {c = c} {d = d} (left.this_rule h g e) = ap supported e
   primary_whole {k = k} {x = x} {c = c} {d = d} (left.array_rule xs m h r i g e) =
       as_form x (tree.array (spanned c d) (listed xs)) e (list_whole xs (elements_whole (ElementRule In k) (element_whole In small k) r))
@@ -88,10 +108,16 @@ module _ (In : Goal → Type 0) (small : (g : Goal) → In g → WholeGoal g) wh
   pub left_whole : {k : Code} {x : Tree} {c d : Place} → LeftSideRule In k x c d → Whole x
   left_whole (left.primary_rule r) = primary_whole r
   left_whole {x = x} {c = c} {d = d} (left.import_meta_rule h i j g o e) = ap supported e
-  left_whole {x = x} {c = c} {d = d} (left.member_rule obj property m r s e) =
+  left_whole {x = x} {c = c} {d = d} (left.new_target_rule h i j g e) = ap supported e
+  left_whole {x = x} {c = c} {d = d} (left.tagged_rule tag es qs m r n s e) =
+      let tpl = tree.tpl (spanned m d) (listed es) (listed qs) in
+      as_form x (tree.tagged_tpl (spanned c d) tag tpl) e (both tag tpl (left_whole r) (list_whole es (template_whole s)))
+  left_whole {x = x} {c = c} {d = d} (left.chain_rule obj base m r h l e) = as_form x (tree.opt_chain (spanned c d) true base) e (link_whole l (left_whole r))
+  left_whole {x = x} {c = c} {d = d} (left.linked_rule obj base m r n l e) = as_form x (tree.opt_chain (spanned c d) false base) e (link_whole l (left_whole r))
+  left_whole {x = x} {c = c} {d = d} (left.member_rule obj property m r n s e) =
       as_form x (tree.member (spanned c d) obj property) e (and_both _ _ (left_whole r) (access_whole In small s))
   left_whole {x = x} {c = c} {d = d} (left.super_property_rule property h r i e) = as_form x (tree.super_prop (spanned c d) (span_at c) property) e (access_whole In small r)
-  left_whole {x = x} {c = c} {d = d} (left.call_rule called args m r s e) = as_form x (tree.call (spanned c d) called args) e (both called args (left_whole r) (arguments_whole In small s))
+  left_whole {x = x} {c = c} {d = d} (left.call_rule called args m r n s e) = as_form x (tree.call (spanned c d) called args) e (both called args (left_whole r) (arguments_whole In small s))
   left_whole {x = x} {c = c} {d = d} (left.super_call_rule args h r e) = as_form x (tree.call (spanned c d) (tree.super_callee (span_at c)) args) e (arguments_whole In small r)
   left_whole {x = x} {c = c} {d = d} (left.import_call_rule args h r e) = as_form x (tree.call (spanned c d) (tree.import_callee (span_at c)) args) e (arguments_whole In small r)
   left_whole {k = k} {x = x} {c = c} {d = d} (left.new_rule called args m h r s e) =
@@ -141,6 +167,8 @@ module _ (In : Goal → Type 0) (small : (g : Goal) → In g → WholeGoal g) wh
       as_form x (tree.bin (spanned c d) op left right) e (both left right (binary_whole r) (small (expr_goal (operator (suc (precedence op))) k right (after m) d) s))
   binary_whole {k = k} {x = x} {c = c} {d = d} (expressions.power_rule left right m h r i j s e) =
       as_form x (tree.bin (spanned c d) binary.Exp left right) e (both left right (unary_whole r) (small (expr_goal (operator (precedence binary.Exp)) k right (after m) d) s))
+  binary_whole {k = k} {x = x} {c = c} {d = d} (expressions.private_in_rule name right m h i r o s e) =
+      as_form x (tree.bin (spanned c d) binary.In name right) e (both name right (ap supported r.is) (small (expr_goal (operator (suc (precedence binary.In))) k right (after m) d) s))
 
   -- ---- arrows and assignments
 

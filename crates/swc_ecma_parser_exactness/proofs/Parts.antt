@@ -153,7 +153,7 @@ module _ (In : Goal → Type 0) (small : (g : Goal) → In g → WholeGoal g) wh
   member_key_whole k x c d (classes.member_key r) = open_key (key_is_public r) (key_whole k x c d r)
   member_key_whole k x c d (classes.private_key s word text r e h) = hidden_key (ap is_private e) (ap (is_supported_property_in false) e)
 
-  value_whole : {k : Code} {key x : Tree} {c d : Place} → FieldValueRule In k key x c d → Whole x
+  value_whole : {k : Code} {start : Place} {x : Tree} {c d : Place} → FieldValueRule In k start x c d → Whole x
   value_whole {x = x} (classes.no_value h i j g e) = ap supported e
   value_whole {k = k} {x = x} {c = c} {d = d} (classes.a_value h r) = small (expr_goal assignment (with_in k) x (after c) d) r
 

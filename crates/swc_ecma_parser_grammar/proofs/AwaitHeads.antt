@@ -2,22 +2,16 @@
 -- nothing goes on with it.
 use Rattle.std.proofs.Common.{◌≡◌, ℕ, zero, suc, Bool, true, false, not, None, refl, true≢false, sym, ◌∙◌, ap, subst, codes}
 use Rattle.std.specs.Prelude.{◌&&◌, ◌||◌}
-use Rattle.std.specs.Str.{bytes_eq}
 use Rattle.swc_ecma_parser_common.specs.declared.span.Span.{Span}
-use Rattle.swc_ecma_parser_token.specs.declared.keyword.Keyword.TheVariants as keyword
 use Rattle.swc_ecma_parser_token.specs.declared.kind.TokenKind.{TokenKind}
 use Rattle.swc_ecma_parser_token.specs.declared.kind.TokenKind.TheVariants as kind
-use Rattle.swc_ecma_parser_token.specs.declared.token.Token.TheVariants as token
-use Rattle.swc_ecma_parser_token.specs.declared.token.Word.{Word}
-use Rattle.swc_ecma_parser_token.specs.declared.token.Word.TheVariants as word
-use Rattle.swc_ecma_parser_token.specs.Text.{word_text}
 use Rattle.swc_ecma_parser_input.specs.Place.{Place, after}
 use Rattle.swc_ecma_parser_model.specs.Forms.{is_binding_name, is_ident_named}
 use Rattle.swc_ecma_parser_model.specs.Tree as tree
 use Rattle.swc_ecma_parser_model.specs.Tree.{Tree, Text}
 use Rattle.swc_ecma_parser_grammar.specs.Looks.{kind_at, breaks_at, same_kind, spanned}
 use Rattle.swc_ecma_parser_grammar.specs.Names.{Code, identifier_at}
-use Rattle.swc_ecma_parser_grammar.specs.Follows.{token_is, word_at, continues_left_side}
+use Rattle.swc_ecma_parser_grammar.specs.Follows.{word_at, continues_left_side}
 use Rattle.swc_ecma_parser_grammar.specs.scaffold.Using.{awaits_using, declares_behind, stands_in_head}
 use Rattle.swc_ecma_parser_grammar.specs.scaffold.Supported.{supported_in}
 use Rattle.swc_ecma_parser_grammar.specs.language.Goals.{Goal, binding, expression, unary, expr_goal, pattern_goal, using_goal}
@@ -41,23 +35,9 @@ use Rattle.swc_ecma_parser_grammar.proofs.UsingParts.{using_word, bound_stands}
 
 -- ---- what such a tree is read from
 
-using_token : (w : Word) → bytes_eq (word_text w) (codes "using") ≡ true → token_is (codes "using") (token.Word w) ≡ true
-using_token (word.Ident text) e = e
-using_token (word.Keyword keyword.Await) e = cc
-using_token _ e = cc
-
-named_using : (k : Code) (text : Text) (s : Span) (c d : Place) → ReadsName k text s c d → bytes_eq text (codes "using") ≡ true → word_at (codes "using") c ≡ true
-unfolding word_at
-named_using k text s c d r e = rw r.reads_word.is (using_token r.word (ap (λ t. bytes_eq t (codes "using")) (sym r.is_text) ∙ e))
-
 -- of another form
 clash : {X : Type 0} (a b : Bool) → a ≡ true → a ≡ b → b ≡ false → X
 clash a b h e f = absurd (true≢false (sym h ∙ e ∙ f))
-
--- what is read as `using`
-record IsUsing (c d : Place) : Type 0 where
-  pub word : word_at (codes "using") c ≡ true
-  pub next : d ≡ after c
 
 abbrev is_using : Tree → Bool
 is_using x = is_ident_named (codes "using") x
@@ -71,14 +51,17 @@ record IsAwaited (In : Goal → Type 0) (k : Code) (c d : Place) : Type 0 where
   pub is_name : is_using operand ≡ true
 
 module _ {In : Goal → Type 0} {k : Code} where
-  left_named : {x : Tree} {c d : Place} → LeftSideRule In k x c d → is_using x ≡ true → IsUsing c d
-  left_named {c = c} {d = d} (sides.primary_rule (sides.name_rule text s r j e)) h = record { word = named_using k text s c d r (sym (ap is_using e) ∙ h); next = r.reads_word.next }
+  -- a name is one token, however it is written
+  left_named : {x : Tree} {c d : Place} → LeftSideRule In k x c d → is_using x ≡ true → d ≡ after c
+  left_named (sides.primary_rule (sides.name_rule text s r j e)) h = r.reads_word.next
   left_named (sides.primary_rule (sides.string_rule value raw s r e)) h = clash _ _ h (ap is_using e) refl
   left_named (sides.primary_rule (sides.true_rule s r e)) h = clash _ _ h (ap is_using e) refl
   left_named (sides.primary_rule (sides.false_rule s r e)) h = clash _ _ h (ap is_using e) refl
   left_named (sides.primary_rule (sides.null_rule s r e)) h = clash _ _ h (ap is_using e) refl
   left_named (sides.primary_rule (sides.number_rule raw s r e)) h = clash _ _ h (ap is_using e) refl
   left_named (sides.primary_rule (sides.big_int_rule raw s r e)) h = clash _ _ h (ap is_using e) refl
+  left_named (sides.primary_rule (sides.regex_rule exp flags s r e)) h = clash _ _ h (ap is_using e) refl
+  left_named (sides.primary_rule (sides.template_rule es qs r e)) h = clash _ _ h (ap is_using e) refl
   left_named (sides.primary_rule (sides.this_rule j n e)) h = clash _ _ h (ap is_using e) refl
   left_named (sides.primary_rule (sides.array_rule xs m j r l n e)) h = clash _ _ h (ap is_using e) refl
   left_named (sides.primary_rule (sides.object_rule xs m j r l n e)) h = clash _ _ h (ap is_using e) refl
@@ -86,15 +69,19 @@ module _ {In : Goal → Type 0} {k : Code} where
   left_named (sides.primary_rule (sides.class_rule name y r e)) h = clash _ _ h (ap is_using e) refl
   left_named (sides.primary_rule (sides.paren_rule y m j r l n e)) h = clash _ _ h (ap is_using e) refl
   left_named (sides.import_meta_rule a j w n m e) h = clash _ _ h (ap is_using e) refl
-  left_named (sides.member_rule y p m r a e) h = clash _ _ h (ap is_using e) refl
+  left_named (sides.new_target_rule H G W N e) h = clash _ _ h (ap is_using e) refl
+  left_named (sides.member_rule y p m r n a e) h = clash _ _ h (ap is_using e) refl
   left_named (sides.super_property_rule p a r j e) h = clash _ _ h (ap is_using e) refl
-  left_named (sides.call_rule y z m r a e) h = clash _ _ h (ap is_using e) refl
+  left_named (sides.call_rule y z m r n a e) h = clash _ _ h (ap is_using e) refl
+  left_named (sides.tagged_rule t es qs m r N q e) h = clash _ _ h (ap is_using e) refl
+  left_named (sides.chain_rule o b m r H q e) h = clash _ _ h (ap is_using e) refl
+  left_named (sides.linked_rule o b m r N q e) h = clash _ _ h (ap is_using e) refl
   left_named (sides.super_call_rule z a r e) h = clash _ _ h (ap is_using e) refl
   left_named (sides.import_call_rule z a r e) h = clash _ _ h (ap is_using e) refl
   left_named (sides.new_rule y z m a r b e) h = clash _ _ h (ap is_using e) refl
   left_named (sides.bare_new_rule y a r e) h = clash _ _ h (ap is_using e) refl
 
-  unary_named : {x : Tree} {c d : Place} → UnaryRule In k x c d → is_using x ≡ true → IsUsing c d
+  unary_named : {x : Tree} {c d : Place} → UnaryRule In k x c d → is_using x ≡ true → d ≡ after c
   unary_named (expressions.operand_rule r) h = left_named r.0 h
   unary_named (expressions.unary_rule op y a r e) h = clash _ _ h (ap is_using e) refl
   unary_named (expressions.prefix_rule op y a r t e) h = clash _ _ h (ap is_using e) refl
@@ -110,6 +97,8 @@ module _ {In : Goal → Type 0} {k : Code} where
   left_awaits (sides.primary_rule (sides.null_rule s r e)) = ap awaits_using e
   left_awaits (sides.primary_rule (sides.number_rule raw s r e)) = ap awaits_using e
   left_awaits (sides.primary_rule (sides.big_int_rule raw s r e)) = ap awaits_using e
+  left_awaits (sides.primary_rule (sides.regex_rule exp flags s r e)) = ap awaits_using e
+  left_awaits (sides.primary_rule (sides.template_rule es qs r e)) = ap awaits_using e
   left_awaits (sides.primary_rule (sides.this_rule j n e)) = ap awaits_using e
   left_awaits (sides.primary_rule (sides.array_rule xs m j r l n e)) = ap awaits_using e
   left_awaits (sides.primary_rule (sides.object_rule xs m j r l n e)) = ap awaits_using e
@@ -117,9 +106,13 @@ module _ {In : Goal → Type 0} {k : Code} where
   left_awaits (sides.primary_rule (sides.class_rule name y r e)) = ap awaits_using e
   left_awaits (sides.primary_rule (sides.paren_rule y m j r l n e)) = ap awaits_using e
   left_awaits (sides.import_meta_rule a j w n m e) = ap awaits_using e
-  left_awaits (sides.member_rule y p m r a e) = ap awaits_using e
+  left_awaits (sides.new_target_rule H G W N e) = ap awaits_using e
+  left_awaits (sides.member_rule y p m r n a e) = ap awaits_using e
   left_awaits (sides.super_property_rule p a r j e) = ap awaits_using e
-  left_awaits (sides.call_rule y z m r a e) = ap awaits_using e
+  left_awaits (sides.call_rule y z m r n a e) = ap awaits_using e
+  left_awaits (sides.tagged_rule t es qs m r N q e) = ap awaits_using e
+  left_awaits (sides.chain_rule o b m r H q e) = ap awaits_using e
+  left_awaits (sides.linked_rule o b m r N q e) = ap awaits_using e
   left_awaits (sides.super_call_rule z a r e) = ap awaits_using e
   left_awaits (sides.import_call_rule z a r e) = ap awaits_using e
   left_awaits (sides.new_rule y z m a r b e) = ap awaits_using e
@@ -138,6 +131,7 @@ module _ {In : Goal → Type 0} {k : Code} where
   binary_awaited (expressions.single_rule r) h = unary_awaited r h
   binary_awaited (expressions.left_rule op y z m b g a r o s u v e) h = clash _ _ h (ap awaits_using e) refl
   binary_awaited (expressions.power_rule y z m b r u a s e) h = clash _ _ h (ap awaits_using e) refl
+  binary_awaited (expressions.private_in_rule y z m l b r H q e) h = clash _ _ h (ap awaits_using e) refl
 
   assignment_awaited : {x : Tree} {c d : Place} → AssignmentRule In k x c d → awaits_using x ≡ true → IsAwaited In k c d
   unfolding awaits_using
@@ -155,13 +149,12 @@ module _ {In : Goal → Type 0} {k : Code} where
   expression_awaited (expressions.assignment_rule r e) h = assignment_awaited r h
   expression_awaited (expressions.sequence_rule y z zs r e) h = clash _ _ h (ap awaits_using e) refl
 
--- the words of such an expression, and the level of the second
+-- the words of such an expression, and the level of the second, which may be written with escapes
 pub record AwaitsUsing (n : ℕ) (k : Code) (c d : Place) : Type 0 where
   pub below : ℕ
   pub level : n ≡ suc (suc below)
   pub stands : kind_at c ≡ kind.Await
   pub may : may_await k ≡ true
-  pub word : word_at (codes "using") (after c) ≡ true
   pub next : d ≡ after (after c)
 
 pub awaited_words : (n : ℕ) (k : Code) (x : Tree) (c d : Place) → Reads n (expr_goal expression k x c d) → awaits_using x ≡ true → AwaitsUsing n k c d
@@ -170,8 +163,7 @@ awaited_words (suc n) k x c d r h = by_level n (expression_awaited r h)
   where
     by_level : (n : ℕ) → IsAwaited (Reads n) k c d → AwaitsUsing (suc n) k c d
     by_level zero q = absurd q.reads
-    by_level (suc n) q = let u = unary_named q.reads.0 q.is_name in
-        record { below = n; level = refl; stands = await_stands k.flags c q.awaits_here; may = q.may; word = u.word; next = u.next }
+    by_level (suc n) q = record { below = n; level = refl; stands = await_stands k.flags c q.awaits_here; may = q.may; next = unary_named q.reads.0 q.is_name }
 
 -- ---- the name that is declared, at whatever level
 
@@ -184,12 +176,12 @@ name_level (suc m) n k p c d h (array_rule es j i r l g e) = cc
 name_level (suc m) n k p c d h (object_rule ps j i r l g e) = cc
 
 -- read so, it is what the language declares behind `await`
-pub await_using_widens : (n : ℕ) (k : Code) (x name : Tree) (c m d : Place) → Reads n (expr_goal expression (without_in k) x c m) → awaits_using x ≡ true → word_at (codes "of") m ≡ false
-    → Reads n (pattern_goal binding k name m d) → is_binding_name name ≡ true → Reads n (using_goal k (tree.declarator (spanned m d) name tree.absent) (after c) d)
-await_using_widens n k x name c m d r h o s i = let q = awaited_words n (without_in k) x c m r h in
+pub await_using_widens : (n : ℕ) (k : Code) (x name : Tree) (c m d : Place) → Reads n (expr_goal expression (without_in k) x c m) → awaits_using x ≡ true → word_at (codes "using") (after c) ≡ true
+    → word_at (codes "of") m ≡ false → Reads n (pattern_goal binding k name m d) → is_binding_name name ≡ true → Reads n (using_goal k (tree.declarator (spanned m d) name tree.absent) (after c) d)
+await_using_widens n k x name c m d r h w o s i = let q = awaited_words n (without_in k) x c m r h in
     subst (λ l. Reads l (using_goal k (tree.declarator (spanned m d) name tree.absent) (after c) d)) (sym q.level) (record {
       name = name;
-      begins = q.word;
+      begins = w;
       no_of = ap (word_at (codes "of")) (sym q.next) ∙ o;
       reads_name = subst (λ p. Reads (suc q.below) (pattern_goal binding k name p d)) q.next (name_level n q.below k name m d i s);
       is_name = i;
@@ -199,11 +191,17 @@ await_using_widens n k x name c m d r h o s i = let q = awaited_words n (without
 -- ---- before a name nothing goes on with the two words
 
 kind_stops : (j : TokenKind) (b : Bool) → is_access j ≡ false → update_operator j ≡ None
-    → (same_kind j kind.Dot || (same_kind j kind.LBracket || (same_kind j kind.LParen || (not b && (same_kind j kind.PlusPlus || same_kind j kind.MinusMinus))))) ≡ false
+    → (same_kind j kind.Dot
+    || (same_kind j kind.LBracket
+    || (same_kind j kind.LParen
+    || (same_kind j kind.QuestionDot || ((same_kind j kind.Template || same_kind j kind.TemplateHead) || (not b && (same_kind j kind.PlusPlus || same_kind j kind.MinusMinus))))))) ≡ false
 unfolding same_kind
 kind_stops kind.Dot b e f = cc
 kind_stops kind.LBracket b e f = cc
 kind_stops kind.LParen b e f = cc
+kind_stops kind.QuestionDot b e f = cc
+kind_stops kind.Template b e f = cc
+kind_stops kind.TemplateHead b e f = cc
 kind_stops kind.PlusPlus b e f = cc
 kind_stops kind.MinusMinus b e f = cc
 kind_stops _ b e f = and_no (not b) _ refl
@@ -252,6 +250,7 @@ pub record UsingNarrowed (n : ℕ) (k : Code) (y : Tree) (c d : Place) : Type 0 
   pub name : Tree
   pub reads_words : Reads n (expr_goal expression (without_in k) words c (after (after c)))
   pub are_words : awaits_using words ≡ true
+  pub word : word_at (codes "using") (after c) ≡ true
   pub supports : supported_in k.flags.module words ≡ true
   pub no_of : word_at (codes "of") (after (after c)) ≡ false
   pub reads_name : Reads n (pattern_goal binding k name (after (after c)) d)
@@ -269,6 +268,7 @@ await_using_narrows (suc (suc n)) k y c d e m r =
       name = r.name;
       reads_words = await_expression n k s c e m g r.begins i;
       are_words = refl;
+      word = r.begins;
       supports = refl;
       no_of = r.no_of;
       reads_name = name_level (suc n) (suc n) k r.name (after (after c)) d r.is_name r.reads_name;

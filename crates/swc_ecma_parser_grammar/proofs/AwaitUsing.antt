@@ -20,7 +20,7 @@ use Rattle.swc_ecma_parser_grammar.specs.language.Reads.{Reads}
 use Rattle.swc_ecma_parser_grammar.proofs.ExpressionBegins.{kind_seen}
 use Rattle.swc_ecma_parser_grammar.proofs.StatementBegins.{word_place}
 use Rattle.swc_ecma_parser_grammar.proofs.Tests.{and_yes}
-use Rattle.swc_ecma_parser_grammar.proofs.Inversions.{moved_kind, is_access, is_bracket, IsPlain, plain_unassigned, by_operators, binary_unary, lone_unary}
+use Rattle.swc_ecma_parser_grammar.proofs.Inversions.{moved_kind, is_paren, is_bracket, IsPlain, plain_unassigned, by_operators, binary_unary, lone_unary}
 use Rattle.swc_ecma_parser_grammar.proofs.Using.{IsNoOther, no_other, using_identifier, using_lone, declares, kind_differs}
 
 no_word : (text : List ℕ) (c : Place) → kind_at c ≡ kind.Await → word_at text c ≡ false
@@ -57,13 +57,13 @@ module _ (k : Code) (c : Place) (a : kind_at c ≡ kind.Await) (h : is_using_dec
   await_plain = record {
     no_async = no_word (codes "async") c a;
     no_yield = rw a refl;
-    no_paren = ap is_access a;
+    no_paren = ap is_paren a;
     no_bracket = ap is_bracket a;
     no_arrow = rw (word_place (codes "using") (after c) word) refl;
   }
 
   await_binary : (n : ℕ) (j : Code) (y : Tree) (m : Place) → BinaryRule (Reads n) j 1 y c m → m ≡ after (after c)
-  await_binary n j y m r = await_unary n j y m (binary_unary c (after (after c)) behind.no_binary (await_unary n j) 1 y m r)
+  await_binary n j y m r = await_unary n j y m (binary_unary c (after (after c)) (λ h. let i : kind.Await ≡ kind.HashIn = sym a ∙ h in cc) behind.no_binary (await_unary n j) 1 y m r)
 
   await_assignment : (n : ℕ) (j : Code) (y : Tree) (m : Place) → AssignmentRule (Reads n) j y c m → m ≡ after (after c)
   unfolding same_kind

@@ -1,5 +1,5 @@
 -- How a primary expression can begin: what a reading must be, by the first token. For lists that nothing spells.
-use Rattle.std.proofs.Common.{◌≡◌, Bool, true, false, List, [], ◌∷◌, refl}
+use Rattle.std.proofs.Common.{◌≡◌, ◌⊎◌, inl, inr, Bool, true, false, List, [], ◌∷◌, refl, true≢false, sym, ◌∙◌}
 use Rattle.std.specs.Prelude.{codes}
 use Rattle.swc_ecma_parser_common.specs.declared.span.Span.{Span}
 use Rattle.swc_ecma_parser_token.specs.declared.kind.TokenKind.{TokenKind}
@@ -14,13 +14,14 @@ use Rattle.swc_ecma_parser_model.specs.Tree as tree
 use Rattle.swc_ecma_parser_model.specs.Tree.{Tree, Text, listed}
 use Rattle.swc_ecma_parser_grammar.specs.Looks.{kind_at, breaks_at, same_kind, spanned}
 use Rattle.swc_ecma_parser_grammar.specs.Names.{Code}
-use Rattle.swc_ecma_parser_grammar.specs.Follows.{word_at, is_async_function, AsyncWord, not_async, async_word}
+use Rattle.swc_ecma_parser_grammar.specs.Follows.{begins_template, word_at, is_async_function, AsyncWord, not_async, async_word}
 use Rattle.swc_ecma_parser_grammar.specs.language.Contexts.{with_in}
 use Rattle.swc_ecma_parser_grammar.specs.language.Goals.{Goal, expr_goal, expression}
 use Rattle.swc_ecma_parser_grammar.specs.language.Lists.{ReadsListed, Elements}
 use Rattle.swc_ecma_parser_grammar.specs.language.Parts.{ElementRule, ReadsToken}
 use Rattle.swc_ecma_parser_grammar.specs.language.Objects.{PropertyRule}
-use Rattle.swc_ecma_parser_grammar.specs.language.LeftSides.{PrimaryRule, name_rule, string_rule, true_rule, false_rule, null_rule, number_rule, big_int_rule, this_rule, array_rule, object_rule, function_rule, class_rule, paren_rule}
+use Rattle.swc_ecma_parser_grammar.specs.language.Templates.{TemplateRule, only_text, first_text}
+use Rattle.swc_ecma_parser_grammar.specs.language.LeftSides.{PrimaryRule, name_rule, string_rule, true_rule, false_rule, null_rule, number_rule, big_int_rule, regex_rule, template_rule, this_rule, array_rule, object_rule, function_rule, class_rule, paren_rule}
 
 -- ---- the kinds of token that begin one
 
@@ -29,6 +30,7 @@ abbrev pub is_literal : TokenKind → Bool
 is_literal kind.Str = true
 is_literal kind.Num = true
 is_literal kind.BigInt = true
+is_literal kind.Regex = true
 is_literal kind.Null = true
 is_literal kind.True = true
 is_literal kind.False = true
@@ -48,6 +50,9 @@ opens kind.LBrace = true
 opens kind.LParen = true
 opens kind.Function = true
 opens kind.Class = true
+opens kind.Template = true
+opens kind.TemplateHead = true
+opens kind.HashIn = true
 opens _ = false
 
 opens-has_body : (t : TokenKind) → opens t ≡ false → has_body t ≡ false
@@ -70,12 +75,24 @@ kind_of r = rw r.is refl
 pub word_of : {w : Word} {s : Span} {c d : Place} → ReadsToken (token.Word w) s c d → word_first c.left ≡ true
 word_of r = rw r.is refl
 
+-- a template begins with a token of its own
+pub template_opens : {In : Goal → Type 0} {tagged : Bool} {k : Code} {es qs : List Tree} {c d : Place} → TemplateRule In tagged k es qs c d
+    → (kind_at c ≡ kind.Template) ⊎ (kind_at c ≡ kind.TemplateHead)
+template_opens (only_text q t e i) = inl (kind_of t.reads_text)
+template_opens (first_text q qs m t r i) = inr (kind_of t.reads_text)
+
+template_is_opening : {In : Goal → Type 0} {tagged : Bool} {k : Code} {es qs : List Tree} {c d : Place} → TemplateRule In tagged k es qs c d → opens (kind_at c) ≡ true
+template_is_opening r = elim (template_opens r) [ inl e ↦ rw e refl | inr e ↦ rw e refl ]
+
+template_has_body : {In : Goal → Type 0} {tagged : Bool} {k : Code} {es qs : List Tree} {c d : Place} → TemplateRule In tagged k es qs c d → kind_at c ≡ kind.Ident → ⊥
+template_has_body r h = elim (template_opens r) [ inl e ↦ let f : kind.Template ≡ kind.Ident = sym e ∙ h in cc | inr e ↦ let f : kind.TemplateHead ≡ kind.Ident = sym e ∙ h in cc ]
+
 async_function : (c : Place) → word_at (codes "async") c ≡ true → kind_at (after c) ≡ kind.Function → breaks_at (after c) ≡ false → is_async_function c ≡ true
 unfolding is_async_function same_kind
 async_function c g l j = rw (g, l, j) refl
 
 -- neither `function` nor `async function` on one line
-no_function : (c : Place) → has_body (kind_at c) ≡ false → is_async_function c ≡ false → (m : Place) (is_async : Bool) → AsyncWord is_async c m → kind_at m ≡ kind.Function → ⊥
+pub no_function : (c : Place) → has_body (kind_at c) ≡ false → is_async_function c ≡ false → (m : Place) (is_async : Bool) → AsyncWord is_async c m → kind_at m ≡ kind.Function → ⊥
 no_function c h f m is_async (not_async e g) i = let j : kind_at c ≡ kind.Function = rw g at i in cc
 no_function c h f m is_async (async_word e g i j) l = let o = async_function c g (rw i at l) (rw i at j) in cc
 
@@ -88,10 +105,15 @@ pub record IsNoPrimary (c : Place) : Type 0 where
 
 -- what begins one with a bracket, or none
 pub record IsBracketFirst (c : Place) : Type 0 where
+  pub no_template : begins_template c ≡ false
   pub no_word : word_first c.left ≡ false
   pub no_literal : is_literal (kind_at c) ≡ false
   pub no_body : has_body (kind_at c) ≡ false
   pub no_function : is_async_function c ≡ false
+
+no_template_here : {In : Goal → Type 0} {tagged : Bool} {k : Code} {es qs : List Tree} (c : Place) {d : Place} → begins_template c ≡ false → TemplateRule In tagged k es qs c d → ⊥
+unfolding same_kind
+no_template_here c h r = elim (template_opens r) [ inl e ↦ true≢false (rw e at h) | inr e ↦ true≢false (rw e at h) ]
 
 pub data ByBracket (In : Goal → Type 0) (k : Code) (x : Tree) (c d : Place) : Type 0 where
   by_array : (xs : List Tree) (m : Place) → kind_at c ≡ kind.LBracket → Elements (ElementRule In k) xs (after c) m → kind_at m ≡ kind.RBracket → d ≡ after m
@@ -112,6 +134,8 @@ module _ {In : Goal → Type 0} {k : Code} where
   no_primary c h x d (null_rule s r e) = let f = kind_of r in let i = h.no_literal in cc
   no_primary c h x d (number_rule w s r e) = let f = kind_of r in let i = h.no_literal in cc
   no_primary c h x d (big_int_rule w s r e) = let f = kind_of r in let i = h.no_literal in cc
+  no_primary c h x d (regex_rule w v s r e) = let f = kind_of r in let i = h.no_literal in cc
+  no_primary c h x d (template_rule es qs r e) = let f = template_is_opening r in let i = h.no_opening in cc
   no_primary c h x d (this_rule e g i) = let f = h.no_literal in cc
   no_primary c h x d (array_rule xs m e r g i j) = let f = h.no_opening in cc
   no_primary c h x d (object_rule xs m e r g i j) = let f = h.no_opening in cc
@@ -127,6 +151,8 @@ module _ {In : Goal → Type 0} {k : Code} where
   by_bracket c h x d (null_rule s r e) = absurd (let f = kind_of r in let i = h.no_literal in cc)
   by_bracket c h x d (number_rule w s r e) = absurd (let f = kind_of r in let i = h.no_literal in cc)
   by_bracket c h x d (big_int_rule w s r e) = absurd (let f = kind_of r in let i = h.no_literal in cc)
+  by_bracket c h x d (regex_rule w v s r e) = absurd (let f = kind_of r in let i = h.no_literal in cc)
+  by_bracket c h x d (template_rule es qs r e) = absurd (no_template_here c h.no_template r)
   by_bracket c h x d (this_rule e g i) = absurd (let f = h.no_literal in cc)
   by_bracket c h x d (array_rule xs m e r g i j) = by_array xs m e r g i j
   by_bracket c h x d (object_rule xs m e r g i j) = by_object xs m e r g i
@@ -143,6 +169,8 @@ module _ {In : Goal → Type 0} {k : Code} where
   one_token c h f x d (null_rule s r e) = r.next
   one_token c h f x d (number_rule w s r e) = r.next
   one_token c h f x d (big_int_rule w s r e) = r.next
+  one_token c h f x d (regex_rule w v s r e) = r.next
+  one_token c h f x d (template_rule es qs r e) = absurd (let i = template_is_opening r in cc)
   one_token c h f x d (this_rule e g i) = g
   one_token c h f x d (array_rule xs m e r g i j) = cc
   one_token c h f x d (object_rule xs m e r g i j) = cc
@@ -159,6 +187,8 @@ module _ {In : Goal → Type 0} {k : Code} where
   one_name c h f x d (null_rule s r e) = let i = kind_of r in cc
   one_name c h f x d (number_rule w s r e) = let i = kind_of r in cc
   one_name c h f x d (big_int_rule w s r e) = let i = kind_of r in cc
+  one_name c h f x d (regex_rule w v s r e) = let i = kind_of r in cc
+  one_name c h f x d (template_rule es qs r e) = absurd (template_has_body r h)
   one_name c h f x d (this_rule e g i) = cc
   one_name c h f x d (array_rule xs m e r g i j) = cc
   one_name c h f x d (object_rule xs m e r g i j) = cc

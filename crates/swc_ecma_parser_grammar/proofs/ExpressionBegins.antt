@@ -1,5 +1,5 @@
 -- What an expression and a pattern begin with: what the look-ahead of `yield` takes for the beginning of one.
-use Rattle.std.proofs.Common.{◌≡◌, ℕ, zero, suc, Bool, true, false, not, ◌&&◌, ◌||◌, List, [], ◌∷◌, Some, codes, refl, ap}
+use Rattle.std.proofs.Common.{◌≡◌, inl, inr, ℕ, zero, suc, Bool, true, false, not, ◌&&◌, ◌||◌, List, [], ◌∷◌, Some, codes, refl, ap}
 use denote.Enum.Bare.{same_true}
 use Rattle.std.proofs.lemmas.Slice.Eq.{bytes_eq-Decides}
 use Rattle.swc_ecma_parser_common.specs.declared.span.Span.{Span}
@@ -29,10 +29,11 @@ use Rattle.swc_ecma_parser_grammar.specs.language.Operators.{unary_operator, upd
 use Rattle.swc_ecma_parser_grammar.specs.language.Begins.{begins_operand, begins_unary, begins_expression, awaits}
 use Rattle.swc_ecma_parser_grammar.specs.language.Parts.{ReadsName, ReadsToken}
 use Rattle.swc_ecma_parser_grammar.specs.language.Functions.{FunctionRule}
-use Rattle.swc_ecma_parser_grammar.specs.language.LeftSides.{PrimaryRule, name_rule, string_rule, true_rule, false_rule, null_rule, number_rule, big_int_rule, this_rule, array_rule, object_rule, function_rule, class_rule, paren_rule, LeftSideRule, primary_rule, import_meta_rule, member_rule, super_property_rule, call_rule, super_call_rule, import_call_rule, new_rule, bare_new_rule}
+use Rattle.swc_ecma_parser_grammar.specs.language.LeftSides.{PrimaryRule, name_rule, string_rule, true_rule, false_rule, null_rule, number_rule, big_int_rule, regex_rule, template_rule, this_rule, array_rule, object_rule, function_rule, class_rule, paren_rule, LeftSideRule, primary_rule, import_meta_rule, new_target_rule, member_rule, super_property_rule, call_rule, tagged_rule, chain_rule, linked_rule, super_call_rule, import_call_rule, new_rule, bare_new_rule}
 use Rattle.swc_ecma_parser_grammar.specs.language.Patterns.{PatternRule, binding_name_rule, target_name_rule, target_rule, array_rule, object_rule}
-use Rattle.swc_ecma_parser_grammar.specs.language.Expressions.{UnaryRule, operand_rule, unary_rule, prefix_rule, postfix_rule, await_rule, BinaryRule, single_rule, left_rule, power_rule, ArrowHeadRule, name_head, parameters_head, AssignmentRule, operators_rule, conditional_rule, assign_rule, destructuring_rule, arrow_rule, bare_yield_rule, yield_rule, delegate_rule, ExpressionRule, assignment_rule, sequence_rule, ExprRule}
+use Rattle.swc_ecma_parser_grammar.specs.language.Expressions.{UnaryRule, operand_rule, unary_rule, prefix_rule, postfix_rule, await_rule, BinaryRule, single_rule, left_rule, power_rule, private_in_rule, ArrowHeadRule, name_head, parameters_head, AssignmentRule, operators_rule, conditional_rule, assign_rule, destructuring_rule, arrow_rule, bare_yield_rule, yield_rule, delegate_rule, ExpressionRule, assignment_rule, sequence_rule, ExprRule}
 use Rattle.swc_ecma_parser_grammar.specs.language.Reads.{Reads}
+use Rattle.swc_ecma_parser_grammar.proofs.Beginnings.{template_opens}
 
 -- ---- tokens
 
@@ -128,7 +129,11 @@ await_begins f c h = identifier_begins f c (go c.left h)
 
 yield_begins : (f : Context) (c : Place) → f.in_generator ≡ true → kind_at c ≡ kind.Yield → begins_expression f c ≡ true
 unfolding begins_expression same_kind
-yield_begins f c g h = or_second (begins_unary f c) _ (and_both _ _ g (rw h refl))
+yield_begins f c g h = or_second (begins_unary f c) _ (or_second (same_kind (kind_at c) kind.HashIn) _ (and_both _ _ g (rw h refl)))
+
+hash_begins : (f : Context) (c : Place) → kind_at c ≡ kind.HashIn → begins_expression f c ≡ true
+unfolding begins_expression same_kind
+hash_begins f c h = or_second (begins_unary f c) _ (rw h refl)
 
 -- ---- operators
 
@@ -169,6 +174,8 @@ module _ (In : Goal → Type 0) (k : Code) where
   primary_begins x c d (null_rule s r e) = operand_begins k.flags c kind.Null (kind_of_token r) refl
   primary_begins x c d (number_rule w s r e) = operand_begins k.flags c kind.Num (kind_of_token r) refl
   primary_begins x c d (big_int_rule w s r e) = operand_begins k.flags c kind.BigInt (kind_of_token r) refl
+  primary_begins x c d (regex_rule w f s r e) = operand_begins k.flags c kind.Regex (kind_of_token r) refl
+  primary_begins x c d (template_rule es qs r e) = elim (template_opens r) [ inl i ↦ operand_begins k.flags c kind.Template i refl | inr i ↦ operand_begins k.flags c kind.TemplateHead i refl ]
   primary_begins x c d (this_rule h g e) = operand_begins k.flags c kind.This h refl
   primary_begins x c d (array_rule es m h r g i e) = operand_begins k.flags c kind.LBracket h refl
   primary_begins x c d (object_rule ps m h r g i e) = operand_begins k.flags c kind.LBrace h refl
@@ -179,9 +186,13 @@ module _ (In : Goal → Type 0) (k : Code) where
   left_side_begins : {x : Tree} {c d : Place} → LeftSideRule In k x c d → begins_expression k.flags c ≡ true
   left_side_begins {x = x} {c = c} {d = d} (primary_rule r) = primary_begins x c d r
   left_side_begins {c = c} (import_meta_rule h g i j l e) = operand_begins k.flags c kind.Import h refl
-  left_side_begins (member_rule obj property m r a e) = left_side_begins r
+  left_side_begins {c = c} (new_target_rule h g i j e) = operand_begins k.flags c kind.New h refl
+  left_side_begins (member_rule obj property m r n a e) = left_side_begins r
   left_side_begins {c = c} (super_property_rule property h a g e) = operand_begins k.flags c kind.Super h refl
-  left_side_begins (call_rule called arguments m r a e) = left_side_begins r
+  left_side_begins (call_rule called arguments m r n a e) = left_side_begins r
+  left_side_begins (tagged_rule tag es qs m r n q e) = left_side_begins r
+  left_side_begins (chain_rule obj base m r h q e) = left_side_begins r
+  left_side_begins (linked_rule obj base m r n q e) = left_side_begins r
   left_side_begins {c = c} (super_call_rule arguments h a e) = operand_begins k.flags c kind.Super h refl
   left_side_begins {c = c} (import_call_rule arguments h a e) = operand_begins k.flags c kind.Import h refl
   left_side_begins {c = c} (new_rule called arguments m h r a e) = operand_begins k.flags c kind.New h refl
@@ -205,6 +216,7 @@ module _ (In : Goal → Type 0) (k : Code) where
   binary_begins {x = x} {c = c} {d = d} (single_rule r) = unary_rule_begins x c d r
   binary_begins (left_rule op left right m l g o r h s i j e) = binary_begins r
   binary_begins {c = c} (power_rule left right m l r g h s e) = unary_rule_begins left c m r
+  binary_begins {c = c} (private_in_rule name right m l b r h s e) = hash_begins k.flags c r.hash
 
 -- an arrow's single name is a pattern
 module _ (In : Goal → Type 0) (patterns : (p : Purpose) (k : Code) (x : Tree) (c d : Place) → In (pattern_goal p k x c d) → begins_expression k.flags c ≡ true) (k : Code) where

@@ -10,7 +10,7 @@ use Rattle.swc_ecma_parser_model.specs.declared.operators.BinaryOp.{BinaryOp}
 use Rattle.swc_ecma_parser_model.specs.Tree as tree
 use Rattle.swc_ecma_parser_model.specs.Tree.{Tree, Text}
 use Rattle.swc_ecma_parser_model.specs.Forms.{is_pattern_target, is_simple_target}
-use Rattle.swc_ecma_parser_grammar.specs.Looks.{kind_at, breaks_at, sees, same_kind}
+use Rattle.swc_ecma_parser_grammar.specs.Looks.{kind_at, breaks_at, sees, same_kind, spanned}
 use Rattle.swc_ecma_parser_grammar.specs.Names.{Code}
 use Rattle.swc_ecma_parser_grammar.specs.Follows.{word_at, is_async_function, no_star, star, AsyncWord, not_async, async_word}
 use Rattle.swc_ecma_parser_grammar.specs.language.Goals.{Goal, Purpose, binding, assigning}
@@ -19,12 +19,14 @@ use Rattle.swc_ecma_parser_grammar.specs.language.Begins.{awaits}
 use Rattle.swc_ecma_parser_grammar.specs.language.Continues.{continues_assignment}
 use Rattle.swc_ecma_parser_grammar.specs.language.Lists.{no_comma, last_comma, ReadsListed, Elements, no_elements, hole, last_element, more_elements}
 use Rattle.swc_ecma_parser_grammar.specs.language.Parts.{AccessRule, word_access, private_access, bracket_access}
+use Rattle.swc_ecma_parser_grammar.specs.language.Templates.{TemplateRule}
+use Rattle.swc_ecma_parser_grammar.specs.language.Links.{LinkRule, name_link, private_link, access_link, arguments_link}
 use Rattle.swc_ecma_parser_grammar.specs.language.Functions.{MethodHead, method_head, getter_head, setter_head}
-use Rattle.swc_ecma_parser_grammar.specs.language.LeftSides.{PrimaryRule, LeftSideRule, primary_rule, import_meta_rule, member_rule, super_property_rule, call_rule, super_call_rule, import_call_rule, new_rule, bare_new_rule, OperandRule}
+use Rattle.swc_ecma_parser_grammar.specs.language.LeftSides.{PrimaryRule, LeftSideRule, primary_rule, import_meta_rule, new_target_rule, member_rule, super_property_rule, call_rule, tagged_rule, chain_rule, linked_rule, super_call_rule, import_call_rule, new_rule, bare_new_rule, OperandRule}
 use Rattle.swc_ecma_parser_grammar.specs.language.Patterns.{PatternRule, binding_name_rule, target_name_rule, target_rule, array_rule, object_rule}
-use Rattle.swc_ecma_parser_grammar.specs.language.Expressions.{UnaryRule, operand_rule, unary_rule, prefix_rule, postfix_rule, await_rule, BinaryRule, single_rule, left_rule, power_rule, ArrowHeadRule, name_head, parameters_head, AssignmentRule, operators_rule, conditional_rule, assign_rule, destructuring_rule, arrow_rule, bare_yield_rule, yield_rule, delegate_rule, ExpressionRule, assignment_rule, sequence_rule}
+use Rattle.swc_ecma_parser_grammar.specs.language.Expressions.{UnaryRule, operand_rule, unary_rule, prefix_rule, postfix_rule, await_rule, BinaryRule, single_rule, left_rule, power_rule, private_in_rule, ArrowHeadRule, name_head, parameters_head, AssignmentRule, operators_rule, conditional_rule, assign_rule, destructuring_rule, arrow_rule, bare_yield_rule, yield_rule, delegate_rule, ExpressionRule, assignment_rule, sequence_rule}
 use Rattle.swc_ecma_parser_grammar.specs.language.Reads.{Reads}
-use Rattle.swc_ecma_parser_grammar.proofs.Beginnings.{opens, one_token, one_name}
+use Rattle.swc_ecma_parser_grammar.proofs.Beginnings.{opens, template_opens, one_token, one_name}
 
 -- ---- a place that turned out to be another
 
@@ -51,7 +53,14 @@ abbrev pub is_access : TokenKind → Bool
 is_access kind.Dot = true
 is_access kind.LBracket = true
 is_access kind.LParen = true
+is_access kind.QuestionDot = true
+is_access kind.Template = true
+is_access kind.TemplateHead = true
 is_access _ = false
+
+abbrev pub is_paren : TokenKind → Bool
+is_paren kind.LParen = true
+is_paren _ = false
 
 -- no operator stands before an operand here
 pub record IsUnprefixed (k : Code) (c : Place) : Type 0 where
@@ -65,14 +74,27 @@ module _ {In : Goal → Type 0} {k : Code} where
   no_access m h c x d e (private_access f r) = let i = moved_kind c m e f in cc
   no_access m h c x d e (bracket_access y j f r g l o) = let i = moved_kind c m e f in cc
 
+  no_link : (m : Place) → is_access (kind_at m) ≡ false → (c : Place) (s : Span) (x y : Tree) (d : Place) → c ≡ m → LinkRule In k false s x y c d → ⊥
+  no_link m h c s x y d e (name_link t w f r g) = cc
+  no_link m h c s x y d e (private_link p f r g) = cc
+  no_link m h c s x y d e (access_link p f r g) = no_access m h c p d e r
+  no_link m h c s x y d e (arguments_link a r g) = let i = moved_kind c m e r.opens in cc
+
+  no_template : {tagged : Bool} {es qs : List Tree} (m : Place) → is_access (kind_at m) ≡ false → (c : Place) {d : Place} → c ≡ m → TemplateRule In tagged k es qs c d → ⊥
+  no_template m h c e r = elim (template_opens r) [ inl f ↦ let i = moved_kind c m e f in cc | inr f ↦ let i = moved_kind c m e f in cc ]
+
   -- where nothing goes on with a primary expression, it is all
   pub left_side_primary : (c m : Place) → begins_form (kind_at c) ≡ false → is_access (kind_at m) ≡ false → ((y : Tree) (j : Place) → PrimaryRule In k y c j → j ≡ m)
       → (x : Tree) (d : Place) → LeftSideRule In k x c d → PrimaryRule In k x c d
   left_side_primary c m b a ends x d (primary_rule r) = r
   left_side_primary c m b a ends x d (import_meta_rule e g i j l o) = cc
-  left_side_primary c m b a ends x d (member_rule o p j r s e) = absurd (no_access m a j p d (ends o j (left_side_primary c m b a ends o j r)) s)
+  left_side_primary c m b a ends x d (new_target_rule e g i j o) = cc
+  left_side_primary c m b a ends x d (member_rule o p j r n s e) = absurd (no_access m a j p d (ends o j (left_side_primary c m b a ends o j r)) s)
   left_side_primary c m b a ends x d (super_property_rule p e s g i) = cc
-  left_side_primary c m b a ends x d (call_rule y z j r s e) = absurd (let i = moved_kind j m (ends y j (left_side_primary c m b a ends y j r)) s.opens in cc)
+  left_side_primary c m b a ends x d (call_rule y z j r n s e) = absurd (let i = moved_kind j m (ends y j (left_side_primary c m b a ends y j r)) s.opens in cc)
+  left_side_primary c m b a ends x d (tagged_rule y es qs j r n s e) = absurd (no_template m a j (ends y j (left_side_primary c m b a ends y j r)) s)
+  left_side_primary c m b a ends x d (chain_rule y z j r h s e) = absurd (let i = moved_kind j m (ends y j (left_side_primary c m b a ends y j r)) h in cc)
+  left_side_primary c m b a ends x d (linked_rule y z j r n s e) = absurd (no_link m a j (spanned c d) y z d (ends y j (left_side_primary c m b a ends y j r)) s)
   left_side_primary c m b a ends x d (super_call_rule y e s g) = cc
   left_side_primary c m b a ends x d (import_call_rule y e s g) = cc
   left_side_primary c m b a ends x d (new_rule y z j e r s g) = cc
@@ -82,9 +104,13 @@ module _ {In : Goal → Type 0} {k : Code} where
   pub no_left_side : (c : Place) → begins_form (kind_at c) ≡ false → ((y : Tree) (m : Place) → PrimaryRule In k y c m → ⊥) → (x : Tree) (d : Place) → LeftSideRule In k x c d → ⊥
   no_left_side c h none x d (primary_rule r) = none x d r
   no_left_side c h none x d (import_meta_rule e f g i j l) = cc
-  no_left_side c h none x d (member_rule o p m r a e) = no_left_side c h none o m r
+  no_left_side c h none x d (new_target_rule e f g i j) = cc
+  no_left_side c h none x d (member_rule o p m r n a e) = no_left_side c h none o m r
   no_left_side c h none x d (super_property_rule p e a f g) = cc
-  no_left_side c h none x d (call_rule f a m r s e) = no_left_side c h none f m r
+  no_left_side c h none x d (call_rule f a m r n s e) = no_left_side c h none f m r
+  no_left_side c h none x d (tagged_rule o es qs m r a s e) = no_left_side c h none o m r
+  no_left_side c h none x d (chain_rule o p m r a s e) = no_left_side c h none o m r
+  no_left_side c h none x d (linked_rule o p m r a s e) = no_left_side c h none o m r
   no_left_side c h none x d (super_call_rule a e s f) = cc
   no_left_side c h none x d (import_call_rule a e s f) = cc
   no_left_side c h none x d (new_rule f a m e r s g) = cc
@@ -105,18 +131,23 @@ module _ {In : Goal → Type 0} {k : Code} where
   no_unary c h none x d (postfix_rule op e m r s b f g i) = none e m r
   no_unary c h none x d (await_rule e f g r i) = let j = h.no_await in cc
 
-  pub binary_unary : (c m : Place) → binary_operator (kind_at m) ≡ None → ((y : Tree) (j : Place) → UnaryRule In k y c j → j ≡ m)
+  pub binary_unary : (c m : Place) → (kind_at c ≡ kind.HashIn → ⊥) → binary_operator (kind_at m) ≡ None → ((y : Tree) (j : Place) → UnaryRule In k y c j → j ≡ m)
       → (n : ℕ) (x : Tree) (d : Place) → BinaryRule In k n x c d → UnaryRule In k x c d
-  binary_unary c m h ends n x d (single_rule r) = r
-  binary_unary c m h ends n x d (left_rule op l y j a g o r f s u v q) = absurd (let i = moved_operator j m (ends l j (binary_unary c m h ends _ l j r)) f in cc)
-  binary_unary c m h ends n x d (power_rule l y j a r f g s q) = absurd (let i = moved_kind j m (ends l j r) g in cc)
+  binary_unary c m no_hash h ends n x d (single_rule r) = r
+  binary_unary c m no_hash h ends n x d (left_rule op l y j a g o r f s u v q) = absurd (let i = moved_operator j m (ends l j (binary_unary c m no_hash h ends _ l j r)) f in cc)
+  binary_unary c m no_hash h ends n x d (power_rule l y j a r f g s q) = absurd (let i = moved_kind j m (ends l j r) g in cc)
+  binary_unary c m no_hash h ends n x d (private_in_rule l y j a g r f s q) = absurd (no_hash r.hash)
 
-  pub no_binary : (c : Place) → ((y : Tree) (m : Place) → UnaryRule In k y c m → ⊥) → (n : ℕ) (x : Tree) (d : Place) → BinaryRule In k n x c d → ⊥
-  no_binary c none n x d (single_rule r) = none x d r
-  no_binary c none n x d (left_rule op l y m a g o r f s i j q) = no_binary c none _ l m r
-  no_binary c none n x d (power_rule l y m a r f g s q) = none l m r
+  pub no_binary : (c : Place) → (kind_at c ≡ kind.HashIn → ⊥) → ((y : Tree) (m : Place) → UnaryRule In k y c m → ⊥) → (n : ℕ) (x : Tree) (d : Place) → BinaryRule In k n x c d → ⊥
+  no_binary c no_hash none n x d (single_rule r) = none x d r
+  no_binary c no_hash none n x d (left_rule op l y m a g o r f s i j q) = no_binary c no_hash none _ l m r
+  no_binary c no_hash none n x d (power_rule l y m a r f g s q) = none l m r
+  no_binary c no_hash none n x d (private_in_rule l y m a g r f s q) = no_hash r.hash
 
 -- ---- one token that is all of an operand
+
+no_hash : (c : Place) → opens (kind_at c) ≡ false → kind_at c ≡ kind.HashIn → ⊥
+no_hash c h e = cc
 
 pub record IsLone (k : Code) (c : Place) : Type 0 where
   pub no_opening : opens (kind_at c) ≡ false
@@ -191,8 +222,8 @@ module _ {In : Goal → Type 0} {k : Code} where
   by_operators c h q x d (delegate_rule y g e b l r f) = absurd (no_word c h.no_yield e)
 
   -- and none where no operand begins
-  pub no_assignment : (c : Place) → IsUnassigned In k c → ((y : Tree) (m : Place) → UnaryRule In k y c m → ⊥) → (x : Tree) (d : Place) → AssignmentRule In k x c d → ⊥
-  no_assignment c h none x d r = no_binary c none 1 x d (by_operators c h (λ y m s e. no_binary c none 1 y m s) x d r).0
+  pub no_assignment : (c : Place) → IsUnassigned In k c → (kind_at c ≡ kind.HashIn → ⊥) → ((y : Tree) (m : Place) → UnaryRule In k y c m → ⊥) → (x : Tree) (d : Place) → AssignmentRule In k x c d → ⊥
+  no_assignment c h no_hash none x d r = no_binary c no_hash none 1 x d (by_operators c h (λ y m s e. no_binary c no_hash none 1 y m s) x d r).0
 
   pub no_expression : (c : Place) → ((y : Tree) (m : Place) → AssignmentRule In k y c m → ⊥) → (x : Tree) (d : Place) → ExpressionRule In k x c d → ⊥
   no_expression c none x d (assignment_rule r e) = none x d r
@@ -211,7 +242,7 @@ an_arrow c d e f g = let i = moved_kind d (after c) e f in let j : breaks_at (af
 pub record IsPlain (c : Place) : Type 0 where
   pub no_async : word_at (codes "async") c ≡ false
   pub no_yield : sees kind.Yield c ≡ false
-  pub no_paren : is_access (kind_at c) ≡ false
+  pub no_paren : is_paren (kind_at c) ≡ false
   pub no_bracket : is_bracket (kind_at c) ≡ false
   pub no_arrow : arrow_at (after c) ≡ false
 
@@ -239,8 +270,8 @@ pub lone_assignment : {k : Code} (n : ℕ) (c : Place) → IsLone k c → IsPlai
     → (kind_at (after c) ≡ kind.QuestionMark → ⊥) → (x : Tree) (d : Place) → AssignmentRule (Reads n) k x c d → d ≡ after c
 lone_assignment {k = k} n c h p b a q x d r =
     let u = plain_unassigned n k c p (λ y m s e. rw (lone_operand c h y m s) a) in
-    let (s, e) = by_operators c u (λ y m s e. q (moved_kind m (after c) (lone_unary c h y m (binary_unary c (after c) b (lone_unary c h) 1 y m s)) e)) x d r in
-    lone_unary c h x d (binary_unary c (after c) b (lone_unary c h) 1 x d s)
+    let (s, e) = by_operators c u (λ y m s e. q (moved_kind m (after c) (lone_unary c h y m (binary_unary c (after c) (no_hash c h.no_opening) b (lone_unary c h) 1 y m s)) e)) x d r in
+    lone_unary c h x d (binary_unary c (after c) (no_hash c h.no_opening) b (lone_unary c h) 1 x d s)
 
 -- ---- lists whose first part ends before no comma
 

@@ -22,11 +22,13 @@ mod Examples
 mod Spelling
 mod SpellingParts
 mod SpelledExpressions
+mod SpelledForms
 mod SpelledPatterns
 mod SpelledFunctions
-mod Beginnings
+pub mod Beginnings
 mod Inversions
 mod Unspelled
+mod UnspelledForms
 mod UnspelledPatterns
 mod UnspelledAwait
 mod SpellingItems

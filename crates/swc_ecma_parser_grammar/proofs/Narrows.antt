@@ -142,7 +142,7 @@ of_left_narrows n is_await {k = k} {x = x} {c = c} {d = d} (heads.of_using_rule 
     let f = e ∙ ap (λ z. tree.using (spanned c d) true (listed (z ∷ []))) q.is in
     let g = and_yes (supported_in k.flags.module (tree.declarator (spanned (after (after c)) d) q.name tree.absent)) true
     (supported_as k.flags.module x (tree.using (spanned c d) true (listed (tree.declarator (spanned (after (after c)) d) q.name tree.absent ∷ []))) f h) in
-    of_await_rule q.words q.name (after (after c)) i (q.reads_words, q.supports) q.are_words l q.no_of (q.reads_name, (and_yes (supported_in k.flags.module q.name) true g.0).0) q.is_name f
+    of_await_rule q.words q.name (after (after c)) i (q.reads_words, q.supports) q.are_words l q.word q.no_of (q.reads_name, (and_yes (supported_in k.flags.module q.name) true g.0).0) q.is_name f
 
 part_narrows : (n : ℕ) {k : Code} {x : Tree} {c d : Place} → heads.PartRule (Reads n) k x c d → supported_in k.flags.module x ≡ true → SmallPartRule (ReadsClass n) k x c d
 part_narrows n (heads.no_part_rule g e) h = no_part_rule g e

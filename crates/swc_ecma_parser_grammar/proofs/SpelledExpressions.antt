@@ -35,7 +35,7 @@ call_on_the_next_line : Reads 2 (expr_goal expression (with_in plain) call call_
 unfolding looks
 call_on_the_next_line =
     assignment_rule (value (
-      call_rule _ _ _ (operand refl).0
+      call_rule _ _ _ (operand refl).0 refl
           (record { elements = tree.element None (name 3 4 (codes "b")) ∷ []; close = behind 3 call_tokens; opens = refl; reads_elements = (behind 3 call_tokens, plain_element _ (name_value refl) refl, no_comma refl); closes = refl; next = refl; is = refl }) refl,
       refl,
     ) refl) refl
@@ -90,7 +90,7 @@ tests : Reads 3 (expr_goal expression (with_in plain) test test_tokens (behind 8
 unfolding looks
 tests =
     assignment_rule (operators_rule (left_rule binary.LogicalAnd _ _ _ (omega arith) refl refl
-    (single_rule (unary_rule unary.Bang _ refl (operand_rule (member_rule _ _ _ (operand refl).0 (word_access _ _ refl a_word refl) refl, refl), refl) refl))
+    (single_rule (unary_rule unary.Bang _ refl (operand_rule (member_rule _ _ _ (operand refl).0 refl (word_access _ _ refl a_word refl) refl, refl), refl) refl))
     refl
     (left_rule binary.In _ _ _ (omega arith) refl refl (one (primary_rule (string_rule _ _ _ a_token refl), refl)) refl (one (operand refl), refl) refl refl refl, refl)
     refl refl refl) refl) refl
@@ -170,7 +170,7 @@ url_tokens =
 
 import_meta_url : Reads 1 (expr_goal assignment (with_in maybe_module) (tree.member (at 12 27) (tree.meta_prop (at 12 23) meta.ImportMeta) (name 24 27 (codes "url"))) url_tokens (behind 5 url_tokens))
 unfolding looks
-import_meta_url = value (member_rule _ _ _ (import_meta_rule refl refl refl refl refl refl) (word_access _ _ refl a_word refl) refl, refl) refl
+import_meta_url = value (member_rule _ _ _ (import_meta_rule refl refl refl refl refl refl) refl (word_access _ _ refl a_word refl) refl, refl) refl
 
 -- `[await]` where it is a name
 abbrev await_tokens : Place

@@ -390,7 +390,7 @@ async_method : Reads 5 (expr_goal assignment (with_in plain) (tree.call (at 15 4
 unfolding looks may_begin_at_top may_begin_expression_statement is_let_declaration
 async_method =
     value (
-      call_rule _ _ _ (operand refl).0 (record {
+      call_rule _ _ _ (operand refl).0 refl (record {
         elements = argument;
         close = behind 15 object_tokens;
         opens = refl;
@@ -418,7 +418,7 @@ async_method =
                         statement.expr_rule _ (behind 12 object_tokens) refl
                             (assignment_rule (operators_rule (single_rule (await_rule _ refl refl (
                               operand_rule (
-                                call_rule _ _ _ (operand refl).0
+                                call_rule _ _ _ (operand refl).0 refl
                                     (record { elements = []; close = behind 11 object_tokens; opens = refl; reads_elements = refl; closes = refl; next = refl; is = refl }) refl,
                                 refl,
                               ),

@@ -223,7 +223,8 @@ arrow_argument =
           (import_call_rule _ refl
           (record { elements = file_path; close = behind 3 then_tokens; opens = refl; reads_elements = (_, plain_element _ (name_value refl) refl, no_comma refl); closes = refl; next = refl; is = refl })
           refl)
-          (word_access _ _ refl a_word refl) refl)
+          refl (word_access _ _ refl a_word refl) refl)
+          refl
           (record {
             elements = handler;
             close = behind 11 then_tokens;

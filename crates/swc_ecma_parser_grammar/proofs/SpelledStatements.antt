@@ -501,7 +501,8 @@ caught_without_a_name =
                   expr_rule _ (behind 13 try_await) refl
                       (assignment_rule (value (
                         call_rule _ _ (behind 10 try_await)
-                            (access_rule _ _ (behind 8 try_await) (operand refl).0 (word_access _ _ refl a_word refl) refl)
+                            (access_rule _ _ (behind 8 try_await) (operand refl).0 refl (word_access _ _ refl a_word refl) refl)
+                            refl
                             (record {
                               elements = _ ∷ [];
                               close = behind 12 try_await;

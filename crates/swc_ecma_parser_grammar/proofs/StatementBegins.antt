@@ -71,13 +71,15 @@ operand_has_no_form _ h g i = cc
 
 none_begins : (f : Context) (c : Place) → begins_expression f c ≡ true → same_kind (kind_at c) kind.LBrace ≡ false → same_kind (kind_at c) kind.Import ≡ false → has_form (kind_at c) ≡ false
 unfolding begins_expression begins_unary
-none_begins f c h g i = go (begins_operand (kind_at c)) (identifier_at f c) (f.in_generator && sees kind.Yield c) refl refl refl h
+none_begins f c h g i = go (begins_operand (kind_at c)) (identifier_at f c) (sees kind.HashIn c) (f.in_generator && sees kind.Yield c) refl refl refl refl h
   where
-    go : (a b e : Bool) → begins_operand (kind_at c) ≡ a → identifier_at f c ≡ b → f.in_generator && sees kind.Yield c ≡ e → (a || b) || e ≡ true → has_form (kind_at c) ≡ false
-    go true b e u v w l = operand_has_no_form (kind_at c) u g i
-    go false true e u v w l = identifier_place f c v
-    go false false true u v w l = ap has_form (kind_seen kind.Yield c (and_second _ _ w))
-    go false false false u v w l = cc
+    go : (a b o e : Bool) → begins_operand (kind_at c) ≡ a → identifier_at f c ≡ b → sees kind.HashIn c ≡ o → f.in_generator && sees kind.Yield c ≡ e → (a || b) || (o || e) ≡ true
+        → has_form (kind_at c) ≡ false
+    go true b o e u v j w l = operand_has_no_form (kind_at c) u g i
+    go false true o e u v j w l = identifier_place f c v
+    go false false true e u v j w l = ap has_form (kind_seen kind.HashIn c j)
+    go false false false true u v j w l = ap has_form (kind_seen kind.Yield c (and_second _ _ w))
+    go false false false false u v j w l = cc
 
 -- ---- statements
 

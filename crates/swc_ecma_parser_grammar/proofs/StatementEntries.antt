@@ -69,7 +69,7 @@ left_unnoted n {x = x} {c = c} {d = d} o (left_target_rule h r) = pattern_unnote
 of_left_unnoted : (n : ℕ) {w : Bool} {k : Code} {x : Tree} {c d : Place} → k.flags.module ≡ true → SmallOfLeftRule (ReadsClass n) (ReadsPat n) (ReadsTarget n) k w x c d → notes x ≡ []
 of_left_unnoted n o (of_left_rule r i) = left_unnoted n o r
 of_left_unnoted n {k = k} {c = c} {d = d} o (of_using_rule name h r i e) = ap notes e ∙ rw (pattern_unnoted n binding k name (after c) d o r.0 r.1) refl
-of_left_unnoted n {k = k} {d = d} o (of_await_rule y name m s r u l h q i e) = ap notes e ∙ rw (pattern_unnoted n binding k name m d o q.0 q.1) refl
+of_left_unnoted n {k = k} {d = d} o (of_await_rule y name m s r u l w h q i e) = ap notes e ∙ rw (pattern_unnoted n binding k name m d o q.0 q.1) refl
 
 part_unnoted : (n : ℕ) {k : Code} {x : Tree} {c d : Place} → k.flags.module ≡ true → SmallPartRule (ReadsClass n) k x c d → notes x ≡ []
 part_unnoted n o (no_part_rule g e) = ap notes e

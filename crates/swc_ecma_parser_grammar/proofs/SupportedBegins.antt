@@ -31,14 +31,17 @@ use Rattle.swc_ecma_parser_grammar.specs.language.Operators.{unary_operator, upd
 use Rattle.swc_ecma_parser_grammar.specs.language.Parts.{ReadsName, ReadsToken}
 use Rattle.swc_ecma_parser_grammar.specs.language.Functions as functions
 use Rattle.swc_ecma_parser_grammar.specs.language.LeftSides as sides
-use Rattle.swc_ecma_parser_grammar.specs.language.LeftSides.{LeftSideRule, primary_rule, import_meta_rule, member_rule, super_property_rule, call_rule, super_call_rule, import_call_rule, new_rule, bare_new_rule}
+use Rattle.swc_ecma_parser_grammar.specs.language.LeftSides.{LeftSideRule, primary_rule, import_meta_rule, new_target_rule, member_rule, super_property_rule, call_rule, tagged_rule, chain_rule, linked_rule, super_call_rule, import_call_rule, new_rule, bare_new_rule}
+use Rattle.swc_ecma_parser_grammar.specs.language.Links as links
+use Rattle.swc_ecma_parser_grammar.specs.language.Links.{LinkRule}
 use Rattle.swc_ecma_parser_grammar.specs.language.Expressions as expressions
-use Rattle.swc_ecma_parser_grammar.specs.language.Expressions.{BinaryRule, single_rule, left_rule, power_rule}
+use Rattle.swc_ecma_parser_grammar.specs.language.Expressions.{BinaryRule, single_rule, left_rule, power_rule, private_in_rule}
 use Rattle.swc_ecma_parser_grammar.specs.language.Reads.{Reads}
 use Rattle.swc_ecma_parser_grammar.proofs.Tests.{and_yes}
 use Rattle.swc_ecma_parser_grammar.proofs.Naming.{name_is_free, name_is_name}
 use Rattle.swc_ecma_parser_grammar.proofs.ExpressionBegins.{await_stands}
 use Rattle.swc_ecma_parser_grammar.proofs.StatementBegins.{word_place}
+use Rattle.swc_ecma_parser_grammar.proofs.Beginnings.{template_opens}
 
 -- ---- trees that are supported
 
@@ -192,6 +195,8 @@ module _ (In : Goal → Type 0) (k : Code) where
   primary_opens x c d (sides.null_rule s r e) h = token_opens (token.Word word.Null) s c d r refl
   primary_opens x c d (sides.number_rule raw s r e) h = token_opens (token.Num raw) s c d r refl
   primary_opens x c d (sides.big_int_rule raw s r e) h = token_opens (token.BigInt raw) s c d r refl
+  primary_opens x c d (sides.regex_rule exp flags s r e) h = token_opens (token.Regex exp flags) s c d r refl
+  primary_opens x c d (sides.template_rule es qs r e) h = elim (template_opens r) [ inl i ↦ kind_opens c kind.Template i refl | inr i ↦ kind_opens c kind.TemplateHead i refl ]
   primary_opens x c d (sides.this_rule i n e) h = kind_opens c kind.This i refl
   primary_opens x c d (sides.array_rule xs m i r j n e) h = kind_opens c kind.LBracket i refl
   primary_opens x c d (sides.object_rule xs m i r j n e) h = kind_opens c kind.LBrace i refl
@@ -199,13 +204,25 @@ module _ (In : Goal → Type 0) (k : Code) where
   primary_opens x c d (sides.class_rule name y r e) h = kind_opens c kind.Class r.is_class refl
   primary_opens x c d (sides.paren_rule y m i r j n e) h = kind_opens c kind.LParen i refl
 
+  -- the object of a link is supported where the link is
+  pub link_opens : {X : Type 0} {behind_question : Bool} {s : Span} {c d : Place} (o b : Tree) → (supported_in k.flags.module o ≡ true → X) → LinkRule In k behind_question s o b c d
+      → supported_in k.flags.module b ≡ true → X
+  link_opens {s = s} o b f (links.name_link text w i r e) h = f (and_yes (supported_in k.flags.module o) _ (supported_as _ b (tree.member s o (tree.ident w text)) e h)).0
+  link_opens {s = s} o b f (links.private_link name i r e) h = f (and_yes (supported_in k.flags.module o) _ (supported_as _ b (tree.member s o name) e h)).0
+  link_opens {s = s} o b f (links.access_link property i r e) h = f (and_yes (supported_in k.flags.module o) _ (supported_as _ b (tree.member s o property) e h)).0
+  link_opens {s = s} o b f (links.arguments_link arguments r e) h = f (and_yes (supported_in k.flags.module o) _ (supported_as _ b (tree.call s o arguments) e h)).0
+
   left_side_opens : {x : Tree} {c d : Place} → LeftSideRule In k x c d → supported_in k.flags.module x ≡ true → opens (kind_at c) ≡ true
   left_side_opens {x = x} {c = c} {d = d} (primary_rule r) h = primary_opens x c d r h
   left_side_opens {c = c} (import_meta_rule i j w n m e) h = kind_opens c kind.Import i refl
-  left_side_opens {x = x} {c = c} {d = d} (member_rule y p m r a e) h =
+  left_side_opens {c = c} (new_target_rule i j w n e) h = kind_opens c kind.New i refl
+  left_side_opens {x = x} {c = c} {d = d} (member_rule y p m r n a e) h =
       left_side_opens r (and_yes (supported_in k.flags.module y) _ (supported_as _ x (tree.member (spanned c d) y p) e h)).0
   left_side_opens {c = c} (super_property_rule p i a j e) h = kind_opens c kind.Super i refl
-  left_side_opens {x = x} {c = c} {d = d} (call_rule y z m r a e) h = left_side_opens r (and_yes (supported_in k.flags.module y) _ (supported_as _ x (tree.call (spanned c d) y z) e h)).0
+  left_side_opens {x = x} {c = c} {d = d} (call_rule y z m r n a e) h = left_side_opens r (and_yes (supported_in k.flags.module y) _ (supported_as _ x (tree.call (spanned c d) y z) e h)).0
+  left_side_opens {x = x} {c = c} {d = d} (tagged_rule t es qs m r n q e) h = left_side_opens r (and_yes (supported_in k.flags.module t) _ (supported_as _ x (tree.tagged_tpl (spanned c d) t (tree.tpl (spanned m d) (listed es) (listed qs))) e h)).0
+  left_side_opens {x = x} {c = c} {d = d} (chain_rule o b m r i q e) h = link_opens o b (left_side_opens r) q (supported_as _ x (tree.opt_chain (spanned c d) true b) e h)
+  left_side_opens {x = x} {c = c} {d = d} (linked_rule o b m r n q e) h = link_opens o b (left_side_opens r) q (supported_as _ x (tree.opt_chain (spanned c d) false b) e h)
   left_side_opens {c = c} (super_call_rule z i a e) h = kind_opens c kind.Super i refl
   left_side_opens {c = c} (import_call_rule z i a e) h = kind_opens c kind.Import i refl
   left_side_opens {c = c} (new_rule y z m i r a e) h = kind_opens c kind.New i refl
@@ -223,6 +240,7 @@ module _ (In : Goal → Type 0) (k : Code) where
   binary_opens {x = x} {c = c} {d = d} (left_rule op y z m b g i r o s u v e) h = binary_opens r (and_yes (supported_in k.flags.module y) _ (supported_as _ x (tree.bin (spanned c d) op y z) e h)).0
   binary_opens {x = x} {c = c} {d = d} (power_rule y z m b r u i s e) h =
       unary_rule_opens y c m r (and_yes (supported_in k.flags.module y) _ (supported_as _ x (tree.bin (spanned c d) binary.Exp y z) e h)).0
+  binary_opens {x = x} {c = c} {d = d} (private_in_rule y z m b g r i s e) h = kind_opens c kind.HashIn r.hash refl
 
   -- a pattern that is assigned to begins with its bracket or brace
   pattern_opens : (x : Tree) (c d : Place) → patterns.PatternRule In assigning k x c d → is_pattern_target x ≡ true → opens (kind_at c) ≡ true

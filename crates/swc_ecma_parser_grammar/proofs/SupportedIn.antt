@@ -49,6 +49,11 @@ mutual
   lower m (tree.null s) h = refl
   lower m (tree.num s raw) h = refl
   lower m (tree.big_int s raw) h = refl
+  lower m (tree.regex s exp flags) h = refl
+  lower m (tree.tpl s exprs quasis) h = lower m exprs h
+  lower m (tree.tagged_tpl s tag template) h = let g = and_yes (supported_in m tag) _ h in and_both _ _ (lower m tag g.0) (lower m template g.1)
+  lower m (tree.opt_chain s optional base) h = lower m base h
+  lower m (tree.private_name s word text) h = refl
   lower m (tree.array s elems) h = lower m elems h
   lower m (tree.object s props) h = lower m props h
   lower m (tree.spread_prop dots e) h = lower m e h
@@ -159,6 +164,11 @@ mutual
   lift (tree.null s) h o = refl
   lift (tree.num s raw) h o = refl
   lift (tree.big_int s raw) h o = refl
+  lift (tree.regex s exp flags) h o = refl
+  lift (tree.tpl s exprs quasis) h o = lift exprs h o
+  lift (tree.tagged_tpl s tag template) h o = let g = and_yes (supported_in false tag) _ h in let n = parted (notes tag) (notes template) o in and_both _ _ (lift tag g.0 n.0) (lift template g.1 n.1)
+  lift (tree.opt_chain s optional base) h o = lift base h o
+  lift (tree.private_name s word text) h o = refl
   lift (tree.array s elems) h o = lift elems h o
   lift (tree.object s props) h o = lift props h o
   lift (tree.spread_prop dots e) h o = lift e h o

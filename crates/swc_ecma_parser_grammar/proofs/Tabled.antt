@@ -107,6 +107,7 @@ mutual
   of_tree env (tree.null s) = refl
   of_tree env (tree.num s raw) = refl
   of_tree env (tree.big_int s raw) = refl
+  of_tree env (tree.regex s exp flags) = refl
   of_tree env (tree.this s) = refl
   of_tree env (tree.array s elems) = of_tree env elems
   of_tree env (tree.object s props) = of_tree env props
@@ -125,6 +126,9 @@ mutual
   of_tree env (tree.super_prop s word prop) = of_tree env prop
   of_tree env (tree.call s callee args) = of_tree env callee and of_tree env args
   of_tree env (tree.new s callee args) = of_tree env callee and of_tree env args
+  of_tree env (tree.tpl s exprs quasis) = of_tree env exprs
+  of_tree env (tree.tagged_tpl s tag template) = of_tree env tag and of_tree env template
+  of_tree env (tree.opt_chain s optional base) = of_tree env base
   of_tree env (tree.arrow s params body is_async) = of_tree env params and of_arrow_body (env_in_body env) (walk (env_in_body env) body) body (of_tree (env_in_body env) body) and of_misplaced_directive (has_plain_params params) body
   of_tree env (tree.yield s arg delegate) = of_tree env arg
   of_tree env (tree.await s arg) = of_tree env arg
@@ -133,6 +137,7 @@ mutual
   of_tree env (tree.computed s e) = of_tree env e
   of_tree env (tree.super_callee s) = refl
   of_tree env (tree.import_callee s) = refl
+  of_tree env (tree.quasi s tail cooked raw) = refl
   of_tree env (tree.spread_prop dots e) = of_tree env e
   of_tree env (tree.shorthand_prop s text) = refl
   of_tree env (tree.key_value_prop s key value) = of_tree env key and of_tree env value

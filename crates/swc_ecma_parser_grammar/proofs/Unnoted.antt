@@ -28,6 +28,10 @@ use Rattle.swc_ecma_parser_grammar.specs.language.Parts.{KeyRule, AccessRule, is
 use Rattle.swc_ecma_parser_grammar.specs.language.Functions as functions
 use Rattle.swc_ecma_parser_grammar.specs.language.PatternItems as pattern_items
 use Rattle.swc_ecma_parser_grammar.specs.language.Contexts.{in_class, with_in}
+use Rattle.swc_ecma_parser_grammar.specs.language.Templates as templates
+use Rattle.swc_ecma_parser_grammar.specs.language.Templates.{TemplateRest, TemplateRule}
+use Rattle.swc_ecma_parser_grammar.specs.language.Links as links
+use Rattle.swc_ecma_parser_grammar.specs.language.Links.{LinkRule}
 use Rattle.swc_ecma_parser_grammar.specs.language.Classes as classes
 use Rattle.swc_ecma_parser_grammar.specs.language.Classes.{DecoratorRule, DecoratorsRule, MemberKeyRule, method_member, field_member, FieldValueRule, CoreRule, MemberRule, HeritageRule, ClassRule}
 use Rattle.swc_ecma_parser_grammar.specs.language.Objects as objects
@@ -158,6 +162,27 @@ module _ (In : Goal → Type 0) (small : (g : Goal) → In g → SilentGoal g) w
   arguments_silent {k = k} {commas = commas} {x = x} {c = c} r =
       silent_as x (listed r.elements) r.is (listed_silent (ElementRule In k) (element_silent k) commas r.elements (after c) r.close r.reads_elements)
 
+  rest_silent : {tagged : Bool} {k : Code} {es qs : List Tree} {c d : Place} → TemplateRest In tagged k es qs c d → AllSilent es
+  rest_silent {k = k} {es = es} {c = c} (templates.last_text y q m r t e i) h =
+      let g = and_yes (supported_in true y) _ (sym (ap (λ l. all_supported_in true (trees l)) e) ∙ h) in
+      ap (λ l. all_notes (trees l)) e ∙ joined (notes y) [] (small (expr_goal expression (with_in k) y c m) r g.0) refl
+  rest_silent {k = k} {es = es} {c = c} (templates.more_texts y q ys qs m n r t rs e i) h =
+      let g = and_yes (supported_in true y) _ (sym (ap (λ l. all_supported_in true (trees l)) e) ∙ h) in
+      ap (λ l. all_notes (trees l)) e ∙ joined (notes y) _ (small (expr_goal expression (with_in k) y c m) r g.0) (rest_silent rs g.1)
+
+  template_silent : {tagged : Bool} {k : Code} {es qs : List Tree} {c d : Place} → TemplateRule In tagged k es qs c d → AllSilent es
+  template_silent (templates.only_text q t e i) h = ap (λ l. all_notes (trees l)) e
+  template_silent (templates.first_text q qs m t r i) h = rest_silent r h
+
+  link_silent : {k : Code} {behind_question : Bool} {s : Span} (o b : Tree) {c d : Place} → Silent o → LinkRule In k behind_question s o b c d → Silent b
+  link_silent {s = s} o b f (links.name_link text w i r e) = silent_as b (tree.member s o (tree.ident w text)) e (λ h.
+      let g = and_yes (supported_in true o) _ h in joined (notes o) [] (f g.0) refl)
+  link_silent {s = s} o b f (links.private_link name i r e) = silent_as b (tree.member s o name) e (λ h.
+      let g = and_yes (supported_in true o) _ h in joined (notes o) (notes name) (f g.0) (ap notes r.is))
+  link_silent {s = s} o b f (links.access_link property i r e) = silent_as b (tree.member s o property) e (λ h.
+      let g = and_yes (supported_in true o) _ h in joined (notes o) (notes property) (f g.0) (access_silent r g.1))
+  link_silent {s = s} o b f (links.arguments_link arguments r e) = silent_as b (tree.call s o arguments) e (both_silent o arguments f (arguments_silent r))
+
   property_silent : (k : Code) (x : Tree) (c d : Place) → PropertyRule In k x c d → Silent x
   property_silent k x c d (objects.spread_rule y i r e) = silent_as x (tree.spread_prop (span_at c) y) e (small (expr_goal assignment (with_in k) y (after c) d) r)
   property_silent k x c d (objects.shorthand_rule text s r e) = λ h. ap notes e
@@ -214,6 +239,8 @@ module _ (In : Goal → Type 0) (small : (g : Goal) → In g → SilentGoal g) w
   primary_silent k x c d (sides.null_rule s r e) h = ap notes e
   primary_silent k x c d (sides.number_rule raw s r e) h = ap notes e
   primary_silent k x c d (sides.big_int_rule raw s r e) h = ap notes e
+  primary_silent k x c d (sides.regex_rule exp flags s r e) h = ap notes e
+  primary_silent k x c d (sides.template_rule es qs r e) h = silent_as x (tree.tpl (spanned c d) (listed es) (listed qs)) e (template_silent r) h
   primary_silent k x c d (sides.this_rule i n e) h = ap notes e
   primary_silent k x c d (sides.array_rule xs m i r j n e) h = silent_as x (tree.array (spanned c d) (listed xs)) e (elements_silent (ElementRule In k) (element_silent k) r) h
   primary_silent k x c d (sides.object_rule xs m i r j n e) h =
@@ -225,10 +252,14 @@ module _ (In : Goal → Type 0) (small : (g : Goal) → In g → SilentGoal g) w
   left_silent : {k : Code} {x : Tree} {c d : Place} → LeftSideRule In k x c d → Silent x
   left_silent {k = k} {x = x} {c = c} {d = d} (sides.primary_rule r) = primary_silent k x c d r
   left_silent (sides.import_meta_rule i j w n m e) = λ h. ap notes e
-  left_silent {x = x} {c = c} {d = d} (sides.member_rule y p m r a e) = silent_as x (tree.member (spanned c d) y p) e (λ h.
+  left_silent (sides.new_target_rule H G W N e) = λ h. ap notes e
+  left_silent {x = x} {c = c} {d = d} (sides.member_rule y p m r n a e) = silent_as x (tree.member (spanned c d) y p) e (λ h.
       let g = and_yes (supported_in true y) _ h in joined (notes y) (notes p) (left_silent r g.0) (access_silent a g.1))
   left_silent {x = x} {c = c} {d = d} (sides.super_property_rule p i a j e) = silent_as x (tree.super_prop (spanned c d) (span_at c) p) e (access_silent a)
-  left_silent {x = x} {c = c} {d = d} (sides.call_rule y z m r a e) = silent_as x (tree.call (spanned c d) y z) e (both_silent y z (left_silent r) (arguments_silent a))
+  left_silent {x = x} {c = c} {d = d} (sides.call_rule y z m r n a e) = silent_as x (tree.call (spanned c d) y z) e (both_silent y z (left_silent r) (arguments_silent a))
+  left_silent {x = x} {c = c} {d = d} (sides.tagged_rule t es qs m r n q e) = let tpl = tree.tpl (spanned m d) (listed es) (listed qs) in silent_as x (tree.tagged_tpl (spanned c d) t tpl) e (both_silent t tpl (left_silent r) (template_silent q))
+  left_silent {x = x} {c = c} {d = d} (sides.chain_rule o b m r i q e) = silent_as x (tree.opt_chain (spanned c d) true b) e (link_silent o b (left_silent r) q)
+  left_silent {x = x} {c = c} {d = d} (sides.linked_rule o b m r n q e) = silent_as x (tree.opt_chain (spanned c d) false b) e (link_silent o b (left_silent r) q)
   left_silent {x = x} {c = c} {d = d} (sides.super_call_rule z i a e) = silent_as x (tree.call (spanned c d) (tree.super_callee (span_at c)) z) e (arguments_silent a)
   left_silent {x = x} {c = c} {d = d} (sides.import_call_rule z i a e) = silent_as x (tree.call (spanned c d) (tree.import_callee (span_at c)) z) e (arguments_silent a)
   left_silent {k = k} {x = x} {c = c} {d = d} (sides.new_rule y z m i r a e) =
@@ -275,6 +306,7 @@ module _ (In : Goal → Type 0) (small : (g : Goal) → In g → SilentGoal g) w
       silent_as x (tree.bin (spanned c d) op y z) e (both_silent y z (binary_silent r) (small _ s))
   binary_silent {k = k} {x = x} {c = c} {d = d} (expressions.power_rule y z m b r u i s e) =
       silent_as x (tree.bin (spanned c d) binary.Exp y z) e (both_silent y z (unary_silent k y c m r) (small _ s))
+  binary_silent {k = k} {x = x} {c = c} {d = d} (expressions.private_in_rule y z m b g r i s e) = silent_as x (tree.bin (spanned c d) binary.In y z) e (both_silent y z (λ _. ap notes r.is) (small _ s))
 
   -- the parameters of an arrow, and the whole, whose body has none in module code
   arrow_head_silent : (k : Code) (ps : List Tree) (c d : Place) → ArrowHeadRule In k ps c d → AllSilent ps
@@ -333,7 +365,7 @@ module _ (In : Goal → Type 0) (small : (g : Goal) → In g → SilentGoal g) w
       silent_as _ (tree.private_prop s key value st ds) (ap (λ b. if b then tree.private_prop s key value st ds else tree.class_prop s key value st ds) (ap is_private e))
       (field_is_silent ds key value (is_supported_property_in true key) (λ _. ap notes e) u v) h
 
-  value_silent : {k : Code} {key x : Tree} {c d : Place} → FieldValueRule In k key x c d → Silent x
+  value_silent : {k : Code} {start : Place} {x : Tree} {c d : Place} → FieldValueRule In k start x c d → Silent x
   value_silent (classes.no_value a b i n e) h = ap notes e
   value_silent {k = k} {x = x} {c = c} {d = d} (classes.a_value i r) h = small (expr_goal assignment (with_in k) x (after c) d) r h
 
@@ -461,6 +493,8 @@ module _ (In : Goal → Type 0) where
   left_unnamed (sides.primary_rule (sides.null_rule s r e)) h i = ap is_ident e
   left_unnamed (sides.primary_rule (sides.number_rule raw s r e)) h i = ap is_ident e
   left_unnamed (sides.primary_rule (sides.big_int_rule raw s r e)) h i = ap is_ident e
+  left_unnamed (sides.primary_rule (sides.regex_rule exp flags s r e)) h i = ap is_ident e
+  left_unnamed (sides.primary_rule (sides.template_rule es qs r e)) h i = ap is_ident e
   left_unnamed (sides.primary_rule (sides.this_rule j n e)) h i = ap is_ident e
   left_unnamed (sides.primary_rule (sides.array_rule xs m j r l n e)) h i = ap is_ident e
   left_unnamed (sides.primary_rule (sides.object_rule xs m j r l n e)) h i = ap is_ident e
@@ -468,9 +502,13 @@ module _ (In : Goal → Type 0) where
   left_unnamed (sides.primary_rule (sides.class_rule name y r e)) h i = ap is_ident e
   left_unnamed (sides.primary_rule (sides.paren_rule y m j r l n e)) h i = ap is_ident e
   left_unnamed (sides.import_meta_rule a j w n m e) h i = ap is_ident e
-  left_unnamed (sides.member_rule y p m r a e) h i = ap is_ident e
+  left_unnamed (sides.new_target_rule H G W N e) h i = ap is_ident e
+  left_unnamed (sides.member_rule y p m r n a e) h i = ap is_ident e
   left_unnamed (sides.super_property_rule p a r j e) h i = ap is_ident e
-  left_unnamed (sides.call_rule y z m r a e) h i = ap is_ident e
+  left_unnamed (sides.call_rule y z m r n a e) h i = ap is_ident e
+  left_unnamed (sides.tagged_rule t es qs m r N q e) h i = ap is_ident e
+  left_unnamed (sides.chain_rule o b m r H q e) h i = ap is_ident e
+  left_unnamed (sides.linked_rule o b m r N q e) h i = ap is_ident e
   left_unnamed (sides.super_call_rule z a r e) h i = ap is_ident e
   left_unnamed (sides.import_call_rule z a r e) h i = ap is_ident e
   left_unnamed (sides.new_rule y z m a r b e) h i = ap is_ident e
@@ -487,6 +525,7 @@ module _ (In : Goal → Type 0) where
   binary_unnamed (expressions.single_rule r) h i = unary_unnamed r h i
   binary_unnamed (expressions.left_rule op y z m b g a r o s u v e) h i = ap is_ident e
   binary_unnamed (expressions.power_rule y z m b r u a s e) h i = ap is_ident e
+  binary_unnamed (expressions.private_in_rule y z m l b r H q e) h i = ap is_ident e
 
   assignment_unnamed : {k : Code} {x : Tree} {c d : Place} → AssignmentRule In k x c d → supported_in k.flags.module x ≡ true → sees kind.Import c ≡ true → is_ident x ≡ false
   assignment_unnamed (expressions.operators_rule r s) h i = binary_unnamed r h i

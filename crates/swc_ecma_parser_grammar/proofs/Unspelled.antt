@@ -18,7 +18,7 @@ use Rattle.swc_ecma_parser_grammar.specs.language.Contexts.{with_in}
 use Rattle.swc_ecma_parser_grammar.specs.language.Goals.{Goal, expr_goal, expression, operator, unary}
 use Rattle.swc_ecma_parser_grammar.specs.language.Operators.{binary_operator, precedence, groups_left, mixes, is_unary}
 use Rattle.swc_ecma_parser_grammar.specs.language.Continues.{continues_assignment}
-use Rattle.swc_ecma_parser_grammar.specs.language.Expressions.{UnaryRule, operand_rule, unary_rule, prefix_rule, postfix_rule, await_rule, BinaryRule, single_rule, left_rule, power_rule, AssignmentRule}
+use Rattle.swc_ecma_parser_grammar.specs.language.Expressions.{UnaryRule, operand_rule, unary_rule, prefix_rule, postfix_rule, await_rule, BinaryRule, single_rule, left_rule, power_rule, private_in_rule, AssignmentRule}
 use Rattle.swc_ecma_parser_grammar.specs.language.Reads.{Reads}
 use Rattle.swc_ecma_parser_grammar.proofs.Spelling as spelling
 use Rattle.swc_ecma_parser_grammar.proofs.Spelling.{at, t, below, named, start, behind, plain, looks}
@@ -47,7 +47,7 @@ arrow_unassigned n = plain_unassigned n k arrow_tokens arrow_plain (λ y m r s. 
 
 arrow_unary : (n : ℕ) (x : Tree) (d : Place) → BinaryRule (Reads n) k 1 x arrow_tokens d → UnaryRule (Reads n) k x arrow_tokens d
 unfolding looks
-arrow_unary n x d r = binary_unary arrow_tokens (behind 1 arrow_tokens) refl (lone_unary arrow_tokens arrow_name) 1 x d r
+arrow_unary n x d r = binary_unary arrow_tokens (behind 1 arrow_tokens) (λ h. cc) refl (lone_unary arrow_tokens arrow_name) 1 x d r
 
 arrow_unconditional : (n : ℕ) (x : Tree) (d : Place) → BinaryRule (Reads n) k 1 x arrow_tokens d → kind_at d ≡ kind.QuestionMark → ⊥
 unfolding looks
@@ -103,6 +103,7 @@ second_operand n i x d h (left_rule op l y m a g o r f s u v q) =
     let e = second_operand n (precedence op) l m (omega arith) r in
     absurd (too_loose op i (moved_operator m (mixed 3) e f) h a)
 second_operand n i x d h (power_rule l y m a r f g s q) = let e = moved_kind m (mixed 3) (lone_unary (mixed 2) mixed_second l m r) g in cc
+second_operand n i x d h (private_in_rule l y m a g r f s q) = let e = r.hash in cc
 
 coalesced_right : (n : ℕ) (op : BinaryOp) (y : Tree) (m d : Place) → m ≡ mixed 1 → binary.NullishCoalescing ≡ op → Reads n (expr_goal (operator (suc (precedence op))) k y (after m) d) → d ≡ mixed 3
 unfolding looks
@@ -133,6 +134,7 @@ unfolding looks
 first_operand n i x d (single_rule r) = let (s, text, e) = lone_name (mixed 0) mixed_first refl x d r in alone s text (lone_unary (mixed 0) mixed_first x d r) e
 first_operand n i x d (left_rule op l y m a g o r f s u v q) = more_operands n op l y x _ m d (first_operand n (precedence op) l m r) f s u q
 first_operand n i x d (power_rule l y m a r f g s q) = let e = moved_kind m (mixed 1) (lone_unary (mixed 0) mixed_first l m r) g in cc
+first_operand n i x d (private_in_rule l y m a g r f s q) = let e = r.hash in cc
 
 mixed_unconditional : (x : Tree) (m : Place) → FirstOperand x m → kind_at m ≡ kind.QuestionMark → ⊥
 unfolding looks
@@ -203,9 +205,11 @@ unfolding looks
 negated_left op l m (negation s u e f g) h i = let j : binary.Exp ≡ op = let o = moved_operator m (power 2) f i in cc in cc
 
 power_operands : (n i : ℕ) (x : Tree) (d : Place) → BinaryRule (Reads n) k i x power_tokens d → Negation x d
+unfolding looks
 power_operands n i x d (single_rule r) = negated n x d r
 power_operands n i x d (left_rule op l y m a g o r f s u v q) = absurd (negated_left op l m (power_operands n (precedence op) l m r) g f)
 power_operands n i x d (power_rule l y m a r f g s q) = absurd (negated_base l m (negated n l m r) f)
+power_operands n i x d (private_in_rule l y m a g r f s q) = absurd (let e = r.hash in cc)
 
 power_unconditional : (y : Tree) (m : Place) → Negation y m → kind_at m ≡ kind.QuestionMark → ⊥
 unfolding looks

@@ -67,7 +67,7 @@ behind_zero m d (inr e) f g = rw (g, e) refl
 
 inner_first : IsBracketFirst (on 2)
 unfolding looks
-inner_first = record { no_word = refl; no_literal = refl; no_body = refl; no_function = refl }
+inner_first = record { no_template = refl; no_word = refl; no_literal = refl; no_body = refl; no_function = refl }
 
 inner_array : (n : ℕ) (x : Tree) (d : Place) → ByBracket (Reads n) k x (on 2) d → d ≡ on 5
 unfolding looks
@@ -111,8 +111,8 @@ unfolding looks
 await_read zero x d r = absurd r
 await_read (suc n) x d r =
     let u = plain_unassigned n k (on 1) await_plain (λ y m s e. absurd (let f = s.1 in cc)) in
-    let (b, h) = by_operators (on 1) u (λ y m s e. let f = moved_kind m (on 5) (await_unary n y m (binary_unary (on 1) (on 5) refl (await_unary n) 1 y m s)) e in cc) x d r in
-    await_unary n x d (binary_unary (on 1) (on 5) refl (await_unary n) 1 x d b)
+    let (b, h) = by_operators (on 1) u (λ y m s e. let f = moved_kind m (on 5) (await_unary n y m (binary_unary (on 1) (on 5) (λ h. cc) refl (await_unary n) 1 y m s)) e in cc) x d r in
+    await_unary n x d (binary_unary (on 1) (on 5) (λ h. cc) refl (await_unary n) 1 x d b)
 
 await_element : (n : ℕ) (x : Tree) (d : Place) → ElementRule (Reads n) k x (on 1) d → d ≡ on 5
 unfolding looks
@@ -131,7 +131,7 @@ data OuterArray (x : Tree) (d : Place) : Type 0 where
 
 outer_first : IsBracketFirst (on 0)
 unfolding looks
-outer_first = record { no_word = refl; no_literal = refl; no_body = refl; no_function = refl }
+outer_first = record { no_template = refl; no_word = refl; no_literal = refl; no_body = refl; no_function = refl }
 
 outer_bracket : (n : ℕ) (x : Tree) (d : Place) → ByBracket (Reads n) k x (on 0) d → OuterArray x d
 unfolding looks
@@ -161,7 +161,7 @@ outer_unary n x d r = outer_operand n x d (unary_operand (on 0) (on 6) outer_unp
 
 outer_binary : (n : ℕ) (x : Tree) (d : Place) → BinaryRule (Reads n) k 1 x (on 0) d → OuterArray x d
 unfolding looks
-outer_binary n x d r = outer_unary n x d (binary_unary (on 0) (on 6) refl (λ y j s. outer_end y j (outer_unary n y j s)) 1 x d r)
+outer_binary n x d r = outer_unary n x d (binary_unary (on 0) (on 6) (λ h. cc) refl (λ y j s. outer_end y j (outer_unary n y j s)) 1 x d r)
 
 not_simple : (x : Tree) (d : Place) → OuterArray x d → is_simple_target x ≡ true → ⊥
 not_simple x d (outer_array s e f g) h = let i : is_simple_target (tree.array s e) ≡ true = rw g at h in cc

@@ -81,7 +81,7 @@ no_properties m (inr e) f = let g = moved_kind m (cover 3) e f in cc
 -- so no object literal stands in the parentheses
 brace_first : IsBracketFirst (cover 1)
 unfolding looks
-brace_first = record { no_word = refl; no_literal = refl; no_body = refl; no_function = refl }
+brace_first = record { no_template = refl; no_word = refl; no_literal = refl; no_body = refl; no_function = refl }
 
 no_object : {In : Goal → Type 0} (x : Tree) (d : Place) → ByBracket In k x (cover 1) d → ⊥
 unfolding looks
@@ -159,11 +159,12 @@ inner_unassigned n = record {
 }
 
 no_inner : (n : ℕ) (x : Tree) (d : Place) → AssignmentRule (Reads n) k x (cover 1) d → ⊥
-no_inner n x d r = no_assignment (cover 1) (inner_unassigned n) (no_unary (cover 1) unprefixed_brace no_operand) x d r
+unfolding looks
+no_inner n x d r = no_assignment (cover 1) (inner_unassigned n) (λ h. cc) (no_unary (cover 1) unprefixed_brace no_operand) x d r
 
 paren_first : IsBracketFirst (cover 0)
 unfolding looks
-paren_first = record { no_word = refl; no_literal = refl; no_body = refl; no_function = refl }
+paren_first = record { no_template = refl; no_word = refl; no_literal = refl; no_body = refl; no_function = refl }
 
 no_paren : (n : ℕ) (x : Tree) (d : Place) → ByBracket (Reads n) k x (cover 0) d → ⊥
 unfolding looks
@@ -219,7 +220,8 @@ outer_unassigned n = record {
 }
 
 no_outer : (n : ℕ) (x : Tree) (d : Place) → AssignmentRule (Reads n) k x (cover 0) d → ⊥
-no_outer n x d r = no_assignment (cover 0) (outer_unassigned n) (no_unary (cover 0) unprefixed_paren (no_outer_operand n)) x d r
+unfolding looks
+no_outer n x d r = no_assignment (cover 0) (outer_unassigned n) (λ h. cc) (no_unary (cover 0) unprefixed_paren (no_outer_operand n)) x d r
 
 cover_initializer : (n : ℕ) (x : Tree) (d : Place) → Reads n (expr_goal expression k x cover_tokens d) → ⊥
 cover_initializer zero x d r = r

@@ -30,7 +30,7 @@ use Rattle.swc_ecma_parser_grammar.specs.language.Reads.{Reads}
 use Rattle.swc_ecma_parser_grammar.proofs.Tests.{and_yes, and_no, or_no, or_none}
 use Rattle.swc_ecma_parser_grammar.proofs.StatementBegins.{word_place}
 use Rattle.swc_ecma_parser_grammar.proofs.Beginnings.{opens}
-use Rattle.swc_ecma_parser_grammar.proofs.Inversions.{moved_kind, begins_form, is_access, is_bracket, IsLone, IsPlain, lone_name, lone_assignment}
+use Rattle.swc_ecma_parser_grammar.proofs.Inversions.{moved_kind, begins_form, is_access, is_paren, is_bracket, IsLone, IsPlain, lone_name, lone_assignment}
 
 -- ---- a name is no token that goes on with what stands before it
 
@@ -195,7 +195,7 @@ module _ (k : Code) (c : Place) (w : word_at (codes "using") c ≡ true) (i : id
   using_plain = record {
     no_async = using_no_async c w;
     no_yield = rw word_stands refl;
-    no_paren = ap is_access word_stands;
+    no_paren = ap is_paren word_stands;
     no_bracket = ap is_bracket word_stands;
     no_arrow = rw behind_word.no_arrow refl;
   }

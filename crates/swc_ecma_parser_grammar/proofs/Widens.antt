@@ -29,7 +29,6 @@ use Rattle.swc_ecma_parser_grammar.specs.scaffold.ReadsSupported.{ReadsClass, Re
 use Rattle.swc_ecma_parser_grammar.specs.language.Declarations.{is_using_declaration}
 use Rattle.swc_ecma_parser_grammar.specs.language.Goals.{expression, assignment, expr_goal, stmt_goal}
 use Rattle.swc_ecma_parser_grammar.specs.language.Contexts.{in_loop, in_breakable, in_with, without_in, with_in, head_code, script_code}
-use Rattle.swc_ecma_parser_grammar.specs.language.Patterns as patterns
 use Rattle.swc_ecma_parser_grammar.specs.language.ForHeads as heads
 use Rattle.swc_ecma_parser_grammar.specs.language.Classes as classes
 use Rattle.swc_ecma_parser_grammar.specs.language.Functions as functions
@@ -188,7 +187,7 @@ left_supported n (left_target_rule h r) = r.1
 of_left_supported : (n : ℕ) {w : Bool} {k : Code} {x : Tree} {c d : Place} → SmallOfLeftRule (ReadsClass n) (ReadsPat n) (ReadsTarget n) k w x c d → supported_in k.flags.module x ≡ true
 of_left_supported n (of_left_rule r i) = left_supported n r
 of_left_supported n {k = k} (of_using_rule name h r i e) = ap (supported_in k.flags.module) e ∙ rw r.1 refl
-of_left_supported n {k = k} (of_await_rule y name m s r u l o q i e) = ap (supported_in k.flags.module) e ∙ rw q.1 refl
+of_left_supported n {k = k} (of_await_rule y name m s r u l w o q i e) = ap (supported_in k.flags.module) e ∙ rw q.1 refl
 
 part_supported : (n : ℕ) {k : Code} {x : Tree} {c d : Place} → SmallPartRule (ReadsClass n) k x c d → supported_in k.flags.module x ≡ true
 part_supported n {k = k} (no_part_rule g e) = ap (supported_in k.flags.module) e
@@ -208,9 +207,9 @@ of_left_widens n (of_left_rule r i) = heads.of_left_rule (left_widens n r) i
 of_left_widens n {k = k} {c = c} {d = d} (of_using_rule name h r i e) =
     let g = declares_in_head k c h in
     heads.of_using_rule g.0 (heads.using_head_rule (tree.declarator (spanned (after c) d) name tree.absent) (record { name = name; begins = g.1; no_of = g.3; reads_name = r.0; is_name = i; is = refl }) e)
-of_left_widens n {k = k} {c = c} {d = d} (of_await_rule y name m s r u l o q i e) =
+of_left_widens n {k = k} {c = c} {d = d} (of_await_rule y name m s r u l w o q i e) =
     let g = awaited_words n (without_in k) y c m r.0 u in
-    heads.of_using_rule s (heads.await_using_head_rule (tree.declarator (spanned m d) name tree.absent) g.stands (awaited_may k g.may) l (await_using_widens n k y name c m d r.0 u o q.0 i) e)
+    heads.of_using_rule s (heads.await_using_head_rule (tree.declarator (spanned m d) name tree.absent) g.stands (awaited_may k g.may) l (await_using_widens n k y name c m d r.0 u w o q.0 i) e)
 
 part_widens : (n : ℕ) {k : Code} {x : Tree} {c d : Place} → SmallPartRule (ReadsClass n) k x c d → heads.PartRule (Reads n) k x c d
 part_widens n (no_part_rule g e) = heads.no_part_rule g e

@@ -8,3 +8,4 @@ pub mod Statements
 pub mod ModuleItems
 pub mod Shapes
 pub mod Depths
+pub mod plain

@@ -38,6 +38,7 @@ abbrev mutual
   depth (tree.null s) = 1
   depth (tree.num s raw) = 1
   depth (tree.big_int s raw) = 1
+  depth (tree.regex s exp flags) = 1
   depth (tree.this s) = 1
   depth (tree.array s elems) = suc (depth elems)
   depth (tree.object s props) = suc (depth props)
@@ -56,6 +57,9 @@ abbrev mutual
   depth (tree.super_prop s word prop) = suc (counted (is_computed prop) (depth prop))
   depth (tree.call s callee args) = max (depth callee) (suc (depth args))
   depth (tree.new s callee args) = suc (max (depth callee) (depth args))
+  depth (tree.tpl s exprs quasis) = suc (depth exprs)
+  depth (tree.tagged_tpl s tag template) = max (depth tag) (depth template)
+  depth (tree.opt_chain s optional base) = depth base
   depth (tree.arrow s params body is_async) = suc (max (depth params) (flat (is_block body) (depth body)))
   depth (tree.yield s arg delegate) = suc (depth arg)
   depth (tree.await s arg) = suc (depth arg)
@@ -64,6 +68,7 @@ abbrev mutual
   depth (tree.computed s e) = depth e
   depth (tree.super_callee s) = 0
   depth (tree.import_callee s) = 0
+  depth (tree.quasi s tail cooked raw) = 0
   depth (tree.spread_prop dots e) = depth e
   depth (tree.shorthand_prop s text) = 0
   depth (tree.key_value_prop s key value) = max (counted (is_computed key) (depth key)) (depth value)

@@ -15,9 +15,17 @@ use Rattle.swc_ecma_parser_grammar.specs.declared.position.Position.{Position}
 use Rattle.swc_ecma_parser_grammar.specs.Looks.{kind_at, breaks_at, sees}
 use Rattle.swc_ecma_parser_grammar.specs.Names.{is_one_of, reserved_words}
 
--- goes on with a member or call expression, or is a postfix operator, which stands on its operand's line
+-- a template begins here, or the rest of a tagged one
+abbrev pub begins_template : Place → Bool
+begins_template c = sees kind.Template c || sees kind.TemplateHead c
+
+-- goes on with a member or call expression, with a tagged template or an optional chain, or is a postfix operator, which stands on
+-- its operand's line
 unfoldable pub continues_left_side : Place → Bool
-continues_left_side c = sees kind.Dot c || (sees kind.LBracket c || (sees kind.LParen c || (not (breaks_at c) && (sees kind.PlusPlus c || sees kind.MinusMinus c))))
+continues_left_side c =
+    sees kind.Dot c
+    || (sees kind.LBracket c
+    || (sees kind.LParen c || (sees kind.QuestionDot c || (begins_template c || (not (breaks_at c) && (sees kind.PlusPlus c || sees kind.MinusMinus c))))))
 
 -- a word that is no keyword, and has this text
 abbrev pub token_is : Text → Token → Bool
@@ -73,7 +81,8 @@ pub data Star (is_generator : Bool) (c d : Place) : Type 0 where
 unfoldable pub may_begin_head : Place → Bool
 may_begin_head c = not (sees kind.Var c || (sees kind.Const c || (sees kind.Semi c || is_let_declaration c)))
 
--- `async of` on one line is no left side of a head, but behind `for await`
+-- A name `async` before `of` on its line is no left side of a head, but behind `for await`. A tree does not tell whether a name is
+-- written with an escape, which the standard lets stand here too.
 abbrev pub is_bare_async : Tree → Bool
 is_bare_async (tree.ident_pat s text) = bytes_eq text (codes "async")
 is_bare_async _ = false

@@ -31,6 +31,7 @@ abbrev mutual
   notes (tree.null s) = []
   notes (tree.num s raw) = []
   notes (tree.big_int s raw) = []
+  notes (tree.regex s exp flags) = []
   notes (tree.this s) = []
   notes (tree.array s elems) = notes elems
   notes (tree.object s props) = notes props
@@ -49,6 +50,9 @@ abbrev mutual
   notes (tree.super_prop s word prop) = notes prop
   notes (tree.call s callee args) = notes callee ++ notes args
   notes (tree.new s callee args) = notes callee ++ notes args
+  notes (tree.tpl s exprs quasis) = notes exprs
+  notes (tree.tagged_tpl s tag template) = notes tag ++ notes template
+  notes (tree.opt_chain s optional base) = notes base
   notes (tree.arrow s params body is_async) = notes params ++ notes body
   notes (tree.yield s arg delegate) = notes arg
   notes (tree.await s arg) = notes arg
@@ -57,6 +61,7 @@ abbrev mutual
   notes (tree.computed s e) = notes e
   notes (tree.super_callee s) = []
   notes (tree.import_callee s) = []
+  notes (tree.quasi s tail cooked raw) = []
   notes (tree.spread_prop dots e) = notes e
   notes (tree.shorthand_prop s text) = []
   notes (tree.key_value_prop s key value) = notes key ++ notes value

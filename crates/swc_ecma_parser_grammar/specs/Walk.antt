@@ -89,6 +89,7 @@ abbrev mutual
   walk env (tree.null s) = []
   walk env (tree.num s raw) = []
   walk env (tree.big_int s raw) = []
+  walk env (tree.regex s exp flags) = []
   walk env (tree.this s) = []
   walk env (tree.array s elems) = walk env elems
   walk env (tree.object s props) = walk env props
@@ -107,6 +108,10 @@ abbrev mutual
   walk env (tree.super_prop s word prop) = walk env prop
   walk env (tree.call s callee args) = walk env callee ++ walk env args
   walk env (tree.new s callee args) = walk env callee ++ walk env args
+  -- no fault stands in the texts of a template
+  walk env (tree.tpl s exprs quasis) = walk env exprs
+  walk env (tree.tagged_tpl s tag template) = walk env tag ++ walk env template
+  walk env (tree.opt_chain s optional base) = walk env base
   walk env (tree.arrow s params body is_async) = walk env params ++ walk_arrow_body (env_in_body env) (walk (env_in_body env) body) body ++ misplaced_directive (has_plain_params params) body
   walk env (tree.yield s arg delegate) = walk env arg
   walk env (tree.await s arg) = walk env arg
@@ -115,6 +120,7 @@ abbrev mutual
   walk env (tree.computed s e) = walk env e
   walk env (tree.super_callee s) = []
   walk env (tree.import_callee s) = []
+  walk env (tree.quasi s tail cooked raw) = []
   walk env (tree.spread_prop dots e) = walk env e
   walk env (tree.shorthand_prop s text) = []
   walk env (tree.key_value_prop s key value) = walk env key ++ walk env value

@@ -11,6 +11,8 @@ pub mod Items
 pub mod Functions
 pub mod Classes
 pub mod Objects
+pub mod Templates
+pub mod Links
 pub mod LeftSides
 pub mod Patterns
 pub mod Expressions
@@ -25,4 +27,5 @@ pub mod ModuleItems
 pub mod Noted
 pub mod Reads
 pub mod Programs
+pub mod Plain
 pub mod Laws

@@ -7,6 +7,7 @@ mod class;
 mod position;
 
 ghost use Rattle.swc_ecma_parser_grammar.specs.Levels.{LevelsAreDepth};
+ghost use Rattle.swc_ecma_parser_grammar.specs.language.Plain.{PlainListsArePlain};
 ghost use Rattle.swc_ecma_parser_grammar.specs.language.Laws.{FollowIsLocal, Progress, Shortens, SpansAreTokens, WalkIsTabled, WalkLooksAtFew};
 
 pub use class::Class;
@@ -46,4 +47,10 @@ pub fn looks_one_token_ahead()
 /// the word before the name of an `await using` in the head of a loop.
 pub fn spans_tokens()
     ensures { SpansAreTokens }
+{}
+
+/// Of a list without the tokens of regular expressions, templates, optional chains, `new.target`, `#a in b` and words with escapes no
+/// tree with one of these forms is read.
+pub fn reads_plain_lists()
+    ensures { PlainListsArePlain }
 {}

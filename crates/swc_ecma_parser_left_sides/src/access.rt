@@ -33,7 +33,7 @@ pub enum Property<E> {
 
 /// What stands behind `.`.
 #[tactic(auto, unfolding(swc_ecma_parser_reader::specs::Expressions::dotted))]
-fn dotted<P: Cursor, T: Trees>(p: &mut P) -> PResult<Property<T::Expr>>
+pub(crate) fn dotted<P: Cursor, T: Trees>(p: &mut P) -> PResult<Property<T::Expr>>
     ensures { GivesAs (property_of T.expr_of) (exprs.dotted (P.seen p.old)) result (P.seen p.new) }
 {
     if p.sees(TokenKind::Hash) {

@@ -2,8 +2,6 @@
 
 ghost use Rattle.std.specs.Prelude.{◌≡◌, ◌&&◌, IfOk};
 ghost use Rattle.swc_ecma_parser_grammar.specs.Looks.{sees};
-ghost use Rattle.swc_ecma_parser_left_sides.specs.Accesses.{property_of};
-ghost use Rattle.swc_ecma_parser_model.specs.Tree as tree;
 ghost use Rattle.swc_ecma_parser_reader.specs.Expressions as exprs;
 ghost use Rattle.swc_ecma_parser_reader.specs.Methods.{class_form};
 ghost use Rattle.swc_ecma_parser_reader.specs.Reader as rules;
@@ -11,7 +9,9 @@ ghost use Rattle.swc_ecma_parser_reader.specs.State.{Gives, GivesAs};
 ghost use Rattle.swc_ecma_parser_cursor.specs.Literals.{literal_tree};
 ghost use Rattle.swc_ecma_parser_token.specs.declared.kind.TokenKind.TheVariants as kind;
 
-use crate::access::{Property, access, arguments, begins_access, brackets};
+use crate::access::{arguments, begins_access, brackets};
+use crate::links::{accessed_on, called_on, chained};
+use crate::templates::{begins_template, regex_expr, tagged, template};
 use std::alloc::{AllocError, Global};
 use swc_ecma_parser_common::Span;
 use swc_ecma_parser_cursor::{Cursor, Literal, Wanted};
@@ -87,25 +87,6 @@ fn literal_expr<T: BuildsExpr>(alloc: Global, literal: Literal) -> Result<T::Exp
     }
 }
 
-/// A member, by what stands behind its object.
-fn member<T: BuildsCall>(
-    alloc: Global,
-    span: Span,
-    object: T::Expr,
-    access: Property<T::Expr>,
-) -> Result<T::Expr, AllocError>
-    ensures { IfOk result
-        (λ x. T.expr_of x ≡ tree.member span (T.expr_of object) (property_of T.expr_of access)) }
-{
-    match access {
-        Property::Word(name) => T::member(alloc, span, object, name),
-        Property::Private(name) => T::private_member(alloc, span, object, name),
-        Property::Brackets(brackets, expr) => T::computed_member(
-            alloc, span, object, brackets, expr,
-        ),
-    }
-}
-
 /// An expression in parentheses. `()` is none, and what stands behind it is refused.
 #[tactic(auto, unfolding(swc_ecma_parser_reader::specs::Expressions::paren, swc_ecma_parser_reader::specs::Expressions::empty_paren, swc_ecma_parser_reader::specs::Expressions::filled_paren))]
 #[inline(never)]
@@ -146,7 +127,7 @@ fn class_expr<P: Cursor, T: Trees, G: Readers<P, T>>(
     Ok(found.tree)
 }
 
-/// Parentheses, an array, an object, `this`, a function, or a class.
+/// Parentheses, an array, an object, `this`, a function, a class, a regular expression or a template.
 #[tactic(auto, unfolding(swc_ecma_parser_reader::specs::Expressions::marked_primary))]
 #[inline(never)]
 fn marked_primary<
@@ -179,6 +160,12 @@ fn marked_primary<
     if p.sees(TokenKind::Class) {
         return class_expr(g, t, p);
     }
+    if p.sees(TokenKind::Regex) {
+        return regex_expr::<P, T>(t.alloc, p);
+    }
+    if begins_template(p) {
+        return template(g, t, p);
+    }
     Err(p.wanted(Wanted::Expression))
 }
 
@@ -207,46 +194,6 @@ fn primary<
     marked_primary(g, t, p)
 }
 
-/// An access of what was read from a place on.
-#[tactic(auto, unfolding(swc_ecma_parser_reader::specs::Expressions::accessed))]
-#[inline(never)]
-pub fn accessed<P: Cursor, T: BuildsCall, G: Readers<P, T>>(
-    g: &G,
-    t: &MakerOf<T>,
-    p: &mut P,
-    start: Span,
-    x: T::Expr,
-) -> PResult<T::Expr>
-    requires { G.ready g.now }
-    ensures { GivesAs (T.expr_of)
-        (exprs.accessed (rules.expr (G.depth g.now)) (rules.cover (G.depth g.now)) start
-        (T.expr_of x) (P.seen p.old)) result (P.seen p.new) }
-{
-    let property = access(g, t, p)?;
-    let span = since(p, start);
-    grown(p, member::<T>(t.alloc, span, x, property))
-}
-
-/// A call of what was read from a place on.
-#[tactic(auto, unfolding(swc_ecma_parser_reader::specs::Expressions::called))]
-#[inline(never)]
-pub fn called<P: Cursor, T: BuildsCall, G: Readers<P, T>>(
-    g: &G,
-    t: &MakerOf<T>,
-    p: &mut P,
-    start: Span,
-    x: T::Expr,
-) -> PResult<T::Expr>
-    requires { G.ready g.now }
-    ensures { GivesAs (T.expr_of)
-        (exprs.called (rules.expr (G.depth g.now)) (rules.cover (G.depth g.now)) start (T.expr_of x)
-        (P.seen p.old)) result (P.seen p.new) }
-{
-    let arguments = arguments(g, t, p, true)?;
-    let span = since(p, start);
-    grown(p, T::call(t.alloc, span, x, arguments))
-}
-
 /// Whether arguments begin here, where calls are read.
 fn begins_call<P: Cursor>(p: &P, calls: bool) -> bool
     ensures { result ≡ (calls && sees kind.LParen (P.seen p.now).at) }
@@ -254,8 +201,16 @@ fn begins_call<P: Cursor>(p: &P, calls: bool) -> bool
     calls && p.sees(TokenKind::LParen)
 }
 
-/// What goes on with an expression that was read from a place on: accesses, and calls where they are read.
-#[tactic(auto, unfolding(swc_ecma_parser_reader::specs::Expressions::left_from), using(swc_ecma_parser_reader::proofs::expressions::Loops::left_done, swc_ecma_parser_reader::proofs::expressions::Loops::left_accessed, swc_ecma_parser_reader::proofs::expressions::Loops::left_access_err, swc_ecma_parser_reader::proofs::expressions::Loops::left_called, swc_ecma_parser_reader::proofs::expressions::Loops::left_call_err, swc_ecma_parser_reader::proofs::expressions::Loops::accessed_shorter, swc_ecma_parser_reader::proofs::expressions::Loops::called_shorter))]
+/// Whether a link of an optional chain begins here with `?.`, where calls are read.
+fn begins_link<P: Cursor>(p: &P, calls: bool) -> bool
+    ensures { result ≡ (calls && sees kind.QuestionDot (P.seen p.now).at) }
+{
+    calls && p.sees(TokenKind::QuestionDot)
+}
+
+/// What goes on with an expression that was read from a place on: accesses and templates, and calls and optional chains where calls
+/// are read.
+#[tactic(auto, unfolding(swc_ecma_parser_reader::specs::Expressions::left_from), using(swc_ecma_parser_reader::proofs::expressions::Loops::left_done, crate::proofs::Turns::access_more, crate::proofs::Turns::access_err, crate::proofs::Turns::call_more, crate::proofs::Turns::call_err, swc_ecma_parser_reader::proofs::expressions::Loops::left_tagged, swc_ecma_parser_reader::proofs::expressions::Loops::left_tag_err, swc_ecma_parser_reader::proofs::expressions::Loops::left_chained, swc_ecma_parser_reader::proofs::expressions::Loops::left_chain_err))]
 pub fn left_from<P: Cursor, T: BuildsCall, G: Readers<P, T>>(
     g: &G,
     t: &MakerOf<T>,
@@ -272,9 +227,13 @@ pub fn left_from<P: Cursor, T: BuildsCall, G: Readers<P, T>>(
     let mut x = x;
     'left: loop {
         if begins_access(p) {
-            x = accessed(g, t, p, start, x)?;
+            x = accessed_on(g, t, p, start, x)?;
         } else if begins_call(p, calls) {
-            x = called(g, t, p, start, x)?;
+            x = called_on(g, t, p, start, x)?;
+        } else if begins_template(p) {
+            x = tagged(g, t, p, start, x)?;
+        } else if begins_link(p, calls) {
+            x = chained(g, t, p, start, x)?;
         } else {
             return Ok(x);
         }
@@ -403,10 +362,28 @@ fn bare_new<P: Cursor, T: BuildsCall>(
     grown(p, T::new_expr(alloc, span, x, None))
 }
 
-/// `new`, what it calls, and the arguments, if there are any.
-#[tactic(auto, unfolding(swc_ecma_parser_reader::specs::Expressions::new_head))]
+/// `new.target` from its word on: section 13.3.12.
+#[tactic(auto, unfolding(swc_ecma_parser_reader::specs::Expressions::new_target))]
 #[inline(never)]
-fn new_head<P: Cursor, T: BuildsCall, G: Readers<P, T>>(
+fn new_target<P: Cursor, T: BuildsOperator>(
+    alloc: Global,
+    p: &mut P,
+    start: Span,
+) -> PResult<T::Expr>
+    ensures { GivesAs T.expr_of (exprs.new_target start (P.seen p.old)) result (P.seen p.new) }
+{
+    if !p.word_at("target") {
+        return Err(p.wanted(Wanted::Expression));
+    }
+    p.skip()?;
+    let span = since(p, start);
+    grown(p, T::meta_prop(alloc, span, MetaPropKind::NewTarget))
+}
+
+/// `new`, what it calls, and the arguments, if there are any; or `new.target`. No optional chain goes on with what is called.
+#[tactic(auto, unfolding(swc_ecma_parser_reader::specs::Expressions::new_head, swc_ecma_parser_reader::specs::Expressions::new_called, swc_ecma_parser_reader::specs::Expressions::behind_called))]
+#[inline(never)]
+fn new_head<P: Cursor, T: BuildsCall + BuildsOperator, G: Readers<P, T>>(
     g: &G,
     t: &MakerOf<T>,
     p: &mut P,
@@ -418,9 +395,16 @@ fn new_head<P: Cursor, T: BuildsCall, G: Readers<P, T>>(
 {
     let start = p.span();
     p.skip()?;
+    if p.sees(TokenKind::NewDot) {
+        p.skip()?;
+        return new_target::<P, T>(t.alloc, p, start);
+    }
     let x = nested(g, t, p, Class::Callee)?;
     if p.sees(TokenKind::LParen) {
         return constructed(g, t, p, start, x);
+    }
+    if p.sees(TokenKind::QuestionDot) {
+        return Err(p.wanted(Wanted::Expression));
     }
     bare_new::<P, T>(t.alloc, p, start, x)
 }

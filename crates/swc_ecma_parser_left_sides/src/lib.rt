@@ -3,3 +3,5 @@
 
 pub mod access;
 pub mod left;
+pub mod links;
+mod templates;

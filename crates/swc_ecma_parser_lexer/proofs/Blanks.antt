@@ -1,17 +1,18 @@
 -- A blank that is ASCII adds no token and no comment.
-use Rattle.std.proofs.Common.{◌≡◌, inl, inr, ℕ, ◌+◌, ◌<◌, Bool, true, false, ◌||◌, ◌==◌, nat_eq, List, ◌∷◌, ◌++◌, length, get_or, drop, refl, ap, sym, ◌∙◌, subst, arith}
+use Rattle.std.proofs.Common.{◌≡◌, inl, inr, ℕ, ◌+◌, ◌<◌, Bool, true, ◌||◌, ◌==◌, nat_eq, List, ◌∷◌, ◌++◌, length, get_or, drop, refl, ap, sym, ◌∙◌, subst, arith}
 use Rattle.std.specs.Char.{encode_utf8}
 use Rattle.std.specs.Str.{chars, IsUtf8}
 use Rattle.std.proofs.lemmas.Bool.{or_cases, eqb-true}
 use Rattle.std.proofs.lemmas.List.{drop_more}
 use Rattle.std.proofs.lemmas.Str.{encode_ascii, chars_past_char, IsUtf8-past_char}
+use Rattle.swc_ecma_parser_token.specs.declared.token.TokenAndSpan.{TokenAndSpan}
 use Rattle.swc_ecma_parser_scan.specs.declared.state.State.TheVariants as state
 use Rattle.swc_ecma_parser_scan.specs.Scan.{scan}
 use Rattle.swc_ecma_parser_scan.proofs.Blanks.{alone, scan-32, scan-9, scan-10, scan-13}
 use Rattle.swc_ecma_parser_lexer.specs.Blanks.{is_blank, is_break}
 use Rattle.swc_ecma_parser_lexer.specs.Collected.{comments}
 use Rattle.swc_ecma_parser_lexer.specs.Comments.{comment_of}
-use Rattle.swc_ecma_parser_lexer.specs.Tokens.{is_skipped, breaks, tokens}
+use Rattle.swc_ecma_parser_lexer.specs.Tokens.{is_skipped, breaks, IsBlind}
 use Rattle.swc_ecma_parser_lexer.proofs.Collections as collections
 use Rattle.swc_ecma_parser_lexer.proofs.Texts as texts
 
@@ -30,22 +31,14 @@ by-blank P space feed tab return c e =
       ]
     ]
 
-tokens-space : (start at : ℕ) (b : Bool) (c : ℕ) (cs : List ℕ) → c < 128 → scan (nat_eq at 0) c cs ≡ alone state.Space cs → tokens start at b (c ∷ cs) ≡ tokens start (at + 1) (b || false) cs
-unfolding is_skipped breaks
-tokens-space start at b c cs lt e = texts.past-one start at b c cs state.Space lt e refl
-
-tokens-break : (start at : ℕ) (b : Bool) (c : ℕ) (cs : List ℕ) → c < 128 → scan (nat_eq at 0) c cs ≡ alone state.LineBreak cs → tokens start at b (c ∷ cs) ≡ tokens start (at + 1) (b || true) cs
-unfolding is_skipped breaks
-tokens-break start at b c cs lt e = texts.past-one start at b c cs state.LineBreak lt e refl
-
-pub tokens-blank : (start at : ℕ) (b : Bool) (c : ℕ) (cs : List ℕ) → is_blank c ≡ true → tokens start at b (c ∷ cs) ≡ tokens start (at + 1) (b || is_break c) cs
-unfolding is_break
-tokens-blank start at b c cs e =
-    by-blank (λ k. tokens start at b (k ∷ cs) ≡ tokens start (at + 1) (b || is_break k) cs)
-    (tokens-space start at b 32 cs (omega arith) (scan-32 (nat_eq at 0) cs))
-    (tokens-break start at b 10 cs (omega arith) (scan-10 (nat_eq at 0) cs))
-    (tokens-space start at b 9 cs (omega arith) (scan-9 (nat_eq at 0) cs))
-    (tokens-break start at b 13 cs (omega arith) (scan-13 (nat_eq at 0) cs))
+pub blind-blank : (f : ℕ → Bool → List ℕ → List TokenAndSpan) → IsBlind f → (at : ℕ) (b : Bool) (c : ℕ) (cs : List ℕ) → is_blank c ≡ true → f at b (c ∷ cs) ≡ f (at + 1) (b || is_break c) cs
+unfolding is_break is_skipped breaks
+blind-blank f h at b c cs e =
+    by-blank (λ k. f at b (k ∷ cs) ≡ f (at + 1) (b || is_break k) cs)
+    (texts.past-one f h at b 32 cs state.Space (omega arith) (scan-32 (nat_eq at 0) cs) refl)
+    (texts.past-one f h at b 10 cs state.LineBreak (omega arith) (scan-10 (nat_eq at 0) cs) refl)
+    (texts.past-one f h at b 9 cs state.Space (omega arith) (scan-9 (nat_eq at 0) cs) refl)
+    (texts.past-one f h at b 13 cs state.LineBreak (omega arith) (scan-13 (nat_eq at 0) cs) refl)
     c e
 
 comments-space : (start at c : ℕ) (cs : List ℕ) → c < 128 → scan (nat_eq at 0) c cs ≡ alone state.Space cs → comments start at (c ∷ cs) ≡ comments start (at + 1) cs

@@ -130,3 +130,7 @@ reads-token old new first p q piece r h k =
       unwanted = r.unwanted;
       wanted = r.wanted;
     }
+
+pub no-comments-left : (p : Place) → chars p.rest.now ≡ [] → comments_at p ≡ []
+unfolding comments_behind
+no-comments-left p e = ap (λ cs. comments p.start.0 p.at cs) e

@@ -5,3 +5,5 @@ pub mod Collections
 pub mod Candidates
 pub mod Blanks
 pub mod Quoted
+pub mod Memory
+pub mod Spelled

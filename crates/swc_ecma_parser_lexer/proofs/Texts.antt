@@ -1,5 +1,5 @@
 -- What the list of tokens of a text comes to.
-use Rattle.std.proofs.Common.{◌≡◌, ℕ, ◌+◌, ◌<◌, Bool, true, false, nat_eq, ◌&&◌, ◌||◌, cond, length, List, [], ◌∷◌, ◌++◌, ap, sym, ◌∙◌, arith, length-append}
+use Rattle.std.proofs.Common.{◌≡◌, ℕ, ◌+◌, ◌<◌, Bool, true, false, nat_eq, ◌&&◌, ◌||◌, cond, length, List, [], ◌∷◌, ◌++◌, ap, sym, ◌∙◌, arith, append_assoc, length-append}
 use Rattle.std.specs.Char.{encode_utf8}
 use Rattle.std.specs.Str.{chars, encode_utf8_all}
 use Rattle.std.proofs.lemmas.Str.{encode_ascii, encodes-chars, length-encode, len_utf8_bounds}
@@ -9,7 +9,7 @@ use Rattle.swc_ecma_parser_lexer.specs.declared.place.Place.{Place}
 use Rattle.swc_ecma_parser_scan.specs.declared.piece.Piece.{Piece}
 use Rattle.swc_ecma_parser_scan.specs.declared.state.State.{State}
 use Rattle.swc_ecma_parser_scan.specs.Scan.{Munched, scan, IsFirstPiece}
-use Rattle.swc_ecma_parser_lexer.specs.Tokens.{is_skipped, breaks, token_at, tokens_behind, tokens, tokens_at, IsPast}
+use Rattle.swc_ecma_parser_lexer.specs.Tokens.{is_skipped, breaks, token_at, tokens_behind, tokens, tokens_at, AreAlike, IsBehind, IsBlind, IsPast}
 use Rattle.swc_ecma_parser_lexer.specs.Ordered.{length-encodes}
 use Rattle.swc_ecma_parser_scan.specs.Splits.{scan-splits}
 
@@ -50,31 +50,69 @@ by-piece start at b text piece h =
     ∙ ap (λ xs. from_piece start at b piece.state piece.text.now xs) (sym h.left)
 
 -- a piece of one ASCII character that is no token adds none
-pub past-one : (start at : ℕ) (b : Bool) (c : ℕ) (cs : List ℕ) (s : State) → c < 128 → scan (nat_eq at 0) c cs ≡ record { taken = []; left = cs; state = s } → is_skipped s ≡ true → tokens start at b (c ∷ cs) ≡ tokens start (at + 1) (b || breaks s) cs
-unfolding from_piece
-past-one start at b c cs s lt e k =
+pub past-one : (f : ℕ → Bool → List ℕ → List TokenAndSpan) → IsBlind f → (at : ℕ) (b : Bool) (c : ℕ) (cs : List ℕ) (s : State) → c < 128 → scan (nat_eq at 0) c cs ≡ record { taken = []; left = cs; state = s } → is_skipped s ≡ true → f at b (c ∷ cs) ≡ f (at + 1) (b || breaks s) cs
+past-one f h at b c cs s lt e k =
     let text = encode_utf8_all (c ∷ []) in
     let one : at + length text ≡ at + 1 = omega (arith, length-encodes c [], ap length (encode_ascii c lt)) in
-    begins start at b c cs
-    ∙ ap (λ (p : Munched). from_piece start at b p.state (encode_utf8_all (c ∷ p.taken)) p.left) e
-    ∙ ap (λ v. cond v (tokens start (at + length text) (b || breaks s) cs) (token_at (start + at) b s text ∷ tokens start (at + length text) false cs)) k
-    ∙ ap (λ n. tokens start n (b || breaks s) cs) one
+    h.skips at b c cs (ap (λ (p : Munched). is_skipped p.state) e ∙ k)
+    ∙ ap (λ (p : Munched). f (at + length (encode_utf8_all (c ∷ p.taken))) (b || breaks p.state) p.left) e
+    ∙ ap (λ n. f n (b || breaks s) cs) one
+
+-- the list of tokens
+pub tokens-blind : (start : ℕ) → IsBlind (λ at b cs. tokens start at b cs)
+unfolding from_piece
+tokens-blind start = record {
+  skips = λ at b c cs e.
+      let p = scan (nat_eq at 0) c cs in
+      let text = encode_utf8_all (c ∷ p.taken) in
+      begins start at b c cs
+      ∙ ap (λ v. cond v (tokens start (at + length text) (b || breaks p.state) p.left) (token_at (start + at) b p.state text ∷ tokens start (at + length text) false p.left)) e;
+}
+
+-- the tokens from two places on
+pub alike-tokens : (p q : Place) → AreAlike p q → q.start ≡ p.start → tokens_at p ≡ tokens_at q
+alike-tokens p q h e =
+    h (λ at b cs. tokens p.start.0 at b cs) (tokens-blind p.start.0)
+    ∙ ap (λ (s : BytePos). tokens s.0 q.at q.had_line_break (chars q.rest.now)) (sym e)
 
 tokens-same : (s t a b : ℕ) (x y : Bool) (cs ds : List ℕ) → s ≡ t → a ≡ b → x ≡ y → cs ≡ ds → tokens s a x cs ≡ tokens t b y ds
 tokens-same s t a b x y cs ds e f g h =
     ap (λ n. tokens n a x cs) e ∙ ap (λ n. tokens t n x cs) f ∙ ap (λ v. tokens t b v cs) g ∙ ap (λ ys. tokens t b y ys) h
 
--- a piece that is no token adds none
-pub past-skipped : (p : Place) (piece : Piece) (q : Place) → IsFirstPiece (nat_eq p.at 0) p.rest.now piece → IsPast p piece q → is_skipped piece.state ≡ true → tokens_at p ≡ tokens_at q
-unfolding from_piece
-past-skipped p piece q h k e =
-    let text = piece.text.now in
-    let left = chars piece.rest.now in
-    let has_break = p.had_line_break || breaks piece.state in
-    by-piece p.start.0 p.at p.had_line_break p.rest.now piece h
-    ∙ ap (λ v. cond v (tokens p.start.0 (p.at + length text) has_break left) (token_at (p.start.0 + p.at) p.had_line_break piece.state text ∷ tokens p.start.0 (p.at + length text) false left)) e
-    ∙ tokens-same p.start.0 q.start.0 (p.at + length text) q.at has_break q.had_line_break left (chars q.rest.now)
-    (ap (λ (b : BytePos). b.0) (sym k.start)) (sym k.at) (sym (k.had_line_break ∙ ap (λ v. v && has_break) e)) (ap chars (sym k.rest))
+blind-same : (f : ℕ → Bool → List ℕ → List TokenAndSpan) (a b : ℕ) (x y : Bool) (cs ds : List ℕ) → a ≡ b → x ≡ y → cs ≡ ds → f a x cs ≡ f b y ds
+blind-same f a b x y cs ds e g h = ap (λ n. f n x cs) e ∙ ap (λ v. f b v cs) g ∙ ap (λ ys. f b y ys) h
+
+-- a piece that is no token is of no matter
+pub alike-past : (p : Place) (piece : Piece) (q : Place) → IsFirstPiece (nat_eq p.at 0) p.rest.now piece → IsPast p piece q → is_skipped piece.state ≡ true → AreAlike p q
+alike-past p piece q h k e =
+    let s = scan (nat_eq p.at 0) h.first h.behind in
+    let text = encode_utf8_all (h.first ∷ s.taken) in
+    let same : text ≡ piece.text.now = ap encode_utf8_all (sym h.taken) ∙ encodes-chars piece.text.now h.utf8 in
+    λ f blind.
+    ap (f p.at p.had_line_break) h.begins
+    ∙ blind.skips p.at p.had_line_break h.first h.behind (ap is_skipped (sym h.state) ∙ e)
+    ∙ blind-same f (p.at + length text) q.at (p.had_line_break || breaks s.state) q.had_line_break s.left (chars q.rest.now)
+    (omega (arith, ap length same, k.at))
+    (ap (λ x. p.had_line_break || breaks x) (sym h.state) ∙ sym (k.had_line_break ∙ ap (λ v. v && (p.had_line_break || breaks piece.state)) e))
+    (sym h.left ∙ ap chars (sym k.rest))
+
+-- it stands between two places
+pub behind-past : (p : Place) (piece : Piece) (q : Place) → IsFirstPiece (nat_eq p.at 0) p.rest.now piece → IsPast p piece q → IsBehind p q
+behind-past p piece q h k = record {
+  between = piece.text.now;
+  parts = h.parts ∙ ap (λ xs. piece.text.now ++ xs) (sym k.rest);
+  at = k.at;
+}
+
+pub behind-on : (p q r : Place) → IsBehind p q → IsBehind q r → IsBehind p r
+behind-on p q r h k = record {
+  between = h.between ++ k.between;
+  parts = h.parts ∙ ap (λ xs. h.between ++ xs) k.parts ∙ sym (append_assoc h.between k.between r.rest.now);
+  at = omega (arith, h.at, k.at, length-append h.between k.between);
+}
+
+pub alike-on : (p q r : Place) → AreAlike p q → AreAlike q r → AreAlike p r
+alike-on p q r h k = λ f blind. h f blind ∙ k f blind
 
 -- a token stands before those behind it
 pub past-token : (p : Place) (piece : Piece) (q : Place) → IsFirstPiece (nat_eq p.at 0) p.rest.now piece → IsPast p piece q → is_skipped piece.state ≡ false → tokens_at p ≡ token_at (p.start.0 + p.at) p.had_line_break piece.state piece.text.now ∷ tokens_at q

@@ -64,7 +64,7 @@ unfoldable pub keyword_in : List Keyword → List ℕ → Option Keyword
 keyword_in [] name = None
 keyword_in (k ∷ ks) name = if bytes_eq (keyword_text k) name then Some k else keyword_in ks name
 
-abbrev keyword_or : Option Keyword → List ℕ → Word
+abbrev pub keyword_or : Option Keyword → List ℕ → Word
 keyword_or (Some k) name = word.Keyword k
 keyword_or None name =
     if bytes_eq name (codes "null") then word.Null else

@@ -1,9 +1,11 @@
 -- The list of tokens of a text.
-use Rattle.std.specs.Prelude.{◌≡◌, ℕ, zero, suc, ◌+◌, ◌<◌, Bool, true, false, ◌==◌, ◌&&◌, ◌||◌, cond, length, List, [], ◌∷◌}
+use Rattle.std.specs.Prelude.{◌≡◌, ℕ, zero, suc, ◌+◌, ◌<◌, Bool, true, false, ◌==◌, ◌&&◌, ◌||◌, cond, length, List, [], ◌∷◌, ◌++◌}
 use Rattle.std.specs.Char.{encode_utf8}
 use Rattle.std.specs.Str.{chars, encode_utf8_all}
 use Rattle.swc_ecma_parser_common.specs.declared.span.Span.{Span}
 use Rattle.swc_ecma_parser_token.specs.declared.token.Token.{Token}
+use Rattle.swc_ecma_parser_token.specs.declared.token.Token.TheVariants as token
+use Rattle.swc_ecma_parser_token.specs.declared.token.Word.TheVariants as word
 use Rattle.swc_ecma_parser_token.specs.declared.token.TokenAndSpan.{TokenAndSpan}
 use Rattle.swc_ecma_parser_input.specs.TokenSource.{is_out_of_memory}
 use Rattle.swc_ecma_parser_scan.specs.declared.state.State.{State}
@@ -55,6 +57,27 @@ tokens start at had_line_break cs = tokens_behind start 0 at had_line_break cs
 abbrev pub tokens_at : Place → List TokenAndSpan
 tokens_at p = tokens p.start.0 p.at p.had_line_break (chars p.rest.now)
 
+-- a list that follows from a text at a place, and that pieces which are no tokens add nothing to
+pub record IsBlind (f : ℕ → Bool → List ℕ → List TokenAndSpan) : Type 0 where
+  pub skips : (at : ℕ) (b : Bool) (c : ℕ) (cs : List ℕ) → is_skipped (scan (at == 0) c cs).state ≡ true
+      → f at b (c ∷ cs) ≡ f (at + length (encode_utf8_all (c ∷ (scan (at == 0) c cs).taken))) (b || breaks (scan (at == 0) c cs).state) (scan (at == 0) c cs).left
+
+-- no token stands between two texts, of which so many bytes stand before the second and not before the first
+abbrev pub IsSkipped : Bool → List ℕ → ℕ → Bool → List ℕ → Type 0
+IsSkipped b text size has_break rest =
+    (f : ℕ → Bool → List ℕ → List TokenAndSpan) → IsBlind f → (at : ℕ) → f at b (chars text) ≡ f (at + size) has_break (chars rest)
+
+-- the same of two places
+abbrev pub AreAlike : Place → Place → Type 0
+AreAlike p q =
+    (f : ℕ → Bool → List ℕ → List TokenAndSpan) → IsBlind f → f p.at p.had_line_break (chars p.rest.now) ≡ f q.at q.had_line_break (chars q.rest.now)
+
+-- a place that stands behind another one in the same text
+pub record IsBehind (p : Place) (q : Place) : Type 0 where
+  pub between : List ℕ
+  pub parts : p.rest.now ≡ between ++ q.rest.now
+  pub at : q.at ≡ p.at + length between
+
 -- the text ends at a position that fits
 abbrev pub Fits : Place → Type 0
 Fits p = p.start.0 + p.at + length p.rest.now < 4294967296
@@ -75,3 +98,39 @@ pub record IsToken (p : Place) (piece : Piece) : Type 0 where
 -- a token, unless there was no memory for it
 abbrev pub IsTokenOrFault : Token → Token → Type 0
 IsTokenOrFault wanted t = is_out_of_memory t ≡ false → t ≡ wanted
+
+-- a token that has a text of its own, for which there may be no memory
+unfoldable pub has_text : Token → Bool
+has_text (token.Word (word.Ident text)) = true
+has_text (token.Num raw) = true
+has_text (token.BigInt raw) = true
+has_text (token.Str value raw) = true
+has_text (token.Shebang text) = true
+has_text _ = false
+
+-- only such a token is lost
+abbrev pub IsLost : Token → Token → Type 0
+IsLost wanted t = is_out_of_memory t ≡ true → has_text wanted ≡ true
+
+-- the token that a piece spells at a place, unless there was no memory for it
+pub record IsSpelled (place : Place) (piece : Piece) (t : TokenAndSpan) : Type 0 where
+  pub span : t.span ≡ span_at (place.start.0 + place.at) (length piece.text.now)
+  pub had_line_break : t.had_line_break ≡ place.had_line_break
+  pub same : IsTokenOrFault (token_of piece.state piece.text.now t.span) t.token
+  pub lost : IsLost (token_of piece.state piece.text.now t.span) t.token
+
+-- a token that was read from a place on, and the place behind it
+pub record IsReadAt (p : Place) (t : TokenAndSpan) (q : Place) : Type 0 where
+  -- where it stands
+  pub place : Place
+  pub piece : Piece
+  pub start : place.start ≡ p.start
+  pub alike : AreAlike p place
+  pub between : IsBehind p place
+  pub fits : Fits place
+  pub stands : IsToken place piece
+  pub past : IsPast place piece q
+  pub span : t.span ≡ span_at (place.start.0 + place.at) (length piece.text.now)
+  pub had_line_break : t.had_line_break ≡ place.had_line_break
+  pub same : IsTokenOrFault (token_of piece.state piece.text.now t.span) t.token
+  pub lost : IsLost (token_of piece.state piece.text.now t.span) t.token

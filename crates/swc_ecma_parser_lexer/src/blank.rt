@@ -1,10 +1,10 @@
 //! Spaces and line breaks that are ASCII, a run of them at once.
 
-ghost use Rattle.std.specs.Prelude.{◌≡◌, ◌+◌, ℕ, length};
+ghost use Rattle.std.specs.Prelude.{◌≡◌, ◌+◌, ℕ, drop, length};
 ghost use Rattle.std.specs.Str.{chars};
 ghost use Rattle.swc_ecma_parser_lexer.specs.Blanks as blank;
 ghost use Rattle.swc_ecma_parser_lexer.specs.Collected.{comments};
-ghost use Rattle.swc_ecma_parser_lexer.specs.Tokens.{tokens};
+ghost use Rattle.swc_ecma_parser_lexer.specs.Tokens.{IsSkipped};
 
 /// What stands behind the blanks of a text.
 #[derive(Clone, Copy)]
@@ -33,11 +33,11 @@ fn is_break(byte: u8) -> bool
 
 /// Goes past the blanks that a text begins with. `broken`: a line break stands before the text.
 pub fn blanks(broken: bool, text: &str) -> Behind<'_>
-    ensures tokens { (start at : ℕ) → tokens start at broken (chars text.now)
-        ≡ tokens start (at + result.size) result.had_line_break (chars result.rest.now) }
+    ensures skipped { IsSkipped broken text.now result.size result.had_line_break result.rest.now }
     ensures comments { (start at : ℕ) → comments start at (chars text.now)
         ≡ comments start (at + result.size) (chars result.rest.now) }
     ensures size { result.size + length result.rest.now ≡ length text.now }
+    ensures rest { result.rest.now ≡ drop result.size text.now }
 {
     let bytes = text.as_bytes();
     let mut at = 0;

@@ -33,9 +33,9 @@ pub enum Escape {
 
 /// What one more character makes of an escape, and the code unit or code point that is complete.
 #[derive(Clone, Copy)]
-struct Turn {
-    state: Escape,
-    unit: Option<u32>,
+pub struct Turn {
+    pub state: Escape,
+    pub unit: Option<u32>,
 }
 
 #[tactic(auto, unfolding(crate::specs::Strings::silent))]
@@ -57,7 +57,7 @@ fn says(unit: u32) -> Turn
 
 /// One more character, where `quote` begins and ends the literal.
 #[tactic(auto, unfolding(crate::specs::Strings::escaped))]
-fn escaped(quote: char, state: Escape, c: char) -> Turn
+pub fn escaped(quote: char, state: Escape, c: char) -> Turn
     ensures { result ≡ read.escaped quote state c }
 {
     match state {
@@ -226,7 +226,7 @@ fn is_high(unit: u32) -> bool
 
 /// A character, or U+FFFD for a lone half of a pair.
 #[tactic(auto, unfolding(crate::specs::Strings::lossy))]
-fn lossy(unit: u32) -> char
+pub fn lossy(unit: u32) -> char
     ensures { result ≡ read.lossy unit }
 {
     char::from_u32(unit).unwrap_or('\u{fffd}')
@@ -285,7 +285,7 @@ fn say_behind(value: &mut String, high: u32, unit: u32) -> Result<Option<u32>, A
 }
 
 #[tactic(auto, unfolding(crate::specs::Strings::said))]
-fn say(
+pub fn say(
     value: &mut String,
     waiting: Option<u32>,
     unit: Option<u32>,
@@ -305,7 +305,7 @@ fn say(
 
 /// Appends what still waits.
 #[tactic(auto, unfolding(crate::specs::Strings::said_last))]
-fn say_last(value: &mut String, waiting: Option<u32>) -> Result<(), AllocError>
+pub fn say_last(value: &mut String, waiting: Option<u32>) -> Result<(), AllocError>
     ensures { OnOk result
         (string_bytes value.new ≡ string_bytes value.old ++ read.said_last waiting) }
 {

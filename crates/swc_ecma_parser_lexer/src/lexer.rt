@@ -1,17 +1,19 @@
-ghost use Rattle.std.specs.Prelude.{◌≡◌, ◌+◌, ◌<◌, [], ◌++◌, if◌then◌else◌, length, true, false, IfOk, IfErr, MatchResult};
+ghost use Rattle.std.specs.Prelude.{◌≡◌, ◌+◌, ◌<◌, [], ◌++◌, if◌then◌else◌, length, true, false, IfOk, IfErr, IfNone, OnOk, MatchOption, MatchResult};
 ghost use Rattle.std.specs.Str.{chars};
 ghost use Rattle.swc_ecma_parser_error.specs.Kind.{IsOutOfMemory};
 ghost use Rattle.swc_ecma_parser_input.specs.TokenSource as source;
 ghost use Rattle.swc_ecma_parser_lexer.specs.Collected.{collected, comments as text_comments};
 ghost use Rattle.swc_ecma_parser_lexer.specs.Source.{source_of, outset};
+ghost use Rattle.swc_ecma_parser_lexer.specs.Tokens.{Fits};
 
 use crate::comment::CommentList;
 use crate::input::StringInput;
-use crate::place::{Place, find, past, span_of, token_or_fault};
+use crate::place::{Place, find, is_skipped, past, past_blanks, spelled};
 use std::alloc::Global;
 use swc_ecma_parser_common::{BytePos, Comment, Span};
 use swc_ecma_parser_error::{Error, PResult, SyntaxError};
 use swc_ecma_parser_input::{CommentSource, Context, FaultLists, Syntax, Tokens};
+use swc_ecma_parser_scan::{plain_mark, plain_name};
 use swc_ecma_parser_token::TokenAndSpan;
 
 /// A lexer: what it has still to read of its text, and what a source of tokens keeps.
@@ -53,6 +55,10 @@ impl<'a> Lexer<'a> {
     pub fn new(alloc: Global, syntax: Syntax, input: StringInput<'a>, comments: bool) -> Lexer<'a>
         ensures source { source_of result.place result.context result.syntax result.faults
             ≡ outset syntax input.entry.start (chars input.entry.src.now) }
+        ensures start { result.place.start ≡ input.entry.start }
+        ensures at { result.place.at ≡ 0 }
+        ensures had_line_break { result.place.had_line_break ≡ false }
+        ensures rest { result.place.rest.now ≡ input.entry.src.now }
         ensures comments { collected result.comments result.place
             ≡ (if comments then text_comments input.entry.start.0 0 (chars input.entry.src.now)
             else []) }
@@ -75,6 +81,34 @@ impl<'a> Lexer<'a> {
         }
     }
 
+    /// Where it takes memory.
+    pub fn allocator(&self) -> Global
+        ensures { result ≡ self.now.alloc }
+    {
+        self.alloc
+    }
+
+    /// Where it stands in its text.
+    pub fn place(&self) -> Place<'a>
+        ensures place { result ≡ self.now.place }
+        ensures fits { Fits result }
+    {
+        self.place
+    }
+
+    /// Goes on at another place of its text, as a source does that reads a token anew.
+    pub fn set_place(&mut self, place: Place<'a>)
+        requires { Fits place }
+        ensures place { self.new.place ≡ place.entry }
+        ensures context { self.new.context ≡ self.old.context }
+        ensures syntax { self.new.syntax ≡ self.old.syntax }
+        ensures faults { self.new.faults ≡ self.old.faults }
+        ensures comments { self.new.comments ≡ self.old.comments }
+        ensures alloc { self.new.alloc ≡ self.old.alloc }
+    {
+        self.place = place;
+    }
+
     /// Hands out the comments read since the last such call, or says that one of them found no memory. No comment is
     /// left either way, and the tokens stay. It takes no memory.
     pub fn take_comments(&mut self) -> PResult<Vec<Comment>>
@@ -88,6 +122,7 @@ impl<'a> Lexer<'a> {
             ++ collected self.new.comments self.new.place) }
         ensures wanted { self.new.comments.is_wanted ≡ self.old.comments.is_wanted }
         ensures fresh { self.new.comments.is_lossy ≡ false }
+        ensures at { self.new.place ≡ self.old.place }
         ensures source { source_of self.new.place self.new.context self.new.syntax self.new.faults
             ≡ source_of self.old.place self.old.context self.old.syntax self.old.faults }
         ensures place { IfErr result
@@ -101,20 +136,22 @@ impl<'a> Lexer<'a> {
     }
 }
 
-impl<'a> Tokens for Lexer<'a> {
-    ghost use Rattle.swc_ecma_parser_lexer.specs.Ordered.{ordered};
-    ghost use Rattle.swc_ecma_parser_lexer.specs.Collected.{IsReadOn};
-    ghost use Rattle.swc_ecma_parser_lexer.specs.Comments.{IsSameList};
+impl<'a> Lexer<'a> {
+    ghost use Rattle.swc_ecma_parser_lexer.specs.Collected.{IsReadOn, comments_at};
+    ghost use Rattle.swc_ecma_parser_lexer.specs.Tokens.{AreAlike, IsReadAt};
 
-    ghost seen = { λ s. source_of s.place s.context s.syntax s.faults };
-
-    // Beside the token: no comment on the way is missed, and none comes twice, or `take_comments` tells the loss.
-    fn next(&mut self) -> Option<TokenAndSpan>
+    /// The next token, whatever stands before it.
+    #[inline(never)]
+    fn next_of_any(&mut self) -> Option<TokenAndSpan>
         ensures drawn { source.Draws
             (source_of self.old.place self.old.context self.old.syntax self.old.faults) result
             (source_of self.new.place self.new.context self.new.syntax self.new.faults) }
         ensures comments { IsReadOn self.old.comments self.old.place self.new.comments
             self.new.place }
+        ensures ended { IfNone result (comments_at self.new.place ≡ []) }
+        ensures read { MatchOption result (AreAlike self.old.place self.new.place)
+            (λ t. IsReadAt self.old.place t self.new.place) }
+        ensures start { self.new.place.start ≡ self.old.place.start }
     {
         let found = find(self.place, &mut self.comments);
         let Some(piece) = found.piece else {
@@ -123,19 +160,55 @@ impl<'a> Tokens for Lexer<'a> {
             self.place.rest = found.place.rest;
             return None;
         };
-        let span = span_of(found.place, piece);
-        let token = token_or_fault(self.alloc, piece.state, piece.text, span);
-        self.place.at = found.place.at + piece.text.len() as u32;
-        self.place.had_line_break = false;
-        self.place.rest = piece.rest;
-        Some(TokenAndSpan {
-            token,
-            had_line_break: found.place.had_line_break,
-            span,
-        })
+        let token = spelled(self.alloc, found.place, piece);
+        self.place = past(found.place, piece);
+        Some(token)
+    }
+}
+
+impl<'a> Tokens for Lexer<'a> {
+    ghost use Rattle.swc_ecma_parser_lexer.specs.Ordered.{ordered};
+    ghost use Rattle.swc_ecma_parser_lexer.specs.Collected.{IsReadOn, comments_at};
+    ghost use Rattle.swc_ecma_parser_lexer.specs.Comments.{IsSameList};
+    ghost use Rattle.swc_ecma_parser_lexer.specs.Tokens.{AreAlike, IsReadAt};
+
+    ghost seen = { λ s. source_of s.place s.context s.syntax s.faults };
+
+    // Beside the token: no comment on the way is missed, and none comes twice, or `take_comments` tells the loss. Behind the
+    // last token none is left in the text.
+    fn next(&mut self) -> Option<TokenAndSpan>
+        ensures drawn { source.Draws
+            (source_of self.old.place self.old.context self.old.syntax self.old.faults) result
+            (source_of self.new.place self.new.context self.new.syntax self.new.faults) }
+        ensures comments { IsReadOn self.old.comments self.old.place self.new.comments
+            self.new.place }
+        ensures ended { IfNone result (comments_at self.new.place ≡ []) }
+        ensures read { MatchOption result (AreAlike self.old.place self.new.place)
+            (λ t. IsReadAt self.old.place t self.new.place) }
+        ensures start { self.new.place.start ≡ self.old.place.start }
+    {
+        let place = past_blanks(self.place);
+        if let Some(name) = plain_name(place.rest) {
+            let token = spelled(self.alloc, place, name);
+            self.place = past(place, name);
+            return Some(token);
+        }
+        if let Some(mark) = plain_mark(place.rest) {
+            if !is_skipped(mark.state) {
+                let token = spelled(self.alloc, place, mark);
+                self.place = past(place, mark);
+                return Some(token);
+            }
+        }
+        self.next_of_any()
     }
 
-    fn set_ctx(&mut self, context: Context) {
+    fn set_ctx(&mut self, context: Context)
+        ensures source { source_of self.new.place self.new.context self.new.syntax self.new.faults
+            ≡ source.with_context context
+            (source_of self.old.place self.old.context self.old.syntax self.old.faults) }
+        ensures place { self.new.place ≡ self.old.place }
+    {
         if context.module {
             release(&mut self.faults);
         }
@@ -154,14 +227,36 @@ impl<'a> Tokens for Lexer<'a> {
         self.place.start
     }
 
-    fn add_error(&mut self, error: Error) -> PResult<()> {
+    fn add_error(&mut self, error: Error) -> PResult<()>
+        ensures ok { OnOk result
+            (source_of self.new.place self.new.context self.new.syntax self.new.faults
+            ≡ source.recording error
+            (source_of self.old.place self.old.context self.old.syntax self.old.faults)) }
+        ensures err { IfErr result
+            (λ e. IsOutOfMemory e × (source_of self.new.place self.new.context self.new.syntax self.new.faults
+            ≡ source_of self.old.place self.old.context self.old.syntax self.old.faults)) }
+        ensures at_start { IfErr result (λ e. e.span ≡ source.at_start
+            (source_of self.old.place self.old.context self.old.syntax self.old.faults)) }
+        ensures place { self.new.place ≡ self.old.place }
+    {
         match self.faults.add(error) {
             Ok(()) => Ok(()),
             Err(_) => Err(no_memory(self.place.start)),
         }
     }
 
-    fn add_module_mode_error(&mut self, error: Error) -> PResult<()> {
+    fn add_module_mode_error(&mut self, error: Error) -> PResult<()>
+        ensures ok { OnOk result
+            (source_of self.new.place self.new.context self.new.syntax self.new.faults
+            ≡ source.holding_back error
+            (source_of self.old.place self.old.context self.old.syntax self.old.faults)) }
+        ensures err { IfErr result
+            (λ e. IsOutOfMemory e × (source_of self.new.place self.new.context self.new.syntax self.new.faults
+            ≡ source_of self.old.place self.old.context self.old.syntax self.old.faults)) }
+        ensures at_start { IfErr result (λ e. e.span ≡ source.at_start
+            (source_of self.old.place self.old.context self.old.syntax self.old.faults)) }
+        ensures place { self.new.place ≡ self.old.place }
+    {
         if self.context.module {
             return self.add_error(error);
         }
@@ -171,7 +266,13 @@ impl<'a> Tokens for Lexer<'a> {
         }
     }
 
-    fn take_errors(&mut self) -> Vec<Error> {
+    fn take_errors(&mut self) -> Vec<Error>
+        ensures errors { result.items ≡ (source_of self.old.place self.old.context self.old.syntax self.old.faults).recorded }
+        ensures source { source_of self.new.place self.new.context self.new.syntax self.new.faults
+            ≡ record (source_of self.old.place self.old.context self.old.syntax self.old.faults)
+            { recorded = [] } }
+        ensures place { self.new.place ≡ self.old.place }
+    {
         self.faults.take()
     }
 
@@ -181,6 +282,7 @@ impl<'a> Tokens for Lexer<'a> {
             (λ it. source_of it.place it.context it.syntax it.faults
             ≡ source_of self.now.place self.now.context self.now.syntax self.now.faults) }
         ensures comments { IfOk result (λ it. IsSameList it.comments self.now.comments) }
+        ensures at { IfOk result (λ it. it.place ≡ self.now.place) }
         ensures err { IfErr result IsOutOfMemory }
         ensures place { IfErr result
             (λ e. e.span ≡ source.at_start
@@ -219,6 +321,7 @@ impl<'a> CommentSource for Lexer<'a> {
         ensures told { MatchResult result (λ _. self.old.comments.is_lossy ≡ false)
             (λ _. self.old.comments.is_lossy ≡ true) }
         ensures fresh { self.new.comments.is_lossy ≡ false }
+        ensures at { self.new.place ≡ self.old.place }
         ensures err { IfErr result IsOutOfMemory }
         ensures place { IfErr result
             (λ e. e.span ≡ source.at_start

@@ -11,5 +11,8 @@ mod place;
 mod plain;
 mod words;
 
+pub use escape::{Escape, Turn, escaped, is_well_escaped, lossy, say, say_last, value_of};
 pub use input::StringInput;
 pub use lexer::Lexer;
+pub use make::is_number;
+pub use place::Place;

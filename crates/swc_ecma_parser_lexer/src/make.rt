@@ -1,7 +1,9 @@
 //! The tokens that pieces of the text spell.
 
-ghost use Rattle.std.specs.Prelude.{◌≡◌, IfOk};
+ghost use Rattle.std.specs.Prelude.{◌≡◌, true, IfOk, OnErr};
+ghost use Rattle.swc_ecma_parser_token.specs.declared.token.Token.TheVariants as token;
 ghost use Rattle.swc_ecma_parser_lexer.specs.Make as read;
+ghost use Rattle.swc_ecma_parser_lexer.specs.Tokens.{has_text};
 
 use crate::escape::{is_well_escaped, value_of};
 use crate::plain::plain_text;
@@ -12,9 +14,10 @@ use swc_ecma_parser_error::{Error, SyntaxError};
 use swc_ecma_parser_scan::{Mark, Number, State, first_char};
 use swc_ecma_parser_token::{Token, Word};
 
-#[tactic(auto, unfolding(crate::specs::Make::word_of))]
+#[tactic(auto, unfolding(crate::specs::Make::word_of, crate::specs::Tokens::has_text))]
 fn word_of(alloc: Global, name: &str) -> Result<Word, AllocError>
-    ensures { IfOk result (λ word. word ≡ read.word_of name.now) }
+    ensures word { IfOk result (λ word. word ≡ read.word_of name.now) }
+    ensures lost { OnErr result (has_text (token.Word (read.word_of name.now)) ≡ true) }
 {
     let word = if let Some(keyword) = keyword_of(name) {
         Word::Keyword(keyword)
@@ -38,9 +41,10 @@ pub fn fault(kind: SyntaxError, span: Span) -> Token
     Token::Error(Error { span, kind })
 }
 
-#[tactic(auto, unfolding(crate::specs::Make::number_token))]
+#[tactic(auto, unfolding(crate::specs::Make::number_token, crate::specs::Tokens::has_text))]
 fn number_token(alloc: Global, number: Number, raw: &str, span: Span) -> Result<Token, AllocError>
-    ensures { IfOk result (λ token. token ≡ read.number_token number raw.now span) }
+    ensures token { IfOk result (λ token. token ≡ read.number_token number raw.now span) }
+    ensures lost { OnErr result (has_text (read.number_token number raw.now span) ≡ true) }
 {
     if is_big_int(number) {
         Ok(Token::BigInt {
@@ -67,7 +71,7 @@ fn is_big_int(number: Number) -> bool
 
 /// Whether a number may end here.
 #[tactic(auto, unfolding(crate::specs::Make::is_number))]
-fn is_number(number: Number) -> bool
+pub fn is_number(number: Number) -> bool
     ensures { result ≡ read.is_number number }
 {
     match number {
@@ -81,9 +85,10 @@ fn is_number(number: Number) -> bool
     }
 }
 
-#[tactic(auto, unfolding(crate::specs::Make::string_token))]
+#[tactic(auto, unfolding(crate::specs::Make::string_token, crate::specs::Tokens::has_text))]
 fn string_token(alloc: Global, quote: char, raw: &str, span: Span) -> Result<Token, AllocError>
-    ensures { IfOk result (λ token. token ≡ read.string_token quote raw.now span) }
+    ensures token { IfOk result (λ token. token ≡ read.string_token quote raw.now span) }
+    ensures lost { OnErr result (has_text (read.string_token quote raw.now span) ≡ true) }
 {
     if let Some(inner) = plain_text(quote, raw) {
         let value = Atom::new(alloc, inner)?;
@@ -147,9 +152,10 @@ fn mark_token(mark: Mark) -> Token
 }
 
 /// The token that a piece spells; `text` is the piece.
-#[tactic(auto, unfolding(crate::specs::Make::token_of))]
+#[tactic(auto, unfolding(crate::specs::Make::token_of, crate::specs::Tokens::has_text))]
 pub fn token_of(alloc: Global, state: State, text: &str, span: Span) -> Result<Token, AllocError>
-    ensures { IfOk result (λ token. token ≡ read.token_of state text.now span) }
+    ensures token { IfOk result (λ token. token ≡ read.token_of state text.now span) }
+    ensures lost { OnErr result (has_text (read.token_of state text.now span) ≡ true) }
 {
     match state {
         State::Name => Ok(Token::Word(word_of(alloc, text)?)),

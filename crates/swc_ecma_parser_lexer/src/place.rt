@@ -1,8 +1,8 @@
 //! Places in a text, and the next token from a place on.
 
-ghost use Rattle.std.specs.Prelude.{◌≡◌, [], ◌==◌, ◌+◌, false, length, MatchOption};
+ghost use Rattle.std.specs.Prelude.{◌≡◌, [], ◌==◌, ◌+◌, false, length, IfNone, MatchOption};
 ghost use Rattle.swc_ecma_parser_scan.specs.Scan.{IsFirstPiece};
-ghost use Rattle.swc_ecma_parser_lexer.specs.Collected.{IsReadOn};
+ghost use Rattle.swc_ecma_parser_lexer.specs.Collected.{IsReadOn, comments_at};
 ghost use Rattle.swc_ecma_parser_lexer.specs.Blanks as blank;
 ghost use Rattle.swc_ecma_parser_lexer.specs.Tokens as read;
 
@@ -37,7 +37,7 @@ pub struct Found<'a> {
 
 /// White space, a line terminator or a comment.
 #[tactic(auto, unfolding(crate::specs::Tokens::is_skipped))]
-fn is_skipped(state: State) -> bool
+pub fn is_skipped(state: State) -> bool
     ensures { result ≡ read.is_skipped state }
 {
     match state {
@@ -91,7 +91,7 @@ pub fn past<'a>(place: Place<'a>, piece: Piece<'a>) -> Place<'a>
 }
 
 /// The place behind the spaces and line breaks that are ASCII.
-fn past_blanks(first: Place<'_>) -> Place<'_>
+pub fn past_blanks(first: Place<'_>) -> Place<'_>
     requires { read.Fits first }
     ensures { blank.IsBehindBlanks first.entry result }
 {
@@ -108,11 +108,14 @@ fn past_blanks(first: Place<'_>) -> Place<'_>
 pub fn find<'a>(first: Place<'a>, comments: &mut CommentList) -> Found<'a>
     requires { read.Fits first }
     ensures tokens { read.tokens_at first.entry ≡ read.tokens_at result.place }
+    ensures alike { read.AreAlike first.entry result.place }
+    ensures behind { read.IsBehind first.entry result.place }
     ensures start { result.place.start ≡ first.entry.start }
     ensures fits { read.Fits result.place }
     ensures comments { IsReadOn comments.old first.entry comments.new result.place }
     ensures piece { MatchOption result.piece (read.tokens_at result.place ≡ [])
         (λ piece. read.IsToken result.place piece) }
+    ensures ended { IfNone result.piece (comments_at result.place ≡ []) }
 {
     let mut place = past_blanks(first);
     while let Some(piece) = scan(place.at == 0, place.rest) {
@@ -128,10 +131,27 @@ pub fn find<'a>(first: Place<'a>, comments: &mut CommentList) -> Found<'a>
     Found { place, piece: None }
 }
 
+/// The token that a piece spells at a place, or an error token where there is no memory for its text.
+#[inline(always)]
+pub fn spelled(alloc: Global, place: Place, piece: Piece) -> TokenAndSpan
+    requires fits { read.Fits place }
+    requires piece { IsFirstPiece (place.at == 0) place.rest.now piece }
+    ensures { read.IsSpelled place.entry piece.entry result }
+{
+    let span = span_of(place, piece);
+    let token = token_or_fault(alloc, piece.state, piece.text, span);
+    TokenAndSpan {
+        token,
+        had_line_break: place.had_line_break,
+        span,
+    }
+}
+
 /// The token that a piece spells, or an error token where there is no memory for its text.
 #[tactic(auto, unfolding(crate::specs::Make::fault))]
 pub fn token_or_fault(alloc: Global, state: State, text: &str, span: Span) -> Token
-    ensures { read.IsTokenOrFault (read.token_of state text.now span) result }
+    ensures token { read.IsTokenOrFault (read.token_of state text.now span) result }
+    ensures lost { read.IsLost (read.token_of state text.now span) result }
 {
     match token_of(alloc, state, text, span) {
         Ok(token) => token,

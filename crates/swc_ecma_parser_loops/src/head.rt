@@ -214,12 +214,12 @@ fn declares_behind<P: Cursor>(p: &P) -> bool
         && (p.next_sees(TokenKind::In) || p.next_word_at("of"))
 }
 
-/// Whether `await` stands here before something on its line, which may be `using`.
+/// Whether `await` stands here before `using` on its line.
 #[tactic(auto, unfolding(swc_ecma_parser_reader::specs::Reader::begins_await_head))]
 fn begins_await<P: Cursor>(p: &P) -> bool
     ensures { result ≡ rules.begins_await_head (P.seen p.now).at }
 {
-    p.sees(TokenKind::Await) && !p.next_had_line_break()
+    p.sees(TokenKind::Await) && !p.next_had_line_break() && p.next_word_at("using")
 }
 
 /// What `await` begins: an expression, or, where it is `await using` and a name stands behind it, what that declares.

@@ -41,6 +41,10 @@ member a b c = gcons (gcons d1 d2) (gcons a (gcons b c))
 abbrev item : Gv → Gv → Gv → Gv
 item a b c = gcons (gcons d2 d0) (gcons a (gcons b c))
 
+-- further expressions, and the texts of templates
+abbrev more : Gv → Gv → Gv → Gv
+more a b c = gcons (gcons d2 d1) (gcons a (gcons b c))
+
 abbrev mutual
   pub code : Tree → Gv
   code tree.absent = gcons (part d0 d0 d0) gnil
@@ -144,6 +148,11 @@ abbrev mutual
   code (tree.export_namespace s name) = gcons (item d1 d0 d0) (gcons (put_span s) (code name))
   code (tree.export_default exported) = gcons (item d1 d0 d1) (code exported)
   code (tree.export_specifier s orig exported) = gcons (item d1 d0 d2) (gcons (put_span s) (gcons (code orig) (code exported)))
+  code (tree.regex s exp flags) = gcons (more d0 d0 d0) (gcons (put_span s) (gcons (put_text exp) (put_text flags)))
+  code (tree.quasi s tail cooked raw) = gcons (more d0 d0 d1) (gcons (put_span s) (gcons (put_bool tail) (gcons (put_option cooked) (put_text raw))))
+  code (tree.tpl s exprs quasis) = gcons (more d0 d0 d2) (gcons (put_span s) (gcons (code exprs) (code quasis)))
+  code (tree.tagged_tpl s tag template) = gcons (more d0 d1 d0) (gcons (put_span s) (gcons (code tag) (code template)))
+  code (tree.opt_chain s optional base) = gcons (more d0 d1 d1) (gcons (put_span s) (gcons (put_bool optional) (code base)))
 
   pub codes : Trees → Gv
   codes none = gnil
@@ -251,6 +260,11 @@ abbrev mutual
   back (gcons (gcons (gcons (gcons _ _) gnil) (gcons (gnum _) (gcons gnil gnil))) (gcons s name)) = tree.export_namespace (get_span s) (back name)
   back (gcons (gcons (gcons (gcons _ _) gnil) (gcons (gnum _) (gcons gnil (gnum _)))) exported) = tree.export_default (back exported)
   back (gcons (gcons (gcons (gcons _ _) gnil) (gcons (gnum _) (gcons gnil (gcons _ _)))) (gcons s (gcons orig exported))) = tree.export_specifier (get_span s) (back orig) (back exported)
+  back (gcons (gcons (gcons (gcons _ _) (gnum _)) (gcons gnil (gcons gnil gnil))) (gcons s (gcons exp flags))) = tree.regex (get_span s) (get_text exp) (get_text flags)
+  back (gcons (gcons (gcons (gcons _ _) (gnum _)) (gcons gnil (gcons gnil (gnum _)))) (gcons s (gcons tail (gcons cooked raw)))) = tree.quasi (get_span s) (get_bool tail) (get_option cooked) (get_text raw)
+  back (gcons (gcons (gcons (gcons _ _) (gnum _)) (gcons gnil (gcons gnil (gcons _ _)))) (gcons s (gcons exprs quasis))) = tree.tpl (get_span s) (back exprs) (back quasis)
+  back (gcons (gcons (gcons (gcons _ _) (gnum _)) (gcons gnil (gcons (gnum _) gnil))) (gcons s (gcons tag template))) = tree.tagged_tpl (get_span s) (back tag) (back template)
+  back (gcons (gcons (gcons (gcons _ _) (gnum _)) (gcons gnil (gcons (gnum _) (gnum _)))) (gcons s (gcons optional base))) = tree.opt_chain (get_span s) (get_bool optional) (back base)
   back _ = tree.absent
 
   backs : Gv → Trees
@@ -360,6 +374,11 @@ mutual
   back-code (tree.export_namespace s name) = λ k. tree.export_namespace s (back-code name k)
   back-code (tree.export_default exported) = λ k. tree.export_default (back-code exported k)
   back-code (tree.export_specifier s orig exported) = λ k. tree.export_specifier s (back-code orig k) (back-code exported k)
+  back-code (tree.regex s exp flags) = λ k. tree.regex s (get-put_text exp k) (get-put_text flags k)
+  back-code (tree.quasi s tail cooked raw) = λ k. tree.quasi s (get-put_bool tail k) (get-put_option cooked k) (get-put_text raw k)
+  back-code (tree.tpl s exprs quasis) = λ k. tree.tpl s (back-code exprs k) (back-code quasis k)
+  back-code (tree.tagged_tpl s tag template) = λ k. tree.tagged_tpl s (back-code tag k) (back-code template k)
+  back-code (tree.opt_chain s optional base) = λ k. tree.opt_chain s (get-put_bool optional k) (back-code base k)
 
   backs-codes : (ts : Trees) → backs (codes ts) ≡ ts
   backs-codes none = refl

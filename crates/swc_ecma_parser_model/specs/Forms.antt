@@ -20,6 +20,11 @@ abbrev pub is_ident_named : Text → Tree → Bool
 is_ident_named name (ident s text) = bytes_eq text name
 is_ident_named name _ = false
 
+-- a link of an optional chain, with no parentheses
+abbrev pub is_chain : Tree → Bool
+is_chain (tree.opt_chain s optional base) = true
+is_chain _ = false
+
 abbrev pub is_paren : Tree → Bool
 is_paren (paren s e) = true
 is_paren _ = false
@@ -117,6 +122,7 @@ span_of (tree.bool s b) = s
 span_of (tree.null s) = s
 span_of (tree.num s raw) = s
 span_of (tree.big_int s raw) = s
+span_of (tree.regex s exp flags) = s
 span_of (tree.this s) = s
 span_of (tree.array s elems) = s
 span_of (tree.object s props) = s
@@ -135,6 +141,9 @@ span_of (tree.member s obj prop) = s
 span_of (tree.super_prop s word prop) = s
 span_of (tree.call s callee args) = s
 span_of (tree.new s callee args) = s
+span_of (tree.tpl s exprs quasis) = s
+span_of (tree.tagged_tpl s tag template) = s
+span_of (tree.opt_chain s optional base) = s
 span_of (tree.arrow s params body is_async) = s
 span_of (tree.yield s arg delegate) = s
 span_of (tree.await s arg) = s
@@ -143,6 +152,7 @@ span_of (tree.private_name s word text) = s
 span_of (tree.computed s e) = s
 span_of (tree.super_callee s) = s
 span_of (tree.import_callee s) = s
+span_of (tree.quasi s tail cooked raw) = s
 span_of (tree.spread_prop dots e) = begun (Some dots) (span_of e)
 span_of (tree.shorthand_prop s text) = s
 span_of (tree.key_value_prop s key value) = s

@@ -3,7 +3,7 @@ use Rattle.std.specs.Prelude.{Bool, true, false, ◌||◌}
 use Rattle.swc_ecma_parser_model.specs.Tree as tree
 use Rattle.swc_ecma_parser_model.specs.Tree.{Tree}
 
--- an expression of any form
+-- an expression of any form; a private name stands before `in` alone
 abbrev pub is_expr : Tree → Bool
 is_expr (tree.ident s text) = true
 is_expr (tree.str s value raw) = true
@@ -11,6 +11,7 @@ is_expr (tree.bool s b) = true
 is_expr (tree.null s) = true
 is_expr (tree.num s raw) = true
 is_expr (tree.big_int s raw) = true
+is_expr (tree.regex s exp flags) = true
 is_expr (tree.this s) = true
 is_expr (tree.array s elems) = true
 is_expr (tree.object s props) = true
@@ -29,6 +30,10 @@ is_expr (tree.member s obj prop) = true
 is_expr (tree.super_prop s word prop) = true
 is_expr (tree.call s callee args) = true
 is_expr (tree.new s callee args) = true
+is_expr (tree.tpl s exprs quasis) = true
+is_expr (tree.tagged_tpl s tag template) = true
+is_expr (tree.opt_chain s optional base) = true
+is_expr (tree.private_name s word text) = true
 is_expr (tree.arrow s params body is_async) = true
 is_expr (tree.yield s arg delegate) = true
 is_expr (tree.await s arg) = true

@@ -13,6 +13,7 @@ abbrev mutual
   tree_size (tree.null s) = 0
   tree_size (tree.num s raw) = 0
   tree_size (tree.big_int s raw) = 0
+  tree_size (tree.regex s exp flags) = 0
   tree_size (tree.this s) = 0
   tree_size (tree.array s elems) = 1 + tree_size elems
   tree_size (tree.object s props) = 1 + tree_size props
@@ -31,6 +32,9 @@ abbrev mutual
   tree_size (tree.super_prop s word prop) = 1 + tree_size prop
   tree_size (tree.call s callee args) = 1 + tree_size callee + tree_size args
   tree_size (tree.new s callee args) = 1 + tree_size callee + tree_size args
+  tree_size (tree.tpl s exprs quasis) = 1 + tree_size exprs + tree_size quasis
+  tree_size (tree.tagged_tpl s tag template) = 1 + tree_size tag + tree_size template
+  tree_size (tree.opt_chain s optional base) = 1 + tree_size base
   tree_size (tree.arrow s params body is_async) = 1 + tree_size params + tree_size body
   tree_size (tree.yield s arg delegate) = 1 + tree_size arg
   tree_size (tree.await s arg) = 1 + tree_size arg
@@ -39,6 +43,7 @@ abbrev mutual
   tree_size (tree.computed s e) = 1 + tree_size e
   tree_size (tree.super_callee s) = 0
   tree_size (tree.import_callee s) = 0
+  tree_size (tree.quasi s tail cooked raw) = 0
   tree_size (tree.spread_prop dots e) = 1 + tree_size e
   tree_size (tree.shorthand_prop s text) = 0
   tree_size (tree.key_value_prop s key value) = 1 + tree_size key + tree_size value

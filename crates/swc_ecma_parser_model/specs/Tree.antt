@@ -27,6 +27,7 @@ mutual
     null : Span → Tree
     num : Span → (raw : Text) → Tree
     big_int : Span → (raw : Text) → Tree
+    regex : Span → (exp flags : Text) → Tree
     -- further primary expressions: the elements of an array are `element` or, for a hole, `absent`
     this : Span → Tree
     array : Span → (elems : Tree) → Tree
@@ -49,6 +50,11 @@ mutual
     super_prop : Span → (word : Span) → (prop : Tree) → Tree
     call : Span → (callee args : Tree) → Tree
     new : Span → (callee args : Tree) → Tree
+    -- templates: the expressions, and the texts around them, one more, each a `quasi`; a tag stands before a `tpl`
+    tpl : Span → (exprs quasis : Tree) → Tree
+    tagged_tpl : Span → (tag tpl : Tree) → Tree
+    -- a link of an optional chain: a `member` or a `call` of the same span, behind `?.` or not
+    opt_chain : Span → (optional : Bool) → (base : Tree) → Tree
     -- an arrow's parameters are patterns, its body a `block` or an expression
     arrow : Span → (params body : Tree) → (is_async : Bool) → Tree
     yield : Span → (arg : Tree) → (delegate : Bool) → Tree
@@ -60,6 +66,8 @@ mutual
     -- what `super(..)` and `import(..)` call
     super_callee : Span → Tree
     import_callee : Span → Tree
+    -- a text of a template, `cooked` where each escape in it is one
+    quasi : Span → (tail : Bool) → (cooked : Option Text) → (raw : Text) → Tree
     -- parts of objects: a key is an `ident`, `str`, `num`, `big_int` or `computed`; a spread has its dots' span
     spread_prop : (dots : Span) → (expr : Tree) → Tree
     shorthand_prop : Span → Text → Tree

@@ -43,6 +43,26 @@ pub struct BigInt {
     pub raw: Atom,
 }
 
+/// A regular expression, what stands between its slashes, and its flags: ECMA-262, "Regular Expression Literals" (section
+/// 12.9.5).
+#[derive(Debug, PartialEq, Eq, Drop)]
+pub struct Regex {
+    pub span: Span,
+    pub exp: Atom,
+    pub flags: Atom,
+}
+
+/// A text of a template, between its marks, `${` and `}`: ECMA-262, "Template Literal Lexical Components" (section 12.9.6).
+/// `span` takes these in. `tail` says that it is the last, `raw` is how it is written, with `\n` for each line break, and
+/// `cooked` what that says: `None` where an escape in it is none.
+#[derive(Debug, PartialEq, Eq, Drop)]
+pub struct TplElement {
+    pub span: Span,
+    pub tail: bool,
+    pub cooked: Option<Atom>,
+    pub raw: Atom,
+}
+
 /// `#` and a word: ECMA-262, "PrivateIdentifier" (section 12.7). `span` takes in the `#`, that of `id` the word alone.
 #[derive(Debug, PartialEq, Eq, Drop)]
 pub struct PrivateName {
@@ -82,7 +102,7 @@ pub enum ImportPhase {
 /// A property of a word of the language: ECMA-262, "Meta Properties" (section 13.3.12).
 #[derive(Clone, Copy, Debug, PartialEq, Eq)]
 pub enum MetaPropKind {
-    /// `new.target`, which no text spells in this grammar.
+    /// `new.target`
     NewTarget,
     /// `import.meta`
     ImportMeta,
@@ -129,6 +149,22 @@ impl Spanned for Number {
 }
 
 impl Spanned for BigInt {
+    ghost span_of = { λ x. x.span };
+
+    fn span(&self) -> Span {
+        self.span
+    }
+}
+
+impl Spanned for Regex {
+    ghost span_of = { λ x. x.span };
+
+    fn span(&self) -> Span {
+        self.span
+    }
+}
+
+impl Spanned for TplElement {
     ghost span_of = { λ x. x.span };
 
     fn span(&self) -> Span {

@@ -5,7 +5,7 @@ mod leaves;
 mod operators;
 
 pub use leaves::{
-    BigInt, Bool, Ident, ImportPhase, MetaPropKind, MethodKind, Null, Number, PrivateName, Str,
-    VarDeclKind,
+    BigInt, Bool, Ident, ImportPhase, MetaPropKind, MethodKind, Null, Number, PrivateName, Regex,
+    Str, TplElement, VarDeclKind,
 };
 pub use operators::{AssignOp, BinaryOp, UnaryOp, UpdateOp};

@@ -48,7 +48,8 @@ use Rattle.swc_ecma_parser_reader.proofs.CompleteParts.{ends_read}
 use Rattle.swc_ecma_parser_reader.proofs.Errors.{is_error}
 use Rattle.swc_ecma_parser_reader.proofs.Notes.{or_nil}
 use Rattle.swc_ecma_parser_reader.proofs.Words.{async_kind, or_later}
-use Rattle.swc_ecma_parser_reader.proofs.expressions.CompleteKinds.{seen, token_first, no_async_function, named_word}
+use Rattle.swc_ecma_parser_reader.proofs.expressions.CompleteKinds.{seen, token_first, named_word}
+use Rattle.swc_ecma_parser_reader.proofs.expressions.PartEnds.{no_async_function}
 use Rattle.swc_ecma_parser_reader.proofs.expressions.SoundSteps.{word_span}
 use Rattle.swc_ecma_parser_module_reader.specs.Imports.{attributes, specifiers}
 use Rattle.swc_ecma_parser_module_reader.specs.Exports.{renamed_export, plain_export, export_specifier, export_namespace, names_from, own_names, export_names, more_names, namespace_names, export_all, export_star, is_namespace_next, behind_default, is_name_from, name_from, is_default_from, default_from, begins_default_function, default_rest, export_default, export_rest, export_named, export_decl}

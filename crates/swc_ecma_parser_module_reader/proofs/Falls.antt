@@ -37,11 +37,11 @@ use Rattle.swc_ecma_parser_reader.proofs.classes.Falls as classes
 use Rattle.swc_ecma_parser_reader.proofs.Errors.{is_error}
 use Rattle.swc_ecma_parser_reader.proofs.Meets.{Meets, saw}
 use Rattle.swc_ecma_parser_reader.proofs.Objects.{object_alone_falls}
-use Rattle.swc_ecma_parser_reader.proofs.Takes.{Falls, weaker, falls_then, falls_last, falls_coded, falls_if, less, falls_next, moves, takes_one, falls_past, falls_moved, wanted_falls, too_deep_falls, refuse_falls, name_falls, end_falls, expect_falls, loop_falls}
+use Rattle.swc_ecma_parser_reader.proofs.Takes.{Falls, weaker, falls_then, falls_last, falls_coded, falls_if, less, falls_next, moves, takes_one, falls_past, falls_moved, wanted_falls, too_deep_falls, refuse_falls, name_falls, end_falls, expect_falls, loop_falls, reject_falls}
 use Rattle.swc_ecma_parser_reader.proofs.Words.{async_kind}
 use Rattle.swc_ecma_parser_reader.proofs.decorators.Leading.{leading_falls, misplaced_falls, misplaced_still}
 use Rattle.swc_ecma_parser_reader.proofs.Falls.{decorated_in_falls}
-use Rattle.swc_ecma_parser_reader.proofs.expressions.Falls.{reject_falls, falls_when, any_word_falls, star_falls, told_falls, no_end}
+use Rattle.swc_ecma_parser_reader.proofs.expressions.Falls.{falls_when, any_word_falls, star_falls, told_falls, no_end}
 use Rattle.swc_ecma_parser_reader.proofs.expressions.Loops.{shorter_by}
 use Rattle.swc_ecma_parser_module_reader.specs.Imports.{str_or, str, source, module_name, attributes, specifiers_turn, specifiers, same_name, other_name, import_specifier, binding_name, import_namespace, bindings, more_bindings, default_binding, import_clause, imported, import_from, phase_of, import_phased, is_phase_word, import_decl, begins_bindings, begins_clause, import_unphased}
 use Rattle.swc_ecma_parser_module_reader.specs.Exports.{renamed_export, plain_export, export_specifier, export_namespace, names_from, own_names, export_names, more_names, namespace_names, export_all, export_star, is_namespace_next, behind_default, is_name_from, name_from, is_default_from, default_from, default_name, default_function, default_expr, begins_default_function, exported_function, exported_class, default_rest, export_default, exported, export_rest, export_named}

@@ -82,13 +82,14 @@ operand_no_export _ e = refl
 
 begins_no_export : (f : Context) (c : Place) → begins_expression f c ≡ true → sees kind.Export c ≡ false
 unfolding begins_expression begins_unary same_kind
-begins_no_export f c e = by_first (begins_operand (kind_at c)) (identifier_at f c) (f.in_generator && sees kind.Yield c) refl refl refl e
+begins_no_export f c e = by_first (begins_operand (kind_at c)) (identifier_at f c) (sees kind.HashIn c) (f.in_generator && sees kind.Yield c) refl refl refl refl e
   where
-    by_first : (a b g : Bool) → begins_operand (kind_at c) ≡ a → identifier_at f c ≡ b → (f.in_generator && sees kind.Yield c) ≡ g → ((a || b) || g) ≡ true → sees kind.Export c ≡ false
-    by_first true b g u v w h = operand_no_export (kind_at c) u
-    by_first false true g u v w h = identifier_no_export f c v
-    by_first false false true u v w h = rw (saw c kind.Yield (and_yes f.in_generator (sees kind.Yield c) w).1) refl
-    by_first false false false u v w h = cc
+    by_first : (a b n g : Bool) → begins_operand (kind_at c) ≡ a → identifier_at f c ≡ b → sees kind.HashIn c ≡ n → (f.in_generator && sees kind.Yield c) ≡ g → ((a || b) || (n || g)) ≡ true → sees kind.Export c ≡ false
+    by_first true b n g u v z w h = operand_no_export (kind_at c) u
+    by_first false true n g u v z w h = identifier_no_export f c v
+    by_first false false true g u v z w h = rw (saw c kind.HashIn z) refl
+    by_first false false false true u v z w h = rw (saw c kind.Yield (and_yes f.in_generator (sees kind.Yield c) w).1) refl
+    by_first false false false false u v z w h = cc
 
 -- ---- a statement
 

@@ -42,7 +42,8 @@ use Rattle.swc_ecma_parser_reader.proofs.KeepsFunctions.{function_word_keeps, fu
 use Rattle.swc_ecma_parser_reader.proofs.classes.Keeps as classes
 use Rattle.swc_ecma_parser_reader.proofs.Objects.{object_alone_keeps}
 use Rattle.swc_ecma_parser_reader.proofs.Meets.{Answers, answers_then, answers_if, meant, saw}
-use Rattle.swc_ecma_parser_reader.proofs.expressions.Keeps.{taken_keeps, any_word_keeps, star_keeps, told_keeps}
+use Rattle.swc_ecma_parser_reader.proofs.expressions.Keeps.{star_keeps}
+use Rattle.swc_ecma_parser_reader.proofs.expressions.KeepSteps.{taken_keeps, any_word_keeps, told_keeps}
 use Rattle.swc_ecma_parser_grammar.proofs.StatementBegins.{word_place}
 use Rattle.swc_ecma_parser_grammar.proofs.Tests.{and_yes}
 use Rattle.swc_ecma_parser_reader.proofs.Errors.{is_error}

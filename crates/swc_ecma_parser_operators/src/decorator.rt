@@ -14,7 +14,7 @@ use swc_ecma_parser_common::Span;
 use swc_ecma_parser_cursor::{Cursor, Wanted};
 use swc_ecma_parser_error::PResult;
 use swc_ecma_parser_grammar::Class;
-use swc_ecma_parser_left_sides::left::{accessed, called};
+use swc_ecma_parser_left_sides::links::{accessed, called};
 use swc_ecma_parser_shared::readers::Readers;
 use swc_ecma_parser_shared::steps::{grown, with_in};
 use swc_ecma_parser_token::TokenKind;

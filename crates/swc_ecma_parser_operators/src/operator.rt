@@ -1,13 +1,17 @@
 //! Operators, assignments and sequences: ECMA-262, sections 13.4 to 13.16.
 
-ghost use Rattle.std.specs.Prelude.{◌≡◌, ◌&&◌, IfOk, map};
+ghost use Rattle.std.specs.Prelude.{◌≡◌, ◌&&◌, IfOk, map, nat_le};
 ghost use Rattle.swc_ecma_parser_error.specs.Kind.{kind_of};
+ghost use Rattle.swc_ecma_parser_grammar.specs.Looks.{sees};
 ghost use Rattle.swc_ecma_parser_grammar.specs.language.Continues.{continues_conditional};
+ghost use Rattle.swc_ecma_parser_grammar.specs.language.Operators as operators;
+ghost use Rattle.swc_ecma_parser_model.specs.declared.operators.BinaryOp.TheVariants as binary;
 ghost use Rattle.swc_ecma_parser_reader.specs.Arrows as arrows;
 ghost use Rattle.swc_ecma_parser_reader.specs.Classes.{class_of};
 ghost use Rattle.swc_ecma_parser_reader.specs.Expressions as exprs;
 ghost use Rattle.swc_ecma_parser_reader.specs.Reader as rules;
 ghost use Rattle.swc_ecma_parser_reader.specs.State.{Gives, GivesAs};
+ghost use Rattle.swc_ecma_parser_token.specs.declared.kind.TokenKind.TheVariants as kind;
 
 use crate::arrows::{async_grouped, grouped};
 use crate::assignment::assignment_expr;
@@ -16,13 +20,16 @@ use swc_ecma_parser_arrows::arrows::{async_named_arrow, named_arrow};
 use swc_ecma_parser_arrows::awaits::await_expr;
 use swc_ecma_parser_arrows::yields::{begins_yield, yield_expr};
 use swc_ecma_parser_common::Span;
-use swc_ecma_parser_cursor::{Cursor, Wanted, assign_operator, unary_operator, update_operator};
+use swc_ecma_parser_cursor::{
+    Cursor, Wanted, assign_operator, precedence, unary_operator, update_operator,
+};
 use swc_ecma_parser_error::{PResult, SyntaxError};
 use swc_ecma_parser_grammar::Class;
 use swc_ecma_parser_left_sides::left::{left, left_expr};
-use swc_ecma_parser_model::{AssignOp, UnaryOp, UpdateOp};
+use swc_ecma_parser_model::{AssignOp, BinaryOp, UnaryOp, UpdateOp};
 use swc_ecma_parser_shared::cover::{inside, nested};
-use swc_ecma_parser_shared::operators::{Operands, binary_from};
+use swc_ecma_parser_shared::keys::private_name;
+use swc_ecma_parser_shared::operators::{Operands, binary_from, right_class};
 use swc_ecma_parser_shared::readers::Readers;
 use swc_ecma_parser_shared::steps::{grown, pushed, since};
 use swc_ecma_parser_token::TokenKind;
@@ -173,6 +180,64 @@ fn unary_expr<
     postfix(g, t, p)
 }
 
+/// `in` behind a private name.
+#[tactic(auto, unfolding(swc_ecma_parser_reader::specs::Expressions::in_word))]
+fn in_word<P: Cursor>(p: &mut P) -> PResult<()>
+    ensures { Gives (exprs.in_word (P.seen p.old)) result (P.seen p.new) }
+{
+    if p.sees(TokenKind::In) && p.flags().include_in_expr {
+        return p.skip();
+    }
+    Err(p.wanted(Wanted::Expression))
+}
+
+/// A private name, `in`, and its right operand: section 13.10.
+#[tactic(auto, unfolding(swc_ecma_parser_reader::specs::Expressions::private_in))]
+#[inline(never)]
+fn private_in<P: Cursor, T: BuildsOperator, G: Readers<P, T>>(
+    g: &G,
+    t: &MakerOf<T>,
+    p: &mut P,
+) -> PResult<T::Expr>
+    requires { G.ready g.now }
+    ensures { GivesAs (T.expr_of)
+        (exprs.private_in (rules.expr (G.depth g.now)) (rules.cover (G.depth g.now))
+        (P.seen p.old)) result (P.seen p.new) }
+{
+    let start = p.span();
+    let name = private_name(p)?;
+    let x = grown(p, T::private_name(t.alloc, name))?;
+    in_word(p)?;
+    let y = nested(g, t, p, right_class(BinaryOp::In))?;
+    let span = since(p, start);
+    grown(p, T::bin(t.alloc, span, BinaryOp::In, x, y))
+}
+
+/// Whether a private name begins an operand here, which `in` must follow: where `in` binds at least so tightly.
+fn begins_private_in<P: Cursor>(p: &P, n: usize) -> bool
+    ensures { result ≡ (nat_le n (operators.precedence binary.In) && sees kind.HashIn (P.seen p.now).at) }
+{
+    n <= precedence(BinaryOp::In) && p.sees(TokenKind::HashIn)
+}
+
+/// The first of the operands of operators that bind at least so tightly.
+#[tactic(auto, unfolding(swc_ecma_parser_reader::specs::Expressions::first_operand))]
+fn first_operand<
+    P: Cursor,
+    T: BuildsExpr + BuildsCall + BuildsMethod + BuildsOperator + BuildsPattern,
+    G: Readers<P, T>,
+>(g: &G, t: &MakerOf<T>, p: &mut P, n: usize) -> PResult<T::Expr>
+    requires { G.ready g.now }
+    ensures { GivesAs (T.expr_of)
+        (exprs.first_operand (rules.expr (G.depth g.now)) (rules.cover (G.depth g.now))
+        (rules.function (G.depth g.now)) n (P.seen p.old)) result (P.seen p.new) }
+{
+    if begins_private_in(p, n) {
+        return private_in(g, t, p);
+    }
+    unary_expr(g, t, p)
+}
+
 /// Operands and operators that bind at least so tightly: sections 13.6 to 13.13.
 #[tactic(auto, unfolding(swc_ecma_parser_reader::specs::Expressions::binary_expr))]
 fn binary_expr<
@@ -186,7 +251,7 @@ fn binary_expr<
         (rules.function (G.depth g.now)) n (P.seen p.old)) result (P.seen p.new) }
 {
     let start = p.span();
-    let x = unary_expr(g, t, p)?;
+    let x = first_operand(g, t, p, n)?;
     binary_from(g, t, p, Operands::Nested, n, start, x)
 }
 

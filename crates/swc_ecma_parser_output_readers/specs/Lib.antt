@@ -1,2 +1,5 @@
 pub mod Items
+pub mod Languages
+pub mod ListLaws
+pub mod StatementLaws
 pub mod ItemLaws

@@ -2,6 +2,7 @@
 
 ghost use Rattle.std.specs.Prelude.{◌≡◌, [], map, IsOk};
 ghost use Rattle.swc_ecma_parser_lists.specs.Ends.{ends_at};
+ghost use Rattle.swc_ecma_parser_output_readers.specs.Languages.{DecidesEach};
 ghost use Rattle.swc_ecma_parser_reader.specs.Reader as rules;
 ghost use Rattle.swc_ecma_parser_reader.specs.State.{GivesAs};
 
@@ -53,6 +54,8 @@ pub fn block_body<P: StmtLikeParser<T, Y>, T: BuildsStatements, Y: FromStmt<T> +
     ensures gives { GivesAs (λ found. map Y.held found.items)
         (rules.items (P.item limit at) (ends_at end) directives (P.seen p.old)) result
         (P.seen p.new) }
+    ensures decides { DecidesEach P.in_code P.language (λ found. map Y.held found.items) limit at (ends_at end) directives
+        (P.seen p.old) result (P.seen p.new) }
     ensures outright { (P.seen p.old).at.left ≡ [] → IsOk result }
 {
     items::<Picked<Y>, P, T>(t, p, limit, at, end, directives)

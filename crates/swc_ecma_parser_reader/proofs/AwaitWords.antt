@@ -26,7 +26,7 @@ use Rattle.swc_ecma_parser_reader.specs.Methods.{FunctionForm}
 use Rattle.swc_ecma_parser_reader.specs.Yields.{begins_yield}
 use Rattle.swc_ecma_parser_reader.specs.Arrows.{begins_named_arrow}
 use Rattle.swc_ecma_parser_reader.specs.AsyncArrows.{begins_async_arrow}
-use Rattle.swc_ecma_parser_reader.specs.Expressions.{Cover, done, close, misplaced_await, sequence_from, begins_async_call, await_allowed, await_expr, unary_expr, binary_expr, operators_expr, plain_expr, done_expr, cover_expr, assignment_expr, expression_expr, expr_level}
+use Rattle.swc_ecma_parser_reader.specs.Expressions.{first_operand, Cover, done, close, misplaced_await, sequence_from, begins_async_call, await_allowed, await_expr, unary_expr, binary_expr, operators_expr, plain_expr, done_expr, cover_expr, assignment_expr, expression_expr, expr_level}
 use Rattle.swc_ecma_parser_reader.specs.Reader.{begins_label, other_stmt, expr_stmt, expr_stmt_at, declarators, await_using_stmt, await_using_or, stmt_level, stmt, expr, cover, head_cover, pattern, parameters, member, operators, function, nests, plain_stmt, no_label, note_statement, stmt_end}
 use Rattle.swc_ecma_parser_reader.specs.AwaitWords.{begins_await_using, awaited, awaited_binary, awaited_operators, awaited_expr, behind_await, expr_stmt_behind, stmt_behind_await}
 use Rattle.swc_ecma_parser_reader.proofs.Errors.{is_error, fault_here}
@@ -108,7 +108,7 @@ module _ (inner : Class → Reader Tree) (covers : Reader Cover) (function : Fun
       by_test false e = rw (e, fault_here s told (ap is_error a), fault_here (moved s) told (ap is_error (word_place (codes "using") (after s.at) w))) refl
 
   operators_go : operators_expr inner covers function s ≡ awaited_operators inner covers function (span_at s.at) (moved s)
-  unfolding operators_expr binary_expr unary_expr awaited_operators awaited_binary
+  unfolding operators_expr binary_expr first_operand unary_expr awaited_operators awaited_binary same_kind
   operators_go = rw (a, is_operator, operand_goes, no_call) refl
 
   plain_goes : plain_expr inner covers function s ≡ awaited_operators inner covers function (span_at s.at) (moved s)

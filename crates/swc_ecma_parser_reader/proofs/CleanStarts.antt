@@ -25,11 +25,12 @@ use Rattle.swc_ecma_parser_grammar.specs.language.Operators.{unary_operator, upd
 use Rattle.swc_ecma_parser_grammar.specs.language.Begins.{begins_operand, awaits}
 use Rattle.swc_ecma_parser_grammar.specs.language.Parts.{ReadsName, ReadsToken}
 use Rattle.swc_ecma_parser_grammar.specs.language.Functions.{FunctionRule}
-use Rattle.swc_ecma_parser_grammar.specs.language.LeftSides.{PrimaryRule, name_rule, string_rule, true_rule, false_rule, null_rule, number_rule, big_int_rule, this_rule, array_rule, object_rule, function_rule, class_rule, paren_rule, LeftSideRule, primary_rule, import_meta_rule, member_rule, super_property_rule, call_rule, super_call_rule, import_call_rule, new_rule, bare_new_rule}
+use Rattle.swc_ecma_parser_grammar.specs.language.LeftSides.{PrimaryRule, name_rule, string_rule, true_rule, false_rule, null_rule, number_rule, big_int_rule, regex_rule, template_rule, this_rule, array_rule, object_rule, function_rule, class_rule, paren_rule, LeftSideRule, primary_rule, new_target_rule, tagged_rule, chain_rule, linked_rule, import_meta_rule, member_rule, super_property_rule, call_rule, super_call_rule, import_call_rule, new_rule, bare_new_rule}
 use Rattle.swc_ecma_parser_grammar.specs.language.Patterns.{PatternRule, binding_name_rule, target_name_rule, target_rule, array_rule, object_rule}
-use Rattle.swc_ecma_parser_grammar.specs.language.Expressions.{UnaryRule, operand_rule, unary_rule, prefix_rule, postfix_rule, await_rule, BinaryRule, single_rule, left_rule, power_rule, ArrowHeadRule, name_head, parameters_head, AssignmentRule, operators_rule, conditional_rule, assign_rule, destructuring_rule, arrow_rule, bare_yield_rule, yield_rule, delegate_rule, ExpressionRule, assignment_rule, sequence_rule, ExprRule}
+use Rattle.swc_ecma_parser_grammar.specs.language.Expressions.{UnaryRule, operand_rule, unary_rule, prefix_rule, postfix_rule, await_rule, BinaryRule, single_rule, left_rule, power_rule, private_in_rule, ArrowHeadRule, name_head, parameters_head, AssignmentRule, operators_rule, conditional_rule, assign_rule, destructuring_rule, arrow_rule, bare_yield_rule, yield_rule, delegate_rule, ExpressionRule, assignment_rule, sequence_rule, ExprRule}
 use Rattle.swc_ecma_parser_grammar.specs.language.Reads.{Reads}
 use Rattle.swc_ecma_parser_grammar.proofs.Naming.{name_is_name}
+use Rattle.swc_ecma_parser_grammar.proofs.Beginnings.{template_opens}
 use Rattle.swc_ecma_parser_reader.proofs.Words.{unreserved}
 use Rattle.swc_ecma_parser_reader.proofs.expressions.Yields.{yield_reserved}
 use Rattle.swc_ecma_parser_grammar.proofs.ExpressionBegins.{kind_of_token}
@@ -60,6 +61,7 @@ word_no_operand f word.Null e = cc
 word_no_operand f word.True e = cc
 word_no_operand f word.False e = cc
 word_no_operand f (word.Ident text) e = refl
+word_no_operand f (word.Escaped text) e = refl
 
 token_stands : (t : Token) (s : Span) (c d : Place) → ReadsToken t s c d → kind_at c ≡ token_kind t
 unfolding kind_at
@@ -125,6 +127,18 @@ update_begins kind.PlusPlus op h = refl
 update_begins kind.MinusMinus op h = refl
 update_begins _ op h = cc
 
+-- no word is the `#` of an operand
+keyword_no_hash : {X : Type 0} (v : Keyword) → keyword_kind v ≡ kind.HashIn → X
+keyword_no_hash keyword.Await e = cc
+keyword_no_hash _ e = cc
+
+word_no_hash : {X : Type 0} (w : Word) → word_kind w ≡ kind.HashIn → X
+word_no_hash (word.Keyword v) e = keyword_no_hash v e
+word_no_hash _ e = cc
+
+hash_starts : (k : Code) (c : Place) → kind_at c ≡ kind.HashIn → Starts k c
+hash_starts k c h w s r e = word_no_hash w (sym (token_stands (token.Word w) s c (after c) r) ∙ h)
+
 -- ---- expressions and patterns
 
 module _ (In : Goal → Type 0) (k : Code) where
@@ -143,6 +157,8 @@ module _ (In : Goal → Type 0) (k : Code) where
   primary_starts x c d (null_rule s r e) = operand_starts k c kind.Null (kind_of_token r) refl
   primary_starts x c d (number_rule w s r e) = operand_starts k c kind.Num (kind_of_token r) refl
   primary_starts x c d (big_int_rule w s r e) = operand_starts k c kind.BigInt (kind_of_token r) refl
+  primary_starts x c d (regex_rule exp flags s r e) = operand_starts k c kind.Regex (kind_of_token r) refl
+  primary_starts x c d (template_rule es qs r e) = elim (template_opens r) [ inl h ↦ operand_starts k c kind.Template h refl | inr h ↦ operand_starts k c kind.TemplateHead h refl ]
   primary_starts x c d (this_rule h g e) = operand_starts k c kind.This h refl
   primary_starts x c d (array_rule es m h r g i e) = operand_starts k c kind.LBracket h refl
   primary_starts x c d (object_rule ps m h r g i e) = operand_starts k c kind.LBrace h refl
@@ -153,9 +169,13 @@ module _ (In : Goal → Type 0) (k : Code) where
   left_side_starts : {x : Tree} {c d : Place} → LeftSideRule In k x c d → Starts k c
   left_side_starts {x = x} {c = c} {d = d} (primary_rule r) = primary_starts x c d r
   left_side_starts {c = c} (import_meta_rule h g i j l e) = operand_starts k c kind.Import h refl
-  left_side_starts (member_rule obj property m r a e) = left_side_starts r
+  left_side_starts {c = c} (new_target_rule h g i j e) = operand_starts k c kind.New h refl
+  left_side_starts (member_rule obj property m r n a e) = left_side_starts r
+  left_side_starts (tagged_rule tag es qs m r n a e) = left_side_starts r
+  left_side_starts (chain_rule obj base m r h a e) = left_side_starts r
+  left_side_starts (linked_rule obj base m r n a e) = left_side_starts r
   left_side_starts {c = c} (super_property_rule property h a g e) = operand_starts k c kind.Super h refl
-  left_side_starts (call_rule called arguments m r a e) = left_side_starts r
+  left_side_starts (call_rule called arguments m r n a e) = left_side_starts r
   left_side_starts {c = c} (super_call_rule arguments h a e) = operand_starts k c kind.Super h refl
   left_side_starts {c = c} (import_call_rule arguments h a e) = operand_starts k c kind.Import h refl
   left_side_starts {c = c} (new_rule called arguments m h r a e) = operand_starts k c kind.New h refl
@@ -179,6 +199,7 @@ module _ (In : Goal → Type 0) (k : Code) where
   binary_starts {x = x} {c = c} {d = d} (single_rule r) = unary_rule_starts x c d r
   binary_starts (left_rule op left right m l g o r h s i j e) = binary_starts r
   binary_starts {c = c} (power_rule left right m l r g h s e) = unary_rule_starts left c m r
+  binary_starts {c = c} (private_in_rule name right m l g r h s e) = hash_starts k c r.hash
 
 -- an arrow's single name is a pattern
 module _ (In : Goal → Type 0) (patterns : (p : Purpose) (k : Code) (x : Tree) (c d : Place) → In (pattern_goal p k x c d) → Starts k c) (k : Code) where

@@ -32,6 +32,7 @@ use Rattle.swc_ecma_parser_reader.proofs.Meets.{saw}
 use Rattle.swc_ecma_parser_reader.proofs.expressions.CompleteParts.{AsExpr, IsRead, IsFunctionRead}
 use Rattle.swc_ecma_parser_reader.proofs.expressions.CompleteKinds.{seen, expr_no_const, name_no_const}
 use Rattle.swc_ecma_parser_reader.proofs.expressions.CompleteKinds as kinds
+use Rattle.swc_ecma_parser_reader.proofs.expressions.PartEnds as ends
 use Rattle.swc_ecma_parser_reader.proofs.expressions.Groups as groups
 use Rattle.swc_ecma_parser_reader.proofs.expressions.GroupLevels.{tied_at, begins_at}
 use Rattle.swc_ecma_parser_reader.proofs.expressions.Loops.{shorter_by}
@@ -118,7 +119,7 @@ module _ (n : ℕ) (below : Below n) (reads : (at : Position) (k : Code) (x : Tr
   by_rules at k x c d n' (labeled_rule v s y m r o i t e) w f h q =
       let b = name_begins k.flags v s c m r o in
       opened (stmt n) (expr n) (pattern n) (head_cover n) (parameters n) (member n) (operators n) at (st c k w f h) (kind_at c) (word_begins k.flags v s c m r o) (no_brace v s c m r) b (name_no_const k.flags v s c m r o)
-      (and_no at.include_decl _ (let_before_colon c (seen (after c) kind.Colon (ap kind_at (sym r.next) ∙ i)))) (name_no_function k.flags v s c m r o) (kinds.no_async_function c m r.next (colon_no_function m i)) (name_no_class k.flags v s c m r o)
+      (and_no at.include_decl _ (let_before_colon c (seen (after c) kind.Colon (ap kind_at (sym r.next) ∙ i)))) (name_no_function k.flags v s c m r o) (ends.no_async_function c m r.next (colon_no_function m i)) (name_no_class k.flags v s c m r o)
       (and_no at.include_decl _ (no_using_before k c (seen (after c) kind.Colon (ap kind_at (sym r.next) ∙ i))))
       ∙ rw (label_begins n below reads members k v s c m r o i) (labeled_reads n below reads members v s y m k x c d r o i t e w f h q)
   by_rules at k x c d n' (throw_rule y m e b r g i) w f h q = rw e (throw_reads n below y m k x c d b r g i w f h q)

@@ -6,11 +6,7 @@ use Rattle.swc_ecma_parser_common.specs.declared.span.Span.{Span}
 use Rattle.swc_ecma_parser_error.specs.Kind.{Fault}
 use Rattle.swc_ecma_parser_token.specs.declared.kind.TokenKind.{TokenKind}
 use Rattle.swc_ecma_parser_token.specs.declared.kind.TokenKind.TheVariants as kind
-use Rattle.swc_ecma_parser_token.specs.declared.keyword.Keyword.TheVariants as keyword
 use Rattle.swc_ecma_parser_token.specs.declared.token.Token.TheVariants as token
-use Rattle.swc_ecma_parser_token.specs.declared.token.Word.{Word}
-use Rattle.swc_ecma_parser_token.specs.declared.token.Word.TheVariants as word
-use Rattle.swc_ecma_parser_token.specs.Text.{word_text}
 use Rattle.swc_ecma_parser_input.specs.declared.context.Context.{Context}
 use Rattle.swc_ecma_parser_input.specs.Place.{Place, after}
 use Rattle.swc_ecma_parser_model.specs.declared.leaves.VarDeclKind.{VarDeclKind}
@@ -20,7 +16,7 @@ use Rattle.swc_ecma_parser_model.specs.Tree.{Tree, Text, listed, trees}
 use Rattle.swc_ecma_parser_model.specs.Forms.{is_binding_name}
 use Rattle.swc_ecma_parser_grammar.specs.Looks.{kind_at, breaks_at, sees, same_kind, spanned, span_at}
 use Rattle.swc_ecma_parser_grammar.specs.Names.{Code, identifier_at}
-use Rattle.swc_ecma_parser_grammar.specs.Follows.{word_at, token_is, may_begin_head, is_bare_async, is_async_of, is_async_function, is_let_declaration}
+use Rattle.swc_ecma_parser_grammar.specs.Follows.{word_at, may_begin_head, is_bare_async, is_async_of, is_async_function, is_let_declaration}
 use Rattle.swc_ecma_parser_grammar.specs.Variables.{begins_variables}
 use Rattle.swc_ecma_parser_grammar.specs.scaffold.Using.{may_declare_using, awaits_using, declares_behind, stands_in_head}
 use Rattle.swc_ecma_parser_grammar.specs.scaffold.Reads.{HeadVariables, SmallInitRule, no_init_rule, init_variables_rule, init_expression_rule, SmallLeftRule, declared_rule, left_target_rule, SmallOfLeftRule, of_left_rule, of_using_rule, of_await_rule, SmallDeclaratorRule}
@@ -68,21 +64,11 @@ AsLeftSide x o = (s : State) → as_left o s ≡ Ok (x, s)
 
 -- ---- the words of a head
 
--- a name with this text is that word
-async_token : (w : Word) → bytes_eq (word_text w) (codes "async") ≡ true → token_is (codes "async") (token.Word w) ≡ true
-async_token (word.Ident text) e = e
-async_token (word.Keyword keyword.Await) e = cc
-async_token _ e = cc
-
-async_word : (k : Code) (text : Text) (s : Span) (c d : Place) → ReadsName k text s c d → bytes_eq text (codes "async") ≡ true → word_at (codes "async") c ≡ true
-unfolding word_at
-async_word k text s c d r e = rw r.reads_word.is (async_token r.word (ap (λ t. bytes_eq t (codes "async")) (sym r.is_text) ∙ e))
-
--- so a target that is this name begins with it, and is one token
-async_target : (n : ℕ) (k : Code) (x : Tree) (c d : Place) → language.Reads n (pattern_goal assigning k x c d) → is_bare_async x ≡ true → (word_at (codes "async") c ≡ true) × (d ≡ after c)
+-- a target that is this name is one token
+async_target : (n : ℕ) (k : Code) (x : Tree) (c d : Place) → language.Reads n (pattern_goal assigning k x c d) → is_bare_async x ≡ true → d ≡ after c
 async_target zero k x c d r h = absurd r
 async_target (suc n) k x c d (binding_name_rule text s i r e) h = cc
-async_target (suc n) k x c d (target_name_rule text s i a r e) h = (async_word k text s c d r (sym (ap is_bare_async e) ∙ h), r.reads_word.next)
+async_target (suc n) k x c d (target_name_rule text s i a r e) h = r.reads_word.next
 async_target (suc n) k x c d (target_rule y i r t u e) h = absurd (true≢false (sym h ∙ ap is_bare_async e))
 async_target (suc n) k x c d (array_rule xs m i r f g e) h = absurd (true≢false (sym h ∙ ap is_bare_async e))
 async_target (suc n) k x c d (object_rule xs m i r f g e) h = absurd (true≢false (sym h ∙ ap is_bare_async e))
@@ -105,10 +91,14 @@ both true false h = absurd (h refl refl)
 both false b h = refl
 
 elsewhere : (n : ℕ) (w : Bool) (k : Code) (x : Tree) (c d : Place) → language.Reads n (pattern_goal assigning k x c d) → word_at (codes "of") d ≡ true → sees kind.Arrow (after d) ≡ false
-    → is_async_of w x d ≡ false → (w && begins_async_of c) ≡ false → is_async_of false x d ≡ false
+    → is_async_of (w && word_at (codes "async") c) x d ≡ false → (w && begins_async_of c) ≡ false → is_async_of false x d ≡ false
 unfolding is_async_of
-elsewhere n true k x c d r o a i g = both (is_bare_async x) (breaks_at d) (λ h j. let (e, l) = async_target n k x c d r h in true≢false (sym (async_begins c d e l o j a) ∙ g))
 elsewhere n false k x c d r o a i g = i
+elsewhere n true k x c d r o a i g = by_word (word_at (codes "async") c) refl i
+  where
+    by_word : (b : Bool) → word_at (codes "async") c ≡ b → is_async_of b x d ≡ false → is_async_of false x d ≡ false
+    by_word true e j = both (is_bare_async x) (breaks_at d) (λ h l. true≢false (sym (async_begins c d e (async_target n k x c d r h) o l a) ∙ g))
+    by_word false e j = j
 
 no_in : (c : Place) → word_at (codes "of") c ≡ true → sees kind.In c ≡ false
 unfolding same_kind
@@ -159,11 +149,11 @@ async_no_await c h = rw (word_place (codes "async") c (async_of_words c h).0) re
 
 no_await_head : (c : Place) → sees kind.Await c ≡ false → begins_await_head c ≡ false
 unfolding begins_await_head
-no_await_head c h = ap (λ b. b && not (breaks_at (after c))) h
+no_await_head c h = ap (λ b. b && (not (breaks_at (after c)) && word_at (codes "using") (after c))) h
 
-await_heads : (c : Place) → sees kind.Await c ≡ true → breaks_at (after c) ≡ false → begins_await_head c ≡ true
+await_heads : (c : Place) → sees kind.Await c ≡ true → breaks_at (after c) ≡ false → word_at (codes "using") (after c) ≡ true → begins_await_head c ≡ true
 unfolding begins_await_head
-await_heads c h b = and_both (sees kind.Await c) _ h (ap not b)
+await_heads c h b u = and_both (sees kind.Await c) _ h (and_both (not (breaks_at (after c))) _ (ap not b) u)
 
 -- nor does a word that declares; and where `await` stands a head begins
 no_word : (j : TokenKind) → j ≡ kind.Await → j ≡ kind.Ident → ⊥
@@ -405,14 +395,15 @@ module _ (n : ℕ) (below : Below n) where
 
   named_with : (v : Bool) (k : Code) (y : Tree) (s : Span) (text : Text) (x : Tree) (c m d : Place) (w : Scope) (f : List Fault) (h : Notes)
       → Gets (AsExpr y) (head_cover n (st c (without_in k) w f h)) (st m (without_in k) w (f ++ walk (env_of (without_in k) w.labels) y) (h ⊕ notes_of y))
-      → kind_at c ≡ kind.Await → breaks_at (after c) ≡ false → awaits_using y ≡ true → declares_behind k m ≡ true → ReadsPat n k (tree.ident_pat s text) m d
+      → kind_at c ≡ kind.Await → breaks_at (after c) ≡ false → word_at (codes "using") (after c) ≡ true → awaits_using y ≡ true → declares_behind k m ≡ true
+      → ReadsPat n k (tree.ident_pat s text) m d
       → x ≡ tree.using (spanned c d) true (listed (tree.declarator (spanned m d) (tree.ident_pat s text) tree.absent ∷ [])) → word_at (codes "of") d ≡ true
       → Gets (AsLeftSide x) (opening (expr n) (pattern n) (head_cover n) v (st c k w f h)) (st d k w (f ++ walk (env_of k w.labels) x) (h ⊕ notes_of x))
-  named_with v k y s text x c m d w f h g t l a b q e o =
+  named_with v k y s text x c m d w f h g t l p a b q e o =
       record {
         value = Resource x;
         holds = λ s. refl;
-        is = opening_awaits (expr n) (pattern n) (head_cover n) v (st c k w f h) (await_begins_head c t) (await_no_using k c t) (await_heads c (seen c kind.Await t) l)
+        is = opening_awaits (expr n) (pattern n) (head_cover n) v (st c k w f h) (await_begins_head c t) (await_no_using k c t) (await_heads c (seen c kind.Await t) l p)
             ∙ await_step v k c m w f (walk (env_of (without_in k) w.labels) y) h (notes_of y) g.value g.is (awaited_walk y (without_in k) w.labels a) (awaited_notes y a) (ap awaits_using g.holds.0 ∙ a) b
             ∙ resource_declared true k s text c m d w f h q o
             ∙ ap (λ z. Ok (Resource (tree.using (spanned c d) true (listed (tree.declarator (spanned m d) (tree.ident_pat s text) tree.absent ∷ []))), z)) (sym (nothing_added d k w f [] h no_notes refl refl))
@@ -420,20 +411,20 @@ module _ (n : ℕ) (below : Below n) where
       }
 
   named_reads : (v : Bool) (k : Code) (y : Tree) (s : Span) (text : Text) (x : Tree) (c m d : Place) → k.setting.explicit_resource_management ≡ true → ReadsClass n expression (without_in k) y c m
-      → awaits_using y ≡ true → breaks_at (after c) ≡ false → word_at (codes "of") m ≡ false → ReadsPat n k (tree.ident_pat s text) m d
+      → awaits_using y ≡ true → breaks_at (after c) ≡ false → word_at (codes "using") (after c) ≡ true → word_at (codes "of") m ≡ false → ReadsPat n k (tree.ident_pat s text) m d
       → x ≡ tree.using (spanned c d) true (listed (tree.declarator (spanned m d) (tree.ident_pat s text) tree.absent ∷ [])) → word_at (codes "of") d ≡ true
       → ReadsAs (AsLeftSide x) (opening (expr n) (pattern n) (head_cover n) v) k x c d
-  named_reads v k y s text x c m d u r a j b q e o w f h =
+  named_reads v k y s text x c m d u r a j p b q e o w f h =
       let t = awaited_words n (without_in k) y c m r.0 a in
       let l = (names_stand n k (tree.ident_pat s text) m d q.0 refl q.1).1 in
-      named_with v k y s text x c m d w f h (head_awaited (without_in k) y c m r a w f h) t.stands j a
+      named_with v k y s text x c m d w f h (head_awaited (without_in k) y c m r a w f h) t.stands j p a
       (declares_so k m u (bound_stands n k (tree.ident_pat s text) m d refl q.0) b (in_head (after m) (ap (word_at (codes "of")) (sym l) ∙ o))) q e o
 
   awaited_reads : (v : Bool) (k : Code) (y name x : Tree) (c m d : Place) → k.setting.explicit_resource_management ≡ true → ReadsClass n expression (without_in k) y c m → awaits_using y ≡ true
-      → breaks_at (after c) ≡ false → word_at (codes "of") m ≡ false → ReadsPat n k name m d → is_binding_name name ≡ true → x ≡ tree.using (spanned c d) true (listed (tree.declarator (spanned m d) name tree.absent ∷ []))
+      → breaks_at (after c) ≡ false → word_at (codes "using") (after c) ≡ true → word_at (codes "of") m ≡ false → ReadsPat n k name m d → is_binding_name name ≡ true → x ≡ tree.using (spanned c d) true (listed (tree.declarator (spanned m d) name tree.absent ∷ []))
       → word_at (codes "of") d ≡ true → ReadsAs (AsLeftSide x) (opening (expr n) (pattern n) (head_cover n) v) k x c d
-  awaited_reads v k y name x c m d u r a j b q i e o = let z = name_shape name i in
-      named_reads v k y z.span z.text x c m d u r a j b (subst (λ p. ReadsPat n k p m d) z.is q)
+  awaited_reads v k y name x c m d u r a j p b q i e o = let z = name_shape name i in
+      named_reads v k y z.span z.text x c m d u r a j p b (subst (λ p. ReadsPat n k p m d) z.is q)
       (e ∙ ap (λ p. tree.using (spanned c d) true (listed (tree.declarator (spanned m d) p tree.absent ∷ []))) z.is) o
 
   -- behind it `of` stands, and no `=>` behind that
@@ -449,4 +440,4 @@ module _ (n : ℕ) (below : Below n) where
       by_test true e = let g = and_yes v (begins_async_of c) e in async_reads v k x c d b r u g.0 g.1 w f h
       by_test false e = target_reads v k x c d b r u e (undeclared_of k d o) (inr (o, elsewhere n v (without_in k) x c d r.0 o a i e)) w f h
   opening_reads_of v k x c d (of_using_rule name u r i e) o a w f h = resource_reads v k name x c d u r i e o w f h
-  opening_reads_of v k x c d (of_await_rule y name m u r a j b q i e) o z w f h = awaited_reads v k y name x c m d u r a j b q i e o w f h
+  opening_reads_of v k x c d (of_await_rule y name m u r a j p b q i e) o z w f h = awaited_reads v k y name x c m d u r a j p b q i e o w f h

@@ -14,10 +14,10 @@ use Rattle.swc_ecma_parser_input.specs.Place.{after}
 use Rattle.swc_ecma_parser_model.specs.Tree.{Tree}
 use Rattle.swc_ecma_parser_grammar.specs.Looks.{kind_at, sees, span_at}
 use Rattle.swc_ecma_parser_grammar.specs.language.Goals.{Class, expression, assignment}
-use Rattle.swc_ecma_parser_reader.proofs.Takes.{Falls, falls_then, falls_last, falls_coded, falls_if, less, falls_next, moves, falls_past, falls_moved, fault_falls, end_falls, loop_falls}
+use Rattle.swc_ecma_parser_reader.proofs.Takes.{Falls, falls_then, falls_last, falls_coded, falls_if, less, falls_next, moves, falls_past, falls_moved, fault_falls, end_falls, loop_falls, reject_falls}
 use Rattle.swc_ecma_parser_reader.proofs.Recovered.{declaration_end_falls}
 use Rattle.swc_ecma_parser_reader.proofs.Behind.{Passes}
-use Rattle.swc_ecma_parser_reader.proofs.expressions.Falls.{reject_falls, told_falls}
+use Rattle.swc_ecma_parser_reader.proofs.expressions.Falls.{told_falls}
 
 -- without initializer an error token is taken at most
 missing_falls : (word : VarDeclKind) (span : Span) (p : Tree) (s : State) → Falls 0 (length s.at.left) (missing_initializer word span p s)

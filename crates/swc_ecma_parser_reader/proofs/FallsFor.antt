@@ -17,7 +17,7 @@ use Rattle.swc_ecma_parser_grammar.specs.Looks.{kind_at, sees, span_at}
 use Rattle.swc_ecma_parser_grammar.specs.Follows.{word_at, is_let_declaration}
 use Rattle.swc_ecma_parser_grammar.specs.language.Goals.{Class, expression, assignment}
 use Rattle.swc_ecma_parser_reader.specs.Expressions.{Cover}
-use Rattle.swc_ecma_parser_reader.proofs.Takes.{Falls, falls_then, falls_last, falls_coded, falls_if, less, moves, falls_past, falls_moved, wanted_falls, expect_falls}
+use Rattle.swc_ecma_parser_reader.proofs.Takes.{Falls, falls_then, falls_last, falls_coded, falls_if, less, moves, falls_past, falls_moved, wanted_falls, expect_falls, reject_falls}
 use Rattle.swc_ecma_parser_reader.proofs.expressions.Falls as exprs
 use Rattle.swc_ecma_parser_reader.proofs.expressions.Falls.{told_falls}
 use Rattle.swc_ecma_parser_grammar.specs.scaffold.Using.{may_declare_using, awaits_using, declares_behind, stands_in_head}
@@ -49,7 +49,7 @@ await_here_falls s = falls_if 0 (length s.at.left) (sees kind.Await s.at) _ _ (l
 
 unless_awaited_falls : (word : Option Span) (p : Reader Tree) (s : State) → Falls 0 (length s.at.left) (p s) → Falls 0 (length s.at.left) (unless_awaited word p s)
 unless_awaited_falls None p s h = h
-unless_awaited_falls (Some w) p s h = falls_then 0 0 (length s.at.left) (p s) _ h (λ _ t. exprs.reject_falls Tree 0 (length t.at.left) _ t)
+unless_awaited_falls (Some w) p s h = falls_then 0 0 (length s.at.left) (p s) _ h (λ _ t. reject_falls Tree 0 (length t.at.left) _ t)
 
 misdeclared_falls : (refused : Bool) (left : Tree) (s : State) → Falls 0 (length s.at.left) (misdeclared refused left s)
 unfolding misdeclared

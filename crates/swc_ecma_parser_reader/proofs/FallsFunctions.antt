@@ -18,8 +18,8 @@ use Rattle.swc_ecma_parser_grammar.specs.Looks.{kind_at, span_at}
 use Rattle.swc_ecma_parser_grammar.specs.Follows.{is_async_function}
 use Rattle.swc_ecma_parser_reader.specs.Methods.{MethodForm, getter_form, setter_form, method_form, property_form, star}
 use Rattle.swc_ecma_parser_grammar.specs.Names.{name_at}
-use Rattle.swc_ecma_parser_reader.proofs.Takes.{Falls, falls_then, falls_last, falls_coded, falls_found, falls_if, less, falls_next, moves, takes, name_falls}
-use Rattle.swc_ecma_parser_reader.proofs.expressions.Falls.{reject_falls, falls_when, star_falls, told_falls}
+use Rattle.swc_ecma_parser_reader.proofs.Takes.{Falls, falls_then, falls_last, falls_coded, falls_found, falls_if, less, falls_next, moves, takes, name_falls, reject_falls}
+use Rattle.swc_ecma_parser_reader.proofs.expressions.Falls.{falls_when, star_falls, told_falls}
 use Rattle.swc_ecma_parser_reader.proofs.FallsBlocks.{braced_falls, braced_takes}
 
 -- what a function begins with is taken

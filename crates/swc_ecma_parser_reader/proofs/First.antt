@@ -24,7 +24,7 @@ use Rattle.swc_ecma_parser_reader.proofs.Behind.{Passes, NothingLost, Lost, flag
 use Rattle.swc_ecma_parser_reader.proofs.Shallow as shallow
 use Rattle.swc_ecma_parser_reader.proofs.Shallow.{Fine, Shallow, fine_after, end_shallow}
 use Rattle.swc_ecma_parser_reader.proofs.expressions.Falls.{told_falls}
-use Rattle.swc_ecma_parser_reader.proofs.expressions.Keeps.{told_keeps}
+use Rattle.swc_ecma_parser_reader.proofs.expressions.KeepSteps.{told_keeps}
 use Rattle.swc_ecma_parser_reader.proofs.expressions.LimitSteps.{told_shallow}
 
 module _ (found : Reader (List Tree)) (v : Bool) (rest : Position → Reader Tree) (at : Position) where

@@ -1,6 +1,6 @@
 -- Declarations lose nothing: `var`, `let`, `const` and `using`, and each of their declarators.
 use Rattle.swc_ecma_parser_reader.proofs.Errors.{is_error}
-use Rattle.swc_ecma_parser_reader.proofs.expressions.Keeps.{told_keeps}
+use Rattle.swc_ecma_parser_reader.proofs.expressions.KeepSteps.{told_keeps}
 use Rattle.swc_ecma_parser_grammar.proofs.Using.{using_stands}
 use Rattle.swc_ecma_parser_reader.specs.Reader.{missing_initializer, variables, const_stmt, let_stmt, initialized, ends_declarators, missing_at, no_declarator, declarator, declarators_turn, declarators, declaration_end, misusing, using_from, using_stmt}
 use Rattle.swc_ecma_parser_grammar.specs.language.Declarations.{is_using_declaration}

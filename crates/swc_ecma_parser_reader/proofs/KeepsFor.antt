@@ -3,7 +3,7 @@ use Rattle.swc_ecma_parser_reader.specs.Words.{begins_async_of}
 use Rattle.swc_ecma_parser_reader.proofs.KeepsParts.{as_init_keeps, as_left_keeps, await_here_keeps, unless_awaited_keeps, misdeclared_keeps}
 use Rattle.swc_ecma_parser_reader.proofs.Errors.{is_error}
 use Rattle.swc_ecma_parser_reader.proofs.SoundParts.{variables_stand}
-use Rattle.swc_ecma_parser_reader.proofs.expressions.Keeps.{told_keeps}
+use Rattle.swc_ecma_parser_reader.proofs.expressions.KeepSteps.{told_keeps}
 use Rattle.swc_ecma_parser_grammar.proofs.StatementBegins.{word_place}
 use Rattle.swc_ecma_parser_reader.specs.Reader.{await_here, Opening, as_init, as_left, head_variables, head_expression, opening, head_part, misdeclared, for_parts, for_in, for_of, for_behind, for_stmt, declarators, undeclared, using_head, named_head, await_or_expression, await_head, async_head, async_or_expression, head_target, begins_await_head}
 use Rattle.swc_ecma_parser_reader.specs.State.{State, moved, coded, within, name, expect}

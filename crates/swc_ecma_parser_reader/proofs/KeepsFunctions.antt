@@ -3,7 +3,8 @@ use Rattle.swc_ecma_parser_grammar.specs.Parameters.{parameters}
 use Rattle.swc_ecma_parser_reader.proofs.Errors.{is_error}
 use Rattle.swc_ecma_parser_reader.proofs.Words.{begins_function, async_kind, async_parts, function_begins, function_kind}
 use Rattle.swc_ecma_parser_reader.proofs.expressions.Stands.{Begins}
-use Rattle.swc_ecma_parser_reader.proofs.expressions.Keeps.{star_keeps, told_keeps}
+use Rattle.swc_ecma_parser_reader.proofs.expressions.Keeps.{star_keeps}
+use Rattle.swc_ecma_parser_reader.proofs.expressions.KeepSteps.{told_keeps}
 use Rattle.swc_ecma_parser_reader.specs.Methods.{FunctionForm, expression_form, class_form, property_form, getter_form, setter_form, method_form, parameter_form, block_form, star}
 use Rattle.swc_ecma_parser_reader.specs.Reader.{no_parameter, one_parameter, getter, setter, plain_method, arrow_block, function_by, named, own_name, function_expr, function_word, function_decl, function_stmt, function_parts, function_body, misdirected, braced, told}
 use Rattle.swc_ecma_parser_grammar.specs.Names.{name_at}

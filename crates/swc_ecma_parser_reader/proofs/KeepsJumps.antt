@@ -1,6 +1,6 @@
 -- `throw`, `break`, `continue` and `return` lose nothing.
 use Rattle.swc_ecma_parser_reader.proofs.KeepsParts.{after_return_keeps, target_keeps}
-use Rattle.swc_ecma_parser_reader.proofs.expressions.Keeps.{told_keeps}
+use Rattle.swc_ecma_parser_reader.proofs.expressions.KeepSteps.{told_keeps}
 use Rattle.swc_ecma_parser_reader.specs.Reader.{target, unbroken, break_stmt, uncontinued, continue_stmt, operand, returned, return_stmt, thrown, throw, may_return}
 use Rattle.swc_ecma_parser_reader.specs.State.{State, moved, coded, within, end}
 use Rattle.swc_ecma_parser_grammar.specs.language.Contexts.{with_in}

@@ -1,5 +1,5 @@
 -- A labelled statement loses nothing, and neither does a statement that no word begins.
-use Rattle.swc_ecma_parser_reader.proofs.expressions.Keeps.{told_keeps}
+use Rattle.swc_ecma_parser_reader.proofs.expressions.KeepSteps.{told_keeps}
 use Rattle.swc_ecma_parser_reader.specs.Reader.{begins_label, relabels, labelled_body, labeled_stmt, other_stmt}
 use Rattle.swc_ecma_parser_model.specs.Tree.{Text}
 use Rattle.swc_ecma_parser_reader.specs.State.{below, below_label, reference, State, coded, expect}

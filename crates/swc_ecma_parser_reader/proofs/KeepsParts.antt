@@ -1,6 +1,6 @@
 -- What statements are made of loses nothing: what is noted and told of them, and the head of a loop.
 use Rattle.swc_ecma_parser_reader.proofs.Errors.{is_error}
-use Rattle.swc_ecma_parser_reader.proofs.expressions.Keeps.{told_keeps, told_stays, told_says}
+use Rattle.swc_ecma_parser_reader.proofs.expressions.KeepSteps.{told_keeps, told_stays, told_says}
 use Rattle.swc_ecma_parser_grammar.proofs.Tests.{or_no}
 use Rattle.swc_ecma_parser_reader.specs.Reader.{note_with, await_here, unless_awaited, Opening, Nothing, Variables, Expression, as_init, as_left, misdeclared, optional_end, target, misplaced, after_return, Resource, Named, unfollowed}
 use Rattle.swc_ecma_parser_model.specs.Tree.{Tree}

@@ -1,5 +1,5 @@
 -- `switch` loses nothing, and neither does any of its clauses.
-use Rattle.swc_ecma_parser_reader.proofs.expressions.Keeps.{other_test}
+use Rattle.swc_ecma_parser_reader.proofs.expressions.KeepSteps.{other_test}
 use Rattle.swc_ecma_parser_reader.specs.Reader.{items, head, begins_clause, closes_clause, clause_from, default_clause, case_clause, clause, clauses_turn, clauses, switch_stmt}
 use Rattle.swc_ecma_parser_model.specs.Tree.{Tree}
 use Rattle.swc_ecma_parser_reader.specs.State.{State, moved, coded, within, expect}

@@ -42,6 +42,7 @@ use Rattle.swc_ecma_parser_reader.proofs.expressions.CompleteLefts.{closed_reads
 use Rattle.swc_ecma_parser_reader.proofs.expressions.Falls as exprs
 use Rattle.swc_ecma_parser_reader.proofs.expressions.Keeps.{object_keeps}
 use Rattle.swc_ecma_parser_reader.proofs.expressions.Keeps as keeps
+use Rattle.swc_ecma_parser_reader.proofs.expressions.KeepSteps as keep_steps
 use Rattle.swc_ecma_parser_reader.proofs.expressions.LimitSteps.{close_shallow}
 use Rattle.swc_ecma_parser_reader.proofs.expressions.Limits.{object_shallow}
 use Rattle.swc_ecma_parser_reader.proofs.expressions.Loops.{deeper}
@@ -124,6 +125,8 @@ object_found n k x c d (sides.false_rule s r e) h = no_object x _ e refl h
 object_found n k x c d (sides.null_rule s r e) h = no_object x _ e refl h
 object_found n k x c d (sides.number_rule raw s r e) h = no_object x _ e refl h
 object_found n k x c d (sides.big_int_rule raw s r e) h = no_object x _ e refl h
+object_found n k x c d (sides.regex_rule exp flags s r e) h = no_object x _ e refl h
+object_found n k x c d (sides.template_rule es qs r e) h = no_object x _ e refl h
 object_found n k x c d (sides.this_rule i m e) h = no_object x _ e refl h
 object_found n k x c d (sides.array_rule xs m i r j l e) h = no_object x _ e refl h
 object_found n k x c d (sides.function_rule name y r e) h = no_object x _ e refl h
@@ -154,7 +157,7 @@ unfolding object_alone object_level
 object_alone_keeps zero b s f = too_deep_keeps _ b s f
 object_alone_keeps (suc n) b s f = answers_if _ _ (sees kind.LBrace s.at) _ _
     (λ e. answers_then _ _ (object (expr n) (cover n) (function n) s) _
-    (object_keeps (expr n) (cover n) (expr_keeps n) (cover_keeps n) b (function n) (functions_keep n) s (saw s.at kind.LBrace e) f) (λ v t g. keeps.close_keeps b t g v))
+    (object_keeps (expr n) (cover n) (expr_keeps n) (cover_keeps n) b (function n) (functions_keep n) s (saw s.at kind.LBrace e) f) (λ v t g. keep_steps.close_keeps b t g v))
     (λ _. refuse_keeps _ faults.Expected b s f)
 
 pub object_alone_shallow : {T : Fault → Type 0} (n : ℕ) → Levels T n (object_alone n)

@@ -88,7 +88,7 @@ module _ {T : Fault → Type 0} where
   fine_taken m c k e h f = fine_taken_in m c c.left refl (λ g. h (sym e ∙ g)) f
 
   -- the same of a list that is known
-  fine_one : (m : ℕ) (c : Place) (t : TokenAndSpan) (ts : List TokenAndSpan) → c.left ≡ t ∷ ts → Fine T m c.left → (i : ℕ) × (m ≡ suc i) × Fine T i (after c).left
+  pub fine_one : (m : ℕ) (c : Place) (t : TokenAndSpan) (ts : List TokenAndSpan) → c.left ≡ t ∷ ts → Fine T m c.left → (i : ℕ) × (m ≡ suc i) × Fine T i (after c).left
   unfolding after
   fine_one m c t ts e f = subst (λ l. (i : ℕ) × (m ≡ suc i) × Fine T i (past c l).left) (sym e) (fine_front m c t ts e f)
 

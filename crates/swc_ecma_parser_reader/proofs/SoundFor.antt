@@ -46,7 +46,7 @@ use Rattle.swc_ecma_parser_reader.proofs.Words.{word_named}
 use Rattle.swc_ecma_parser_grammar.proofs.StatementBegins.{word_place}
 use Rattle.swc_ecma_parser_grammar.proofs.UsingParts.{declares_in_head}
 use Rattle.swc_ecma_parser_grammar.proofs.AwaitHeads.{behind_declares}
-use Rattle.swc_ecma_parser_grammar.proofs.Tests.{and_yes}
+use Rattle.swc_ecma_parser_grammar.proofs.Tests.{and_yes, and_both}
 use Rattle.swc_ecma_parser_reader.proofs.expressions.Covers.{meets_each, close_is, target_is}
 use Rattle.swc_ecma_parser_reader.proofs.expressions.SoundSteps.{paired, stepped, meets_as, Takes, expect_sound, reject_meets}
 use Rattle.swc_ecma_parser_reader.proofs.Notes.{notes_nil}
@@ -198,7 +198,7 @@ module _ (Stmt : Code → Position → Tree → Place → Place → Type 0) (Exp
   Opens w Nothing k c d = (kind_at c ≡ kind.Semi) × (d ≡ c)
   Opens w (Variables x) k c d = HeadVariables Expr Pat k x c d
   Opens w (Resource x) k c d = SmallOfLeftRule Expr Pat Target k w x c d × (sees kind.In d ≡ false)
-  Opens w (Named p) k c d = SmallLeftRule Expr Pat Target k p c d × (word_at (codes "of") d ≡ true → is_async_of w p d ≡ false)
+  Opens w (Named p) k c d = SmallLeftRule Expr Pat Target k p c d × (word_at (codes "of") d ≡ true → is_async_of (w && word_at (codes "async") c) p d ≡ false)
   Opens w (Expression v) k c d = (may_begin_head c ≡ true) × CoverAs Expr Target v (without_in k) c d
 
   abbrev SoundOpening : (is_await : Bool) → State → Opening → State → Type 0
@@ -223,7 +223,8 @@ module _ (Stmt : Code → Position → Tree → Place → Place → Type 0) (Exp
       → Meets (λ p m. (is_binding_name p ≡ true) × (m.at ≡ after s.at) × SoundTree Pat s p m) (inner_pat s)
   word_sound s h e = meets_as (inner_pat s) (meets_both _ _ (inner_pat s) (sound_pat s) (sound_head.names s h)) (λ p m (r, (v, b)). (b, v e, r))
 
-  named_sound : (w : Bool) (s m : State) (p : Tree) → kind_at s.at ≡ kind.Ident → is_binding_name p ≡ true → (word_at (codes "of") m.at ≡ true → is_async_of w p m.at ≡ false) → SoundTree Pat s p m
+  named_sound : (w : Bool) (s m : State) (p : Tree) → kind_at s.at ≡ kind.Ident → is_binding_name p ≡ true → (word_at (codes "of") m.at ≡ true → is_async_of (w && word_at (codes "async") s.at) p m.at ≡ false)
+      → SoundTree Pat s p m
       → SoundOpening w s (Named p) m
   named_sound w s m p e b o r = sound_as s m refl refl refl (λ q. (left_target_rule (word_begins_head s.at e) (sound_head.targets s.code p s.at m.at e b q), o)) r
 
@@ -254,10 +255,10 @@ module _ (Stmt : Code → Position → Tree → Place → Place → Type 0) (Exp
       meets_if _ (stands_in_head (after m.at)) _ _ (λ j. using_head_sound w s m p h b i r j)
       (λ _. named_sound w s m p (word_place (codes "using") s.at g.1) b (λ o. absurd (true≢false (sym o ∙ ap (word_at (codes "of")) i ∙ g.3))) r))
 
-  await_using_sound : (w : Bool) (s m : State) (v : Cover) → awaits_using v.x ≡ true → breaks_at (after s.at) ≡ false → declares_behind m.code m.at ≡ true
-      → Sound same (λ k l. walk (env_of (without_in k) l) v.x) (notes_of v.x) (λ k. CoverAs Expr Target v (without_in k)) s m → Meets (SoundOpening w s) (using_head inner_expr inner_pat true (span_at s.at) m)
+  await_using_sound : (w : Bool) (s m : State) (v : Cover) → awaits_using v.x ≡ true → breaks_at (after s.at) ≡ false → word_at (codes "using") (after s.at) ≡ true
+      → declares_behind m.code m.at ≡ true → Sound same (λ k l. walk (env_of (without_in k) l) v.x) (notes_of v.x) (λ k. CoverAs Expr Target v (without_in k)) s m → Meets (SoundOpening w s) (using_head inner_expr inner_pat true (span_at s.at) m)
   unfolding using_head undeclared spanned
-  await_using_sound w s m v h b j r =
+  await_using_sound w s m v h b o j r =
       let f = behind_declares m.code m.at j in
       meets_then _ (inner_pat m) _ (word_sound m f.named (head_stands (after m.at) f.headed)) (λ name t (z, _, q).
       let span : Span = record { lo = (span_at s.at).lo; hi = t.at.last.hi } in
@@ -269,26 +270,26 @@ module _ (Stmt : Code → Position → Tree → Place → Place → Type 0) (Exp
       (λ (d1, (d0, (x0, e0), (w0, y0)), (fe, de)).
       let l : u.at ≡ t.at = de ∙ y0 in (
         of_await_rule v.x name m.at (ap (λ k. k.setting.explicit_resource_management) (sym r.code) ∙ f.is_set)
-            (subst (λ d. Expr expression (without_in s.code) v.x s.at d) e0 (x0.plain (x0.unmarked (awaited_unmarked v.x h)))) h b f.no_of
+            (subst (λ d. Expr expression (without_in s.code) v.x s.at d) e0 (x0.plain (x0.unmarked (awaited_unmarked v.x h)))) h b o f.no_of
             (subst (λ c. Pat s.code name c u.at) e0 (subst (λ d. Pat s.code name d0 d) (sym de) w0)) z
             (ap (λ d. tree.using (spanned s.at d) true (listed (tree.declarator (spanned m.at d) name tree.absent ∷ []))) (sym l)),
         ap (sees kind.In) l ∙ unsaid (sees kind.In t.at) _ _ fe,
       ))
       (sound_more (sound_then a y) p)))
 
-  on_line : (c : Place) → begins_await_head c ≡ true → breaks_at (after c) ≡ false
+  on_line : (c : Place) → begins_await_head c ≡ true → (breaks_at (after c) ≡ false) × (word_at (codes "using") (after c) ≡ true)
   unfolding begins_await_head
-  on_line c h = unbroken (breaks_at (after c)) (and_yes (sees kind.Await c) _ h).1
+  on_line c h = let g = and_yes (not (breaks_at (after c))) _ (and_yes (sees kind.Await c) _ h).1 in (unbroken (breaks_at (after c)) g.0, g.1)
     where
       unbroken : (b : Bool) → not b ≡ true → b ≡ false
       unbroken true e = cc
       unbroken false e = refl
 
-  await_head_sound : (w : Bool) (s : State) → may_begin_head s.at ≡ true → breaks_at (after s.at) ≡ false → Meets (SoundOpening w s) (await_head inner_expr inner_pat inner_head s)
+  await_head_sound : (w : Bool) (s : State) → may_begin_head s.at ≡ true → (breaks_at (after s.at) ≡ false) × (word_at (codes "using") (after s.at) ≡ true) → Meets (SoundOpening w s) (await_head inner_expr inner_pat inner_head s)
   unfolding await_head await_or_expression
   await_head_sound w s h b = meets_then _ (within without_in inner_head s) _
       (within_sound (λ v k l. walk (env_of k l) v.x) (λ v. notes_of v.x) (λ v k. CoverAs Expr Target v k) without_in (λ k. refl) inner_head s (sound_head.covers (coded (without_in s.code) s))) (λ v t p.
-      meets_if _ (awaits_using v.x && declares_behind t.code t.at) _ _ (λ i. let g = and_yes (awaits_using v.x) _ i in await_using_sound w s t v g.0 b g.1 p) (λ _. sound_as s t refl refl refl (λ r. (h, r)) p))
+      meets_if _ (awaits_using v.x && declares_behind t.code t.at) _ _ (λ i. let g = and_yes (awaits_using v.x) _ i in await_using_sound w s t v g.0 b.0 b.1 g.1 p) (λ _. sound_as s t refl refl refl (λ r. (h, r)) p))
 
   async_head_sound : (w : Bool) (s : State) → w ≡ true → begins_async_of s.at ≡ true → Meets (SoundOpening w s) (async_head inner_expr inner_pat s)
   unfolding async_head
@@ -299,7 +300,7 @@ module _ (Stmt : Code → Position → Tree → Place → Place → Type 0) (Exp
       (meets_both _ _ (within without_in inner_pat s)
       (within_sound (λ x k l. walk (env_of k l) x) notes_of (λ x k. Pat k x) without_in (λ k. refl) inner_pat s (sound_pat c))
       (meets_then _ (inner_pat c) _ (sound_head.names c (word_named c.code.flags s.at g.0)) (λ p m (_, b). b))) (λ p m (r, b).
-      sound_as s m refl refl refl (λ q. (left_target_rule (word_begins_head s.at (word_place (codes "async") s.at g.0)) (sound_head.targets (without_in s.code) p s.at m.at (word_place (codes "async") s.at g.0) b q), λ _. awaited_of w p m.at a)) r)
+      sound_as s m refl refl refl (λ q. (left_target_rule (word_begins_head s.at (word_place (codes "async") s.at g.0)) (sound_head.targets (without_in s.code) p s.at m.at (word_place (codes "async") s.at g.0) b q), λ _. awaited_of (w && word_at (codes "async") s.at) p m.at (and_both w _ a g.0))) r)
 
   head_target_sound : (w : Bool) (s : State) → may_begin_head s.at ≡ true → Meets (SoundOpening w s) (head_target inner_expr inner_pat inner_head w s)
   unfolding head_target async_or_expression
@@ -335,7 +336,7 @@ module _ (Stmt : Code → Position → Tree → Place → Place → Type 0) (Exp
   unfolding Left SoundLeft
   left_sound w s m v p c e q = let alike = pattern_alike false v.x p e in (
     sound_as s m refl (sym (alike.walked (env_of s.code s.scope.labels))) (sym alike.noted)
-        (λ (h, r). let z = r.target c p e in let l = left_target_rule h z.0 in (λ _. l, λ o. of_left_rule l (of_async w p m.at (z.1 o)))) q,
+        (λ (h, r). let z = r.target c p e in let l = left_target_rule h z.0 in (λ _. l, λ o. of_left_rule l (of_async (w && word_at (codes "async") s.at) p m.at (z.1 o)))) q,
     refl,
   )
 
@@ -343,7 +344,7 @@ module _ (Stmt : Code → Position → Tree → Place → Place → Type 0) (Exp
   unfolding Left SoundLeft
   as_left_sound w s m Nothing q = wanted_meets _ faults.Unexpected m
   as_left_sound w s m (Variables x) q =
-      (sound_as s m refl refl refl (λ r. let l = declared_rule r in (λ _. l, λ _. of_left_rule l (of_async w x m.at (declared_is_no_async Expr Pat s.code x s.at m.at r)))) q, refl)
+      (sound_as s m refl refl refl (λ r. let l = declared_rule r in (λ _. l, λ _. of_left_rule l (of_async (w && word_at (codes "async") s.at) x m.at (declared_is_no_async Expr Pat s.code x s.at m.at r)))) q, refl)
   as_left_sound w s m (Resource x) q = (sound_as s m refl refl refl (λ (r, i). (λ j. absurd (true≢false (sym j ∙ i)), λ _. r)) q, refl)
   as_left_sound w s m (Named p) q = (sound_as s m refl refl refl (λ (l, i). (λ _. l, λ o. of_left_rule l (i o))) q, refl)
   as_left_sound w s m (Expression v) q = meets_each (SoundLeft w s m) (exprs.target v m) (λ p t e. let (c, i, h) = target_is v m p t e in subst (SoundLeft w s m p) h (left_sound w s m v p c i q))

@@ -20,7 +20,7 @@ use Rattle.swc_ecma_parser_grammar.specs.language.Programs.{at_top, entry_code, 
 use Rattle.swc_ecma_parser_grammar.proofs.StatementEntries.{ReadsStatement, statement_widens, statement_narrows}
 use Rattle.swc_ecma_parser_reader.specs.State.{State, Outcome, wanted, too_deep, fault_at, end_of}
 use Rattle.swc_ecma_parser_grammar.specs.language.Begins.{awaits}
-use Rattle.swc_ecma_parser_reader.specs.Expressions.{literal, marked_primary, primary, left_head, left, postfix, unary_expr, binary_expr, operators_expr, done_expr, cover_expr, assignment_expr, expression_expr, expr_level, plain_expr}
+use Rattle.swc_ecma_parser_reader.specs.Expressions.{first_operand, literal, marked_primary, primary, left_head, left, postfix, unary_expr, binary_expr, operators_expr, done_expr, cover_expr, assignment_expr, expression_expr, expr_level, plain_expr}
 use Rattle.swc_ecma_parser_reader.specs.Yields.{begins_yield}
 use Rattle.swc_ecma_parser_reader.specs.Arrows.{begins_named_arrow}
 use Rattle.swc_ecma_parser_reader.specs.AsyncArrows.{begins_async_arrow}
@@ -103,7 +103,7 @@ before s ts = record s { at = record s.at { left = ts } }
 -- nothing but the fault is answered, in however many levels
 refused_in : (n : ℕ) (include_decl top_level : Bool) (s : State) (t : TokenAndSpan) (e : Error) (ts : List TokenAndSpan)
     → (u : State) × (stmt n (at_top include_decl top_level) (before s (record t { token = token.Error e } ∷ ts)) ≡ Err (fault_of e, u))
-unfolding stmt either_stmt await_using_or is_await_using_declaration stmt_level other_stmt begins_label expr_stmt_at expr_stmt expr expr_level expression_expr assignment_expr cover_expr done_expr plain_expr begins_yield begins_named_arrow begins_async_arrow begins_async_call operators_expr binary_expr unary_expr awaits postfix left left_head primary literal marked_primary wanted too_deep kind_at same_kind identifier_at may_begin_expression_statement is_async_function is_let_declaration word_at
+unfolding stmt either_stmt await_using_or is_await_using_declaration stmt_level other_stmt begins_label expr_stmt_at expr_stmt expr expr_level expression_expr assignment_expr cover_expr done_expr plain_expr begins_yield begins_named_arrow begins_async_arrow begins_async_call operators_expr binary_expr first_operand unary_expr awaits postfix left left_head primary literal marked_primary wanted too_deep kind_at same_kind identifier_at may_begin_expression_statement is_async_function is_let_declaration word_at
 refused_in zero include_decl top_level s t e ts = (_, refl)
 refused_in (suc zero) true top_level s t e ts = (_, refl)
 refused_in (suc zero) false top_level s t e ts = (_, refl)
@@ -130,7 +130,7 @@ abbrev Ended : ℕ → Position → State → Type 0
 Ended n at s = (u : State) × (stmt n at s ≡ Err (fault_at (end_of s.at.last) faults.Eof, u)) × (u.at ≡ s.at) × (u.faults ≡ s.faults)
 
 ended_in : (n : ℕ) (include_decl top_level : Bool) (s : State) → Ended n (at_top include_decl top_level) (before s [])
-unfolding stmt either_stmt await_using_or is_await_using_declaration stmt_level other_stmt begins_label expr_stmt_at expr_stmt expr expr_level expression_expr assignment_expr cover_expr done_expr plain_expr begins_yield begins_named_arrow begins_async_arrow begins_async_call operators_expr binary_expr unary_expr awaits postfix left left_head primary literal marked_primary wanted too_deep kind_at same_kind identifier_at may_begin_expression_statement is_async_function is_let_declaration word_at
+unfolding stmt either_stmt await_using_or is_await_using_declaration stmt_level other_stmt begins_label expr_stmt_at expr_stmt expr expr_level expression_expr assignment_expr cover_expr done_expr plain_expr begins_yield begins_named_arrow begins_async_arrow begins_async_call operators_expr binary_expr first_operand unary_expr awaits postfix left left_head primary literal marked_primary wanted too_deep kind_at same_kind identifier_at may_begin_expression_statement is_async_function is_let_declaration word_at
 ended_in zero include_decl top_level s = (_, refl, refl, refl)
 ended_in (suc zero) true top_level s = (_, refl, refl, refl)
 ended_in (suc zero) false top_level s = (_, refl, refl, refl)

@@ -18,7 +18,7 @@ use Rattle.swc_ecma_parser_token.specs.Text.{word_text}
 use Rattle.swc_ecma_parser_grammar.specs.Looks.{kind_at, sees}
 use Rattle.swc_ecma_parser_grammar.specs.Names.{Code, is_name, is_identifier, may_bind_await}
 use Rattle.swc_ecma_parser_grammar.specs.Ends.{can_end}
-use Rattle.swc_ecma_parser_reader.specs.State.{State, Outcome, Reader, says_out_of_memory, labelled_as, and_then, moved, coded, wanted, wanted_in, wanted_at, too_deep, too_deep_in, too_deep_at, refused, refuse, refuse_in, refuse_at, fault, recorded_in, recorded_at, expect, end, name, name_in, name_by, Step, More, Done, next_turn, after_turn, turns, loop, reference, unclean_name}
+use Rattle.swc_ecma_parser_reader.specs.State.{State, Outcome, Reader, says_out_of_memory, labelled_as, and_then, moved, coded, wanted, wanted_in, wanted_at, too_deep, too_deep_in, too_deep_at, refused, refuse, refuse_in, refuse_at, fault, recorded_in, recorded_at, expect, end, name, name_in, name_by, Step, More, Done, next_turn, after_turn, turns, loop, reference, unclean_name, reject, reject_in, reject_at}
 use Rattle.swc_ecma_parser_reader.specs.Reader.{close, note_statement, note_with, optional_end}
 
 -- an answer leaves at least k tokens fewer than n
@@ -154,6 +154,20 @@ recorded_from f s (t ∷ ts) = recorded_by f s t.token
 pub fault_falls : (f : Fault) (s : State) → Falls 0 (length s.at.left) (fault f s)
 unfolding fault
 fault_falls f s = recorded_from f s s.at.left
+
+-- ---- refusals of what was read answer nothing
+
+reject_by : (A : Type 0) (j n : ℕ) (f : Fault) (s : State) (t : Token) → Falls j n (reject_at {A = A} f s t)
+reject_by A j n f s (token.Error e) = falls_if j n (means_out_of_memory e.kind) _ _ tt (refused_falls A j n _ (fault (fault_of e) (moved s)))
+reject_by A j n f s _ = tt
+
+reject_from : (A : Type 0) (j n : ℕ) (f : Fault) (s : State) (ts : List TokenAndSpan) → Falls j n (reject_in {A = A} f s ts)
+reject_from A j n f s [] = tt
+reject_from A j n f s (t ∷ ts) = reject_by A j n f s t.token
+
+pub reject_falls : (A : Type 0) (j n : ℕ) (f : Fault) (s : State) → Falls j n (reject {A = A} f s)
+unfolding reject
+reject_falls A j n f s = reject_from A j n f s s.at.left
 
 -- ---- fixed tokens, ends and names
 

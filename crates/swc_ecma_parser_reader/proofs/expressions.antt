@@ -1,11 +1,14 @@
 pub mod Awaits
+pub mod FallsTemplates
 pub mod Falls
 pub mod Loops
 pub mod LimitSteps
 pub mod Limits
 pub mod Stands
+pub mod KeepSteps
 pub mod Keeps
 pub mod CompleteKinds
+pub mod PartEnds
 pub mod CompleteMethods
 pub mod Yields
 pub mod Covers
@@ -18,6 +21,7 @@ pub mod AsyncGroups
 pub mod Targets
 pub mod CompleteParts
 pub mod CompleteCovers
+pub mod CompleteTemplates
 pub mod CompleteLefts
 pub mod CompleteArrows
 pub mod CompleteAsync
@@ -27,6 +31,7 @@ pub mod SoundSteps
 pub mod NoBlocks
 pub mod SoundLists
 pub mod SoundCovers
+pub mod SoundTemplates
 pub mod SoundLefts
 pub mod SoundOperators
 pub mod SoundTargets

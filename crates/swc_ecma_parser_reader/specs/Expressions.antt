@@ -1,25 +1,28 @@
 -- The reader of expressions, rule by rule: ECMA-262, section 13. What is read one level further in is read by a reader for each
 -- class of expressions.
-use Rattle.std.specs.Prelude.{ℕ, Bool, true, false, ◌&&◌, ◌||◌, if◌then◌else◌, List, [], ◌∷◌, ◌++◌, Option, Some, None, Ok}
+use Rattle.std.specs.Prelude.{ℕ, nat_le, Bool, true, false, ◌&&◌, ◌||◌, if◌then◌else◌, List, [], ◌∷◌, ◌++◌, Option, Some, None, Ok}
 use Rattle.swc_ecma_parser_common.specs.declared.span.Span.{Span}
 use Rattle.swc_ecma_parser_error.specs.Kind as faults
 use Rattle.swc_ecma_parser_token.specs.declared.kind.TokenKind.TheVariants as kind
 use Rattle.swc_ecma_parser_model.specs.declared.operators.UnaryOp.{UnaryOp}
 use Rattle.swc_ecma_parser_model.specs.declared.operators.UpdateOp.{UpdateOp}
+use Rattle.swc_ecma_parser_model.specs.declared.operators.BinaryOp.TheVariants as binary
 use Rattle.swc_ecma_parser_model.specs.Tree as tree
 use Rattle.swc_ecma_parser_model.specs.Tree.{Tree, listed}
 use Rattle.swc_ecma_parser_grammar.specs.Looks.{kind_at, sees, span_at}
 use Rattle.swc_ecma_parser_grammar.specs.Names.{name_at}
-use Rattle.swc_ecma_parser_grammar.specs.Follows.{is_async_function}
+use Rattle.swc_ecma_parser_grammar.specs.Follows.{begins_template, is_async_function}
 use Rattle.swc_ecma_parser_grammar.specs.language.Goals.{Class, expression, assignment, operator, unary, left_side, callee}
 use Rattle.swc_ecma_parser_grammar.specs.language.Begins.{awaits}
-use Rattle.swc_ecma_parser_grammar.specs.language.Operators.{unary_operator, update_operator}
+use Rattle.swc_ecma_parser_grammar.specs.language.Operators.{unary_operator, update_operator, precedence}
 use Rattle.swc_ecma_parser_reader.specs.Yields.{begins_yield, yield_expr}
 use Rattle.swc_ecma_parser_reader.specs.Methods.{FunctionForm, expression_form, class_form}
 use Rattle.swc_ecma_parser_reader.specs.State.{Reader, ◌>>=◌, ◌>>◌, pure, span_here, since, skip, wanted, refuse, Step, More, Done, loop}
 unfoldable pub use Rattle.swc_ecma_parser_reader.specs.Words.{word_by, word_in, any_word, touching_word, private_name, begins_async_call, is_head, heads_arrow}
+pub use Rattle.swc_ecma_parser_reader.specs.Templates.{Pieces}
+unfoldable pub use Rattle.swc_ecma_parser_reader.specs.Templates.{regex_of, regex_in, regex_or, regex, text_of, text_in, is_tail, is_cooked, text_or, template_text, first_piece, with_piece, template_of}
 pub use Rattle.swc_ecma_parser_reader.specs.Operands.{Cover, Covers}
-unfoldable pub use Rattle.swc_ecma_parser_reader.specs.Operands.{literal_of, literal_in, taken, literal, word_property, token_is_word, first_is_word, is_word_at, key_or, literal_key, shorthand_name, shorthand, dotted, ident_expr, this, meta_fault, import_meta, more, bare_new, closed_left, simple, update_behind, behind_operand, postfix_at, misplaced_await, await_allowed, right_class, read_operator, operator_at, left_operand, unmixed, unassigned, unassignable, unheaded, first_mark, no_covers, with_cover, with_comma, is_literal, done, part_as, whole_of, unmarked, close, target_or, target, goes_on, inside, brackets, access, spread_element, plain_element, element, behind_comma, behind_argument, arguments_turn, arguments, covered, spread_item, plain_item, item, behind_item, array_turn, elements, array, computed_key, key, key_value, initialized, initialized_name, initialized_key, bare_key, behind_key, spread_property, behind_property, method, behind_words, keyed_property, property, object_turn, properties, object, empty_paren, filled_paren, paren, accessed, called, left_turn, left_from, super_call, super_property, super_access, behind_super, super_head, constructed, new_head, import_call, import_head, prefixed, update_before, await_expr, operated, binary_by, binary_turn, binary_from, conditional, assigned_to, assigned, assigned_or, behind_operators, postfixed, continued, closed, assigned_pattern, behind_literal}
+unfoldable pub use Rattle.swc_ecma_parser_reader.specs.Operands.{new_target, chain_of, linked, in_word, behind_text, template_turn, template_from, template_pieces, template, tagged_by, tagged, named_link, behind_question, chained, behind_called, new_called, private_in, literal_of, literal_in, taken, literal, word_property, token_is_word, first_is_word, is_word_at, key_or, literal_key, shorthand_name, shorthand, dotted, ident_expr, this, meta_fault, import_meta, more, bare_new, closed_left, simple, update_behind, behind_operand, postfix_at, misplaced_await, await_allowed, right_class, read_operator, operator_at, left_operand, unmixed, unassigned, unassignable, unheaded, first_mark, no_covers, with_cover, with_comma, is_literal, done, part_as, whole_of, unmarked, close, target_or, target, goes_on, inside, brackets, access, spread_element, plain_element, element, behind_comma, behind_argument, arguments_turn, arguments, covered, spread_item, plain_item, item, behind_item, array_turn, elements, array, computed_key, key, key_value, initialized, initialized_name, initialized_key, bare_key, behind_key, spread_property, behind_property, method, behind_words, keyed_property, property, object_turn, properties, object, empty_paren, filled_paren, paren, accessed, called, left_turn, left_from, super_call, super_property, super_access, behind_super, super_head, constructed, new_head, import_call, import_head, prefixed, update_before, await_expr, operated, binary_by, binary_turn, binary_from, conditional, assigned_to, assigned, assigned_or, behind_operators, postfixed, continued, closed, assigned_pattern, behind_literal}
 use Rattle.swc_ecma_parser_reader.specs.Arrows.{begins_named_arrow, named_arrow, grouped}
 use Rattle.swc_ecma_parser_reader.specs.AsyncArrows.{begins_async_arrow, async_named_arrow, async_grouped}
 
@@ -41,6 +44,8 @@ module _ (inner : Class → Reader Tree) (cover : Reader Cover) where
         else if sees kind.This s.at then this s
         else if sees kind.Function s.at then function expression_form s
         else if sees kind.Class s.at then function class_form s
+        else if sees kind.Regex s.at then regex s
+        else if begins_template s.at then template inner cover s
         else wanted faults.Unexpected s
 
     -- an object alone, whatever goes on behind it
@@ -93,10 +98,14 @@ module _ (inner : Class → Reader Tree) (cover : Reader Cover) where
     unfoldable pub unary_expr : Reader Tree
     unary_expr = λ s. unary_by (unary_operator (kind_at s.at)) s
 
+    -- the first operand, which a private name begins where `in` binds so tightly
+    unfoldable pub first_operand : ℕ → Reader Tree
+    first_operand n = λ s. if nat_le n (precedence binary.In) && sees kind.HashIn s.at then private_in inner cover s else unary_expr s
+
     unfoldable pub binary_expr : ℕ → Reader Tree
     binary_expr n = do
       start ← span_here
-      x ← unary_expr
+      x ← first_operand n
       binary_from inner cover n start x
 
     -- operands and operators, and what stands behind them

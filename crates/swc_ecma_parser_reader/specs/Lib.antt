@@ -4,6 +4,7 @@ pub mod Classes
 pub mod Yields
 pub mod Methods
 pub mod Words
+pub mod Templates
 pub mod Operands
 pub mod Jumps
 pub mod Using

@@ -14,22 +14,24 @@ use Rattle.swc_ecma_parser_model.specs.declared.leaves.MetaPropKind.TheVariants 
 use Rattle.swc_ecma_parser_model.specs.declared.operators.UnaryOp.{UnaryOp}
 use Rattle.swc_ecma_parser_model.specs.declared.operators.UpdateOp.{UpdateOp}
 use Rattle.swc_ecma_parser_model.specs.declared.operators.BinaryOp.{BinaryOp}
+use Rattle.swc_ecma_parser_model.specs.declared.operators.BinaryOp.TheVariants as binary
 use Rattle.swc_ecma_parser_model.specs.declared.operators.AssignOp.{AssignOp}
 use Rattle.swc_ecma_parser_model.specs.declared.operators.AssignOp.TheVariants as assign
 use Rattle.swc_ecma_parser_model.specs.Tree as tree
 use Rattle.swc_ecma_parser_model.specs.Tree.{Tree, Text, listed}
-use Rattle.swc_ecma_parser_model.specs.Forms.{is_simple_target, span_of}
+use Rattle.swc_ecma_parser_model.specs.Forms.{is_simple_target, is_chain, span_of}
 use Rattle.swc_ecma_parser_model.specs.Targets.{as_target}
 use Rattle.swc_ecma_parser_grammar.specs.Looks.{kind_at, breaks_at, sees, span_at}
 use Rattle.swc_ecma_parser_grammar.specs.Names.{Code, may_refer_to_await}
-use Rattle.swc_ecma_parser_grammar.specs.Follows.{word_at, continues_left_side}
+use Rattle.swc_ecma_parser_grammar.specs.Follows.{word_at, continues_left_side, begins_template}
 use Rattle.swc_ecma_parser_grammar.specs.language.Goals.{Class, expression, assignment, operator, unary, callee}
 use Rattle.swc_ecma_parser_grammar.specs.language.Contexts.{may_await, with_in}
 use Rattle.swc_ecma_parser_grammar.specs.language.Operators.{update_operator, binary_operator, assign_operator, precedence, groups_left, is_operator, mixes, is_unary}
 use Rattle.swc_ecma_parser_grammar.specs.language.Continues.{continues_conditional}
 unfoldable pub use Rattle.swc_ecma_parser_reader.specs.Words.{word_by, word_in, any_word, touching_word, private_name, begins_async_call, is_head, heads_arrow}
+use Rattle.swc_ecma_parser_reader.specs.Templates.{Pieces, is_tail, template_text, first_piece, with_piece, template_of}
 use Rattle.swc_ecma_parser_reader.specs.Methods.{MethodForm, FunctionForm, property_form, method_words, is_bare}
-use Rattle.swc_ecma_parser_reader.specs.State.{State, Reader, ◌>>=◌, ◌>>◌, pure, span_here, since, skip, moved, note_module_item, within, fault, fault_at, wanted, reject, expect, reference, as_name, Step, More, Done, loop}
+use Rattle.swc_ecma_parser_reader.specs.State.{State, Reader, ◌>>=◌, ◌>>◌, pure, span_here, since, skip, moved, note_module_item, within, fault, fault_at, wanted, refuse, reject, expect, reference, as_name, Step, More, Done, loop}
 
 -- ---- literals
 
@@ -120,6 +122,25 @@ import_meta start = λ s. if word_at (codes "meta") s.at then (do
   note_module_item
   meta_fault span
   pure (tree.meta_prop span meta.ImportMeta)) s else wanted faults.Unexpected s
+
+-- `new.target` from its word on
+unfoldable pub new_target : Span → Reader Tree
+new_target start = λ s. if word_at (codes "target") s.at then (do
+  skip
+  span ← since start
+  pure (tree.meta_prop span meta.NewTarget)) s else wanted faults.Unexpected s
+
+-- a member or a call as a link of an optional chain
+abbrev pub chain_of : (optional : Bool) → Tree → Tree
+chain_of optional base = tree.opt_chain (span_of base) optional base
+
+-- what goes on with an optional chain is a link of it
+abbrev pub linked : Tree → Tree → Tree
+linked x y = if is_chain x then chain_of false y else y
+
+-- `in` behind a private name
+unfoldable pub in_word : Reader (Unit {0})
+in_word = λ s. if sees kind.In s.at && s.code.flags.include_in_expr then Ok (tt, moved s) else wanted faults.Unexpected s
 
 -- the loop goes on with it
 abbrev pub more : Tree → Reader (Step Tree Tree)
@@ -484,6 +505,32 @@ module _ (inner : Class → Reader Tree) (cover : Reader Cover) where
     skip
     λ s. if sees kind.RParen s.at then empty_paren s else filled_paren start s
 
+  -- ---- templates: section 13.2.8
+
+  abbrev pub behind_text : Pieces → Tree → Tree → Step Pieces Pieces
+  behind_text found e q = if is_tail q then Done (with_piece found e q) else More (with_piece found e q)
+
+  -- an expression, and the text behind it
+  unfoldable pub template_turn : (tagged : Bool) → Pieces → Reader (Step Pieces Pieces)
+  template_turn tagged found = do
+    e ← inside expression
+    λ s. if sees kind.TemplateMiddle s.at || sees kind.TemplateTail s.at then (do
+      q ← template_text tagged
+      pure (behind_text found e q)) s else refuse faults.Expected s
+
+  abbrev pub template_from : (tagged : Bool) → Tree → Reader Pieces
+  template_from tagged q = if is_tail q then pure (first_piece q) else loop (template_turn tagged) (first_piece q)
+
+  unfoldable pub template_pieces : (tagged : Bool) → Reader Pieces
+  template_pieces tagged = template_text tagged >>= template_from tagged
+
+  unfoldable pub template : Reader Tree
+  template = do
+    start ← span_here
+    found ← template_pieces false
+    span ← since start
+    pure (template_of span found)
+
   -- ---- left-hand-side expressions: section 13.3
 
   unfoldable pub accessed : Span → Tree → Reader Tree
@@ -498,10 +545,44 @@ module _ (inner : Class → Reader Tree) (cover : Reader Cover) where
     span ← since start
     pure (tree.call span x (listed xs))
 
+  -- a template behind its tag, which is no optional chain: section 13.3.11
+  unfoldable pub tagged_by : Span → Tree → Reader Tree
+  tagged_by start x = do
+    place ← span_here
+    found ← template_pieces true
+    whole ← since place
+    span ← since start
+    pure (tree.tagged_tpl span x (template_of whole found))
+
+  unfoldable pub tagged : Span → Tree → Reader Tree
+  tagged start x = λ s. if is_chain x then wanted faults.Unexpected s else tagged_by start x s
+
+  -- what stands behind `?.`: arguments, brackets or a name
+  unfoldable pub named_link : Span → Tree → Reader Tree
+  named_link start x = do
+    property ← dotted
+    span ← since start
+    pure (tree.member span x property)
+
+  unfoldable pub behind_question : Span → Tree → Reader Tree
+  behind_question start x = λ s.
+      if sees kind.LParen s.at then called start x s
+      else if sees kind.LBracket s.at then accessed start x s
+      else named_link start x s
+
+  unfoldable pub chained : Span → Tree → Reader Tree
+  chained start x = do
+    skip
+    y ← behind_question start x
+    pure (chain_of true y)
+
+  -- what goes on with an expression within the loop
   unfoldable pub left_turn : Bool → Span → Tree → Reader (Step Tree Tree)
   left_turn calls start x = λ s.
-      if sees kind.Dot s.at || sees kind.LBracket s.at then (accessed start x >>= more) s
-      else if calls && sees kind.LParen s.at then (called start x >>= more) s
+      if sees kind.Dot s.at || sees kind.LBracket s.at then (accessed start x >>= (λ y. more (linked x y))) s
+      else if calls && sees kind.LParen s.at then (called start x >>= (λ y. more (linked x y))) s
+      else if begins_template s.at then (tagged start x >>= more) s
+      else if calls && sees kind.QuestionDot s.at then (chained start x >>= more) s
       else Ok (Done x, s)
 
   -- what goes on with an expression that was read from a place on
@@ -544,12 +625,23 @@ module _ (inner : Class → Reader Tree) (cover : Reader Cover) where
     span ← since start
     pure (tree.new span x (listed xs))
 
+  -- nothing goes on with what is called, an optional chain either
+  unfoldable pub behind_called : Span → Tree → Reader Tree
+  behind_called start x = λ s.
+      if sees kind.LParen s.at then constructed start x s
+      else if sees kind.QuestionDot s.at then wanted faults.Unexpected s
+      else bare_new start x s
+
+  unfoldable pub new_called : Span → Reader Tree
+  new_called start = do
+    x ← inner callee
+    behind_called start x
+
   unfoldable pub new_head : Reader Tree
   new_head = do
     start ← span_here
     skip
-    x ← inner callee
-    λ s. if sees kind.LParen s.at then constructed start x s else bare_new start x s
+    λ s. if sees kind.NewDot s.at then (skip >> new_target start) s else new_called start s
 
   -- `import` and its arguments
   unfoldable pub import_call : Span → Reader Tree
@@ -617,6 +709,16 @@ module _ (inner : Class → Reader Tree) (cover : Reader Cover) where
   -- the operators that bind at least so tightly, behind an operand that was read from a place on
   unfoldable pub binary_from : ℕ → Span → Tree → Reader Tree
   binary_from n start x = loop (binary_turn n start) x
+
+  -- a private name, which is the left operand of `in`: section 13.10
+  unfoldable pub private_in : Reader Tree
+  private_in = do
+    start ← span_here
+    x ← private_name
+    in_word
+    y ← inner (right_class binary.In)
+    span ← since start
+    pure (tree.bin span binary.In x y)
 
   -- ---- AssignmentExpression: sections 13.14 and 13.15
 

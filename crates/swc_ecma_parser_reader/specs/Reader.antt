@@ -242,9 +242,9 @@ as_left (Resource x) = pure x
 as_left (Named p) = pure p
 as_left (Expression v) = exprs.target v
 
--- `await` before what may be `using`, which stands on its line
+-- `await` before `using`, which stands on its line
 unfoldable pub begins_await_head : Place → Bool
-begins_await_head c = sees kind.Await c && not (breaks_at (after c))
+begins_await_head c = sees kind.Await c && (not (breaks_at (after c)) && word_at (codes "using") (after c))
 
 -- nothing is declared with `using` before `in`
 unfoldable pub undeclared : Span → Reader (Unit {0})

@@ -163,6 +163,7 @@ free-word c word.Null = sym (word-null c).0
 free-word c word.True = sym (word-true c).0
 free-word c word.False = sym (word-false c).0
 free-word c (word.Ident text) = chosen (is_special text) (is_identifier c text) (free-text c text)
+free-word c (word.Escaped text) = chosen (is_special text) (is_identifier c text) (free-text c text)
 
 pub clean-word : (c : Context) (w : Word) → is_clean_word c w ≡ is_name c (word_text w)
 unfolding is_clean_word
@@ -171,3 +172,4 @@ clean-word c word.Null = sym (word-null c).1
 clean-word c word.True = sym (word-true c).1
 clean-word c word.False = sym (word-false c).1
 clean-word c (word.Ident text) = chosen (is_special text) (is_name c text) (clean-text c text)
+clean-word c (word.Escaped text) = chosen (is_special text) (is_name c text) (clean-text c text)

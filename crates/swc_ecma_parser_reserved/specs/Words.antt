@@ -91,6 +91,7 @@ is_free_word c word.Null = false
 is_free_word c word.True = false
 is_free_word c word.False = false
 is_free_word c (word.Ident text) = if is_special text then is_identifier c text else true
+is_free_word c (word.Escaped text) = if is_special text then is_identifier c text else true
 
 unfoldable pub is_clean_word : Context → Word → Bool
 is_clean_word c (word.Keyword k) = is_clean_keyword c k
@@ -98,3 +99,4 @@ is_clean_word c word.Null = false
 is_clean_word c word.True = false
 is_clean_word c word.False = false
 is_clean_word c (word.Ident text) = if is_special text then is_name c text else true
+is_clean_word c (word.Escaped text) = if is_special text then is_name c text else true

@@ -63,7 +63,7 @@ fn is_free_word(flags: Context, word: &Word) -> bool
         Word::Null => false,
         Word::True => false,
         Word::False => false,
-        Word::Ident(text) => if is_special(text.as_str()) {
+        Word::Ident(text) | Word::Escaped(text) => if is_special(text.as_str()) {
             is_free_text(flags, text.as_str())
         } else {
             true
@@ -82,7 +82,7 @@ fn is_clean_word(flags: Context, word: &Word) -> bool
         Word::Null => false,
         Word::True => false,
         Word::False => false,
-        Word::Ident(text) => if is_special(text.as_str()) {
+        Word::Ident(text) | Word::Escaped(text) => if is_special(text.as_str()) {
             is_clean_text(flags, text.as_str())
         } else {
             true

@@ -3,3 +3,4 @@ pub mod Bytes
 pub mod Runs
 pub mod Blanks
 pub mod Lone
+pub mod Plain

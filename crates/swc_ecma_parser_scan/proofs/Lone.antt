@@ -154,7 +154,7 @@ name-stops : (b : ℕ) → b < 128 → is_of 1 b ≡ false → step state.Name b
 unfolding step step_name
 name-stops b h e = ap (λ x. cond x (Some state.Name) None) (sym (is_name_part-ascii b h) ∙ sym (names-ascii b h) ∙ e)
 
-ascii-ahead : (b : ℕ) (bs : List ℕ) → IsUtf8 (b ∷ bs) → b < 128 → chars (b ∷ bs) ≡ b ∷ chars bs
+pub ascii-ahead : (b : ℕ) (bs : List ℕ) → IsUtf8 (b ∷ bs) → b < 128 → chars (b ∷ bs) ≡ b ∷ chars bs
 ascii-ahead b bs u h = chars_past_char (b ∷ bs) bs b u (ap (λ xs. xs ++ bs) (sym (encode_ascii b h)))
 
 -- a name ends before a character of ASCII that is no part of names

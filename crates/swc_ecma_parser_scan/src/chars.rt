@@ -1,6 +1,6 @@
 //! Classes of characters. Those of ASCII are told by cheap tests, without Unicode's tables.
 
-ghost use Rattle.std.specs.Prelude.{◌≡◌, [], MatchOption};
+ghost use Rattle.std.specs.Prelude.{◌≡◌, ◌<◌, [], IfSome, MatchOption};
 ghost use Rattle.std.specs.Str.{chars};
 ghost use Rattle.swc_ecma_parser_scan.specs.Chars as class;
 
@@ -14,6 +14,24 @@ pub fn first_char(text: &str) -> Option<(char, &str)>
     let mut characters = text.chars();
     let first = characters.next()?;
     Some((first, characters.as_str()))
+}
+
+/// The first character of a text, if it is ASCII, and the text behind it.
+#[inline(always)]
+pub(crate) fn first_ascii(text: &str) -> Option<(u8, &str)>
+    ensures first { IfSome result (λ first. class.IsFirst text.now first.0 first.1.now) }
+    ensures ascii { IfSome result (λ first. first.0 < 128) }
+{
+    let bytes = text.as_bytes();
+    if bytes.len() == 0 {
+        return None;
+    }
+    let byte = bytes[0];
+    if byte < 128 {
+        Some((byte, &text[1..]))
+    } else {
+        None
+    }
 }
 
 /// White space: ECMA-262, section 12.2.

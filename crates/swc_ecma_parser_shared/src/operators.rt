@@ -72,7 +72,7 @@ fn unmixed<P: Cursor, T: BuildsOperator>(
 }
 
 /// The class of the right operand.
-fn right_class(op: BinaryOp) -> Class
+pub fn right_class(op: BinaryOp) -> Class
     ensures { class_of result ≡ exprs.right_class op }
 {
     let tightness = precedence(op);

@@ -1,30 +1,31 @@
 -- Expressions run forward.
 use Rattle.std.proofs.Common.{ℕ, ◌≤◌, Bool, true, false, cond, [], ◌∷◌, Option, Some, None, refl}
-use Rattle.std.specs.Prelude.{◌&&◌, ◌||◌}
+use Rattle.std.specs.Prelude.{nat_le, ◌&&◌, ◌||◌}
 use Rattle.swc_ecma_parser_common.specs.declared.span.Span.{Span}
 use Rattle.swc_ecma_parser_error.specs.Kind as faults
 use Rattle.swc_ecma_parser_token.specs.declared.kind.TokenKind.TheVariants as kind
 use Rattle.swc_ecma_parser_input.specs.Place.{after}
 use Rattle.swc_ecma_parser_model.specs.declared.operators.UnaryOp.{UnaryOp}
 use Rattle.swc_ecma_parser_model.specs.declared.operators.UpdateOp.{UpdateOp}
+use Rattle.swc_ecma_parser_model.specs.declared.operators.BinaryOp.TheVariants as binary
 use Rattle.swc_ecma_parser_model.specs.Tree as tree
 use Rattle.swc_ecma_parser_model.specs.Tree.{Tree, listed}
-use Rattle.swc_ecma_parser_grammar.specs.Follows.{is_async_function}
+use Rattle.swc_ecma_parser_grammar.specs.Follows.{begins_template, is_async_function}
 use Rattle.swc_ecma_parser_grammar.specs.Looks.{kind_at, sees, span_at}
 use Rattle.swc_ecma_parser_grammar.specs.Names.{name_at}
 use Rattle.swc_ecma_parser_grammar.specs.language.Begins.{awaits}
 use Rattle.swc_ecma_parser_grammar.specs.language.Goals.{Class, expression, assignment, operator, unary, left_side, callee}
-use Rattle.swc_ecma_parser_grammar.specs.language.Operators.{unary_operator, update_operator}
+use Rattle.swc_ecma_parser_grammar.specs.language.Operators.{precedence, unary_operator, update_operator}
 use Rattle.swc_ecma_parser_reader.specs.Arrows.{begins_named_arrow}
 use Rattle.swc_ecma_parser_reader.specs.AsyncArrows.{begins_async_arrow}
-use Rattle.swc_ecma_parser_reader.specs.Expressions.{Cover, close, literal, begins_async_call, array, object, marked_primary, object_level, literal_or, named_expr, primary, left_head, left, left_expr, postfix, postfix_at, updated, unary_by, unary_expr, binary_expr, operators_expr, plain_expr, open_literal, done_expr, cover_expr, assignment_expr, sequence_turn, sequence_from, expression_expr, expr_level}
+use Rattle.swc_ecma_parser_reader.specs.Expressions.{Cover, first_operand, close, literal, begins_async_call, array, object, marked_primary, object_level, literal_or, named_expr, primary, left_head, left, left_expr, postfix, postfix_at, updated, unary_by, unary_expr, binary_expr, operators_expr, plain_expr, open_literal, done_expr, cover_expr, assignment_expr, sequence_turn, sequence_from, expression_expr, expr_level}
 use Rattle.swc_ecma_parser_reader.specs.Heads.{sequenced, head_expr}
 use Rattle.swc_ecma_parser_reader.specs.Methods.{FunctionForm}
 use Rattle.swc_ecma_parser_reader.specs.State.{State, Reader, ◌>>=◌, moved, loop}
 use Rattle.swc_ecma_parser_reader.specs.Yields.{begins_yield}
 use Rattle.swc_ecma_parser_reader.proofs.Meets.{Meets, Refuses, meets_then, meets_if, wanted_meets, refuse_meets, loop_answers}
 use Rattle.swc_ecma_parser_span_order.proofs.Arrows.{named_arrow_straight, async_named_straight, grouped_straight, async_grouped_straight}
-use Rattle.swc_ecma_parser_span_order.proofs.Operands.{ReadCover, StraightCover, FunctionsStraight, ReadIf, close_meets, literal_reads, ident_straight, this_straight, closed_left_reads, behind_operand_reads, array_straight, object_straight, paren_straight, super_straight, new_straight, import_straight, prefixed_straight, update_straight, await_straight, yield_straight, left_from_reads, binary_from_reads, behind_operators_reads, behind_literal_reads}
+use Rattle.swc_ecma_parser_span_order.proofs.Operands.{ReadCover, StraightCover, FunctionsStraight, ReadIf, close_meets, literal_reads, regex_straight, template_straight, private_in_straight, ident_straight, this_straight, closed_left_reads, behind_operand_reads, array_straight, object_straight, paren_straight, super_straight, new_straight, import_straight, prefixed_straight, update_straight, await_straight, yield_straight, left_from_reads, binary_from_reads, behind_operators_reads, behind_literal_reads}
 use Rattle.swc_ecma_parser_span_order.proofs.Places.{far, Here, Ahead, Read, ReadMany, Straight, both, onward, first, next, node, reads, part_of}
 use Rattle.swc_ecma_parser_span_order.proofs.Trees.{one_more}
 
@@ -49,7 +50,9 @@ module _ (inner : Class → Reader Tree) (cover : Reader Cover) (below : (class 
       (λ _. meets_if _ (sees kind.LBrace s.at) _ _ (λ _. object_closed s f)
       (λ _. meets_if _ (sees kind.This s.at) _ _ (λ _. this_straight s f)
       (λ _. meets_if _ (sees kind.Function s.at) _ _ (λ _. below_function.expressions s f)
-      (λ _. meets_if _ (sees kind.Class s.at) _ _ (λ _. below_function.classes s f) (λ _. wanted_meets _ faults.Unexpected s))))))
+      (λ _. meets_if _ (sees kind.Class s.at) _ _ (λ _. below_function.classes s f)
+      (λ _. meets_if _ (sees kind.Regex s.at) _ _ (λ _. regex_straight s f)
+      (λ _. meets_if _ (begins_template s.at) _ _ (λ _. template_straight inner cover below below_cover s f) (λ _. wanted_meets _ faults.Unexpected s))))))))
 
   pub object_level_straight : Straight (object_level inner cover function)
   unfolding object_level
@@ -98,9 +101,13 @@ module _ (inner : Class → Reader Tree) (cover : Reader Cover) (below : (class 
   unfolding unary_expr
   unary_straight s f = unary_by_straight (unary_operator (kind_at s.at)) s f
 
+  first_operand_straight : (n : ℕ) → Straight (first_operand inner cover function n)
+  unfolding first_operand
+  first_operand_straight n s f = meets_if _ (nat_le n (precedence binary.In) && sees kind.HashIn s.at) _ _ (λ _. private_in_straight inner cover below below_cover s f) (λ _. unary_straight s f)
+
   binary_straight : (n : ℕ) → Straight (binary_expr inner cover function n)
   unfolding binary_expr
-  binary_straight n s f = meets_then _ (unary_expr inner cover function s) _ (unary_straight s f) (λ x t h. binary_from_reads inner cover below below_cover (far (after s.at)) (span_at s.at) f.begins n x t h)
+  binary_straight n s f = meets_then _ (first_operand inner cover function n s) _ (first_operand_straight n s f) (λ x t h. binary_from_reads inner cover below below_cover (far (after s.at)) (span_at s.at) f.begins n x t h)
 
   operators_straight : Straight (operators_expr inner cover function)
   unfolding operators_expr

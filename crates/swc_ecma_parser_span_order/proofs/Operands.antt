@@ -13,13 +13,14 @@ use Rattle.swc_ecma_parser_input.specs.Place.{Place, after}
 use Rattle.swc_ecma_parser_model.specs.declared.operators.UnaryOp.{UnaryOp}
 use Rattle.swc_ecma_parser_model.specs.declared.operators.UpdateOp.{UpdateOp}
 use Rattle.swc_ecma_parser_model.specs.declared.operators.BinaryOp.{BinaryOp}
+use Rattle.swc_ecma_parser_model.specs.declared.operators.BinaryOp.TheVariants as binary
 use Rattle.swc_ecma_parser_model.specs.declared.operators.AssignOp.{AssignOp}
 use Rattle.swc_ecma_parser_model.specs.declared.operators.AssignOp.TheVariants as assign
-use Rattle.swc_ecma_parser_model.specs.Forms.{is_simple_target, span_of}
+use Rattle.swc_ecma_parser_model.specs.Forms.{is_simple_target, is_chain, span_of}
 use Rattle.swc_ecma_parser_model.specs.Targets.{as_target}
 use Rattle.swc_ecma_parser_model.specs.Tree as tree
-use Rattle.swc_ecma_parser_model.specs.Tree.{Tree}
-use Rattle.swc_ecma_parser_grammar.specs.Follows.{word_at, continues_left_side}
+use Rattle.swc_ecma_parser_model.specs.Tree.{Tree, trees}
+use Rattle.swc_ecma_parser_grammar.specs.Follows.{word_at, begins_template, continues_left_side}
 use Rattle.swc_ecma_parser_grammar.specs.Looks.{kind_at, breaks_at, sees, first_span, span_at}
 use Rattle.swc_ecma_parser_grammar.specs.Names.{may_refer_to_await}
 use Rattle.swc_ecma_parser_grammar.specs.language.Begins.{begins_expression}
@@ -27,17 +28,17 @@ use Rattle.swc_ecma_parser_grammar.specs.language.Contexts.{may_await, with_in}
 use Rattle.swc_ecma_parser_grammar.specs.language.Continues.{continues_conditional}
 use Rattle.swc_ecma_parser_grammar.specs.language.Goals.{Class, expression, assignment, unary, callee}
 use Rattle.swc_ecma_parser_grammar.specs.language.Operators.{assign_operator, groups_left, mixes, is_unary}
-use Rattle.swc_ecma_parser_reader.specs.Expressions.{Cover, Covers, literal_of, literal_in, taken, literal, word_property, is_word_at, key_or, literal_key, shorthand_name, shorthand, dotted, ident_expr, this, meta_fault, import_meta, bare_new, closed_left, simple, update_behind, behind_operand, postfix_at, await_allowed, right_class, operator_at, left_operand, unmixed, unassigned, unheaded, heads_arrow, no_covers, unmarked, close, target_or, target, goes_on, inside, brackets, access, spread_element, plain_element, element, arguments_turn, arguments, covered, spread_item, plain_item, item, array_turn, elements, array, computed_key, key, key_value, initialized, initialized_name, initialized_key, bare_key, behind_key, spread_property, method, behind_words, keyed_property, property, object_turn, properties, object, paren, accessed, called, left_turn, left_from, super_call, super_property, super_access, behind_super, super_head, constructed, new_head, import_call, import_head, prefixed, update_before, await_expr, operated, binary_by, binary_turn, binary_from, conditional, assigned_to, assigned, assigned_or, behind_operators, postfixed, continued, closed, assigned_pattern, behind_literal, empty_paren, filled_paren}
-use Rattle.swc_ecma_parser_span_order.specs.Forward.{is_forward, forward}
+use Rattle.swc_ecma_parser_reader.specs.Expressions.{Cover, Covers, Pieces, regex_of, regex_in, regex_or, regex, text_of, text_in, text_or, template_text, is_tail, is_cooked, first_piece, with_piece, template_turn, template_pieces, template, new_target, private_name, in_word, private_in, chain_of, tagged, tagged_by, named_link, behind_question, chained, behind_called, new_called, literal_of, literal_in, taken, literal, word_property, is_word_at, key_or, literal_key, shorthand_name, shorthand, dotted, ident_expr, this, meta_fault, import_meta, bare_new, closed_left, simple, update_behind, behind_operand, postfix_at, await_allowed, right_class, operator_at, left_operand, unmixed, unassigned, unheaded, heads_arrow, no_covers, unmarked, close, target_or, target, goes_on, inside, brackets, access, spread_element, plain_element, element, arguments_turn, arguments, covered, spread_item, plain_item, item, array_turn, elements, array, computed_key, key, key_value, initialized, initialized_name, initialized_key, bare_key, behind_key, spread_property, method, behind_words, keyed_property, property, object_turn, properties, object, paren, accessed, called, left_turn, left_from, super_call, super_property, super_access, behind_super, super_head, constructed, new_head, import_call, import_head, prefixed, update_before, await_expr, operated, binary_by, binary_turn, binary_from, conditional, assigned_to, assigned, assigned_or, behind_operators, postfixed, continued, closed, assigned_pattern, behind_literal, empty_paren, filled_paren}
+use Rattle.swc_ecma_parser_span_order.specs.Forward.{is_forward, forward, all_forward}
 use Rattle.swc_ecma_parser_reader.specs.Methods.{MethodForm, FunctionForm, expression_form, class_form, property_form, parameter_form, block_form, modifies, begins_async_method, star, starred, method_words, is_bare}
-use Rattle.swc_ecma_parser_reader.specs.State.{State, Reader, moved, coded, module_found, fault, fault_at, expect, reference, as_name, loop}
+use Rattle.swc_ecma_parser_reader.specs.State.{State, Reader, pure, Done, More, moved, coded, module_found, fault, fault_at, expect, reference, as_name, loop}
 use Rattle.swc_ecma_parser_reader.specs.Words.{any_word}
 use Rattle.swc_ecma_parser_reader.specs.Yields.{bare_yield, yielded, behind_yield, yield_expr}
-use Rattle.swc_ecma_parser_reader.proofs.Meets.{Meets, Refuses, Turned, meets_then, meets_if, wanted_meets, loop_answers}
+use Rattle.swc_ecma_parser_reader.proofs.Meets.{Meets, Refuses, Turned, meets_then, meets_if, wanted_meets, refuse_meets, loop_answers}
 use Rattle.swc_ecma_parser_reader.proofs.expressions.SoundSteps.{reject_meets, meets_as}
-use Rattle.swc_ecma_parser_span_order.proofs.Places.{far, Here, Past, Ahead, Passed, Read, ReadPart, ReadMany, Straight, Whole, Part, Many, both, onward, first, taken as took, next, behind, node, reads, reads_part, span_forward, span_reaches, past_less, whole_less, part_of}
+use Rattle.swc_ecma_parser_span_order.proofs.Places.{far, Here, Past, Ahead, Passed, Read, ReadPart, ReadMany, Straight, Whole, Part, Many, both, onward, first, taken as took, next, behind, node, reads, reads_part, span_forward, span_reaches, since_forward, past_less, whole_less, part_of}
 use Rattle.swc_ecma_parser_span_order.proofs.Steps.{Looked, fault_past, fault_ahead, expect_past, any_word_past, reference_past, private_straight, ident_whole, as_name_past, within_reads, dotted_by}
-use Rattle.swc_ecma_parser_span_order.proofs.Trees.{ForwardIf, one_more, own_forward, target_forward, unless_forward}
+use Rattle.swc_ecma_parser_span_order.proofs.Trees.{ForwardIf, appended, one_more, own_forward, target_forward, unless_forward}
 
 -- ---- what may still become a pattern
 
@@ -91,6 +92,42 @@ module _ (s : State) (f : Here s.at) where
   literal_in_here : (ts : List TokenAndSpan) → first_span s.at.last ts ≡ span_at s.at → LiteralHere (literal_in ts)
   literal_in_here [] e = tt
   literal_in_here (t ∷ ts) e = literal_of_here t.span t.token e
+
+  regex_of_here : (span : Span) (v : Token) → span ≡ span_at s.at → LiteralHere (regex_of span v)
+  regex_of_here span (token.Regex exp flags) e = leaf span (tree.regex span exp flags) e refl refl
+  regex_of_here span _ e = tt
+
+  regex_in_here : (ts : List TokenAndSpan) → first_span s.at.last ts ≡ span_at s.at → LiteralHere (regex_in ts)
+  regex_in_here [] e = tt
+  regex_in_here (t ∷ ts) e = regex_of_here t.span t.token e
+
+  text_of_here : (span : Span) (v : Token) → span ≡ span_at s.at → LiteralHere (text_of span v)
+  text_of_here span (token.Template raw cooked) e = leaf span (tree.quasi span true cooked raw) e refl refl
+  text_of_here span (token.TemplateHead raw cooked) e = leaf span (tree.quasi span false cooked raw) e refl refl
+  text_of_here span (token.TemplateMiddle raw cooked) e = leaf span (tree.quasi span false cooked raw) e refl refl
+  text_of_here span (token.TemplateTail raw cooked) e = leaf span (tree.quasi span true cooked raw) e refl refl
+  text_of_here span _ e = tt
+
+  text_in_here : (ts : List TokenAndSpan) → first_span s.at.last ts ≡ span_at s.at → LiteralHere (text_in ts)
+  text_in_here [] e = tt
+  text_in_here (t ∷ ts) e = text_of_here t.span t.token e
+
+-- a regular expression, and the text of a template
+regex_or_reads : (s : State) (f : Here s.at) (o : Option Tree) → LiteralHere s f o → Meets (Read (far (after s.at))) (regex_or o s)
+regex_or_reads s f (Some x) h = h
+regex_or_reads s f None h = wanted_meets _ faults.Unexpected s
+
+pub regex_straight : Straight regex
+unfolding regex span_at
+regex_straight s f = regex_or_reads s f (regex_in s.at.left) (regex_in_here s f s.at.left refl)
+
+text_or_reads : (is_tagged : Bool) (s : State) (f : Here s.at) (o : Option Tree) → LiteralHere s f o → Meets (Read (far (after s.at))) (text_or is_tagged o s)
+text_or_reads is_tagged s f (Some q) h = meets_if _ (is_tagged || is_cooked q) _ _ (λ _. h) (λ _. reject_meets _ _ (moved s))
+text_or_reads is_tagged s f None h = wanted_meets _ faults.Unexpected s
+
+text_straight : (is_tagged : Bool) → Straight (template_text is_tagged)
+unfolding template_text span_at
+text_straight is_tagged s f = text_or_reads is_tagged s f (text_in s.at.left) (text_in_here s f s.at.left refl)
 
 -- a literal, or nothing was read
 abbrev pub ReadIf : ℕ → Option Tree → State → Type 0
@@ -221,6 +258,10 @@ module _ (m : ℕ) (start : Span) (b : start.lo.0 ≤ m) where
   unfolding unmixed
   unmixed_reads op x y s h g = meets_if _ (mixes op x || mixes op y) _ _ (λ _. reject_meets _ _ s) (λ _. node start (tree.bin _ op x y) b g.place (λ e. both e (both h g.straight)) refl)
 
+  new_target_reads : (s : State) → Past m s.at → Meets (Read m) (new_target start s)
+  unfolding new_target
+  new_target_reads s h = meets_if _ (word_at (codes "target") s.at) _ _ (λ _. node start _ b (next h) (λ e. e) refl) (λ _. wanted_meets _ faults.Unexpected s)
+
   import_meta_reads : (s : State) → Past m s.at → Meets (Read m) (import_meta start s)
   unfolding import_meta
   import_meta_reads s h = meets_if _ (word_at (codes "meta") s.at) _ _
@@ -230,6 +271,28 @@ module _ (m : ℕ) (start : Span) (b : start.lo.0 ≤ m) where
   bare_yield_reads : (s : State) → Past m s.at → Meets (Read m) (bare_yield start s)
   unfolding bare_yield
   bare_yield_reads s h = node start _ b h (λ e. both e refl) refl
+
+-- `in` behind a private name
+in_word_past : (m : ℕ) (s : State) → Past m s.at → Meets (Passed m) (in_word s)
+unfolding in_word
+in_word_past m s h = meets_if (Passed m) (sees kind.In s.at && s.code.flags.include_in_expr) _ _ (λ _. next h) (λ _. wanted_meets (Passed m) faults.Unexpected s)
+
+-- the pieces of a template so far
+pub record PiecesRead (m : ℕ) (found : Pieces) (c : Place) : Type 0 where
+  pub exprs : all_forward (trees found.exprs) ≡ true
+  pub quasis : all_forward (trees found.quasis) ≡ true
+  pub place : Past m c
+
+abbrev pub ReadPieces : ℕ → Pieces → State → Type 0
+ReadPieces m found t = PiecesRead m found t.at
+
+-- a link of an optional chain
+chain_reads : {m : ℕ} (optional : Bool) (y : Tree) (s : State) → Read m y s → Read m (chain_of optional y) s
+chain_reads optional y s h = record { straight = both (own_forward y h.straight) h.straight; reaches = h.reaches; place = h.place }
+
+link_reads : {m : ℕ} (b : Bool) (y : Tree) (s : State) → Read m y s → Read m (cond b (chain_of false y) y) s
+link_reads true y s h = chain_reads false y s h
+link_reads false y s h = h
 
 -- ---- what is read one level further in: expressions, and assignment expressions that may still become patterns
 
@@ -380,6 +443,36 @@ module _ (inner : Class → Reader Tree) (cover : Reader Cover) (below : (class 
       (λ _. meets_then _ (inside inner cover expression (moved s)) _ (inside_reads expression {m = far (after s.at)} (moved s) (onward (behind f))) (λ x t h.
       meets_then _ (expect kind.RParen t) _ (expect_past _ kind.RParen t h.place) (λ _ u g. node (span_at s.at) _ f.begins g (λ e. both e h.straight) refl)))
 
+  -- ---- templates
+
+  piece_turned : (m : ℕ) (is_tagged b : Bool) (x : Pieces) (s : State) → ReadPieces m x s → Turned (template_turn inner cover is_tagged) (ReadPieces m) (ReadPieces m) Refuses (cond b (Done x) (More x)) s
+  piece_turned m is_tagged true x s h = h
+  piece_turned m is_tagged false x s h = h
+
+  template_turns : (m : ℕ) (is_tagged : Bool) (found : Pieces) (s : State) → ReadPieces m found s → Meets (ReadPieces m) (loop (template_turn inner cover is_tagged) found s)
+  unfolding template_turn
+  template_turns m is_tagged found s h = loop_answers (template_turn inner cover is_tagged) (ReadPieces m) (ReadPieces m) Refuses
+      (λ ps t g. meets_then _ (inside inner cover expression t) _ (inside_reads expression {m = m} t (onward g.place)) (λ e u k.
+      meets_if _ (sees kind.TemplateMiddle u.at || sees kind.TemplateTail u.at) _ _
+      (λ _. meets_then _ (template_text is_tagged u) _ (reads (template_text is_tagged) (text_straight is_tagged) {m = m} u (onward k.place)) (λ q v j. piece_turned m is_tagged (is_tail q) (with_piece ps e q) v
+      (record { exprs = appended ps.exprs e g.exprs k.straight; quasis = appended ps.quasis q g.quasis j.straight; place = j.place })))
+      (λ _. refuse_meets _ faults.Expected u))) (λ _. tt) found s h
+
+  template_from_reads : (m : ℕ) (is_tagged : Bool) (q : Tree) (b : Bool) (s : State) → ReadPieces m (first_piece q) s
+      → Meets (ReadPieces m) (cond b (pure (first_piece q)) (loop (template_turn inner cover is_tagged) (first_piece q)) s)
+  template_from_reads m is_tagged q true s h = h
+  template_from_reads m is_tagged q false s h = template_turns m is_tagged (first_piece q) s h
+
+  pieces_reads : (is_tagged : Bool) {m : ℕ} (s : State) → Ahead m s.at → Meets (ReadPieces m) (template_pieces inner cover is_tagged s)
+  unfolding template_pieces
+  pieces_reads is_tagged {m} s a = meets_then _ (template_text is_tagged s) _ (reads (template_text is_tagged) (text_straight is_tagged) {m = m} s a) (λ q t h.
+      template_from_reads m is_tagged q (is_tail q) t (record { exprs = refl; quasis = both h.straight refl; place = h.place }))
+
+  pub template_straight : Straight (template inner cover)
+  unfolding template
+  template_straight s f = meets_then _ (template_pieces inner cover false s) _ (pieces_reads false {m = far (after s.at)} s (first f)) (λ found t h.
+      node (span_at s.at) _ f.begins h.place (λ e. both e (both h.exprs h.quasis)) refl)
+
   -- ---- left-hand-side expressions
 
   module _ (m : ℕ) (start : Span) (b : start.lo.0 ≤ m) where
@@ -391,11 +484,29 @@ module _ (inner : Class → Reader Tree) (cover : Reader Cover) (below : (class 
     unfolding called
     called_reads x s h = meets_then _ (arguments inner cover true s) _ (arguments_reads true s (onward h.place)) (λ xs t g. node start _ b g.place (λ e. both e (both h.straight g.straight)) refl)
 
+    tagged_reads : (x : Tree) (s : State) → Read m x s → Meets (Read m) (tagged inner cover start x s)
+    unfolding tagged tagged_by
+    tagged_reads x s h = let a = onward h.place in meets_if _ (is_chain x) _ _ (λ _. wanted_meets _ faults.Unexpected s)
+        (λ _. meets_then _ (template_pieces inner cover true s) _ (pieces_reads true {m = far (after s.at)} s (first a.here)) (λ found t g.
+        node start _ b (past_less a.ahead g.place) (λ e. both e (both h.straight (both (since_forward (span_at s.at) a.here.begins g.place) (both g.exprs g.quasis)))) refl))
+
+    chained_reads : (x : Tree) (s : State) → Read m x s → Meets (Read m) (chained inner cover start x s)
+    unfolding chained behind_question named_link
+    chained_reads x s h =
+        let g : Read m x (moved s) = moved_on h (next h.place) in
+        meets_then {P = Read m} _ (behind_question inner cover start x (moved s)) _
+        (meets_if _ (sees kind.LParen (after s.at)) _ _ (λ _. called_reads x (moved s) g)
+        (λ _. meets_if _ (sees kind.LBracket (after s.at)) _ _ (λ _. accessed_reads x (moved s) g)
+        (λ _. meets_then _ (dotted (moved s)) _ (reads dotted dotted_straight (moved s) (onward g.place)) (λ p t k. node start _ b k.place (λ e. both e (both h.straight k.straight)) refl))))
+        (λ y t k. chain_reads true y t k)
+
     pub left_from_reads : (calls : Bool) (x : Tree) (s : State) → Read m x s → Meets (Read m) (left_from inner cover calls start x s)
     unfolding left_from left_turn
     left_from_reads calls x s h = loop_answers (left_turn inner cover calls start) (Read m) (Read m) Refuses
-        (λ y t g. meets_if _ (sees kind.Dot t.at || sees kind.LBracket t.at) _ _ (λ _. meets_then _ (accessed inner cover start y t) _ (accessed_reads y t g) (λ z u k. k))
-        (λ _. meets_if _ (calls && sees kind.LParen t.at) _ _ (λ _. meets_then _ (called inner cover start y t) _ (called_reads y t g) (λ z u k. k)) (λ _. g)))
+        (λ y t g. meets_if _ (sees kind.Dot t.at || sees kind.LBracket t.at) _ _ (λ _. meets_then _ (accessed inner cover start y t) _ (accessed_reads y t g) (λ z u k. link_reads (is_chain y) z u k))
+        (λ _. meets_if _ (calls && sees kind.LParen t.at) _ _ (λ _. meets_then _ (called inner cover start y t) _ (called_reads y t g) (λ z u k. link_reads (is_chain y) z u k))
+        (λ _. meets_if _ (begins_template t.at) _ _ (λ _. meets_then _ (tagged inner cover start y t) _ (tagged_reads y t g) (λ z u k. k))
+        (λ _. meets_if _ (calls && sees kind.QuestionDot t.at) _ _ (λ _. meets_then _ (chained inner cover start y t) _ (chained_reads y t g) (λ z u k. k)) (λ _. g)))))
         (λ _. tt) x s h
 
     constructed_reads : (x : Tree) (s : State) → Read m x s → Meets (Read m) (constructed inner cover start x s)
@@ -426,9 +537,11 @@ module _ (inner : Class → Reader Tree) (cover : Reader Cover) (below : (class 
   super_straight calls s f = behind_super_reads (far (after s.at)) (span_at s.at) f.begins (span_forward s.at f) calls (moved s) (behind f)
 
   pub new_straight : Straight (new_head inner cover)
-  unfolding new_head
-  new_straight s f = meets_then _ (inner callee (moved s)) _ (reads (inner callee) (below callee) {m = far (after s.at)} (moved s) (onward (behind f))) (λ x t h.
-      meets_if _ (sees kind.LParen t.at) _ _ (λ _. constructed_reads (far (after s.at)) (span_at s.at) f.begins x t h) (λ _. bare_new_reads (far (after s.at)) (span_at s.at) f.begins x t h))
+  unfolding new_head new_called behind_called
+  new_straight s f = meets_if _ (sees kind.NewDot (after s.at)) _ _ (λ _. new_target_reads (far (after s.at)) (span_at s.at) f.begins (moved (moved s)) (next (behind f)))
+      (λ _. meets_then _ (inner callee (moved s)) _ (reads (inner callee) (below callee) {m = far (after s.at)} (moved s) (onward (behind f))) (λ x t h.
+      meets_if _ (sees kind.LParen t.at) _ _ (λ _. constructed_reads (far (after s.at)) (span_at s.at) f.begins x t h)
+      (λ _. meets_if _ (sees kind.QuestionDot t.at) _ _ (λ _. wanted_meets _ faults.Unexpected t) (λ _. bare_new_reads (far (after s.at)) (span_at s.at) f.begins x t h))))
 
   pub import_straight : Straight (import_head inner cover)
   unfolding import_head
@@ -463,6 +576,15 @@ module _ (inner : Class → Reader Tree) (cover : Reader Cover) (below : (class 
       (λ _. meets_if _ (begins_expression s.code.flags (after s.at)) _ _
       (λ _. meets_then _ (inner assignment (moved s)) _ (reads (inner assignment) (below assignment) {m = m} (moved s) (onward (behind f))) (λ x t h. node (span_at s.at) _ f.begins h.place (λ e. both e h.straight) refl))
       (λ _. bare_yield_reads m (span_at s.at) f.begins (moved s) (behind f))))
+
+  -- ---- a private name before `in`
+
+  pub private_in_straight : Straight (private_in inner cover)
+  unfolding private_in
+  private_in_straight s f = let m = far (after s.at) in meets_then _ (private_name s) _ (private_straight s f) (λ x t h.
+      meets_then _ (in_word t) _ (in_word_past m t h.place) (λ _ u g.
+      meets_then _ (inner (right_class binary.In) u) _ (reads (inner (right_class binary.In)) (below (right_class binary.In)) {m = m} u (onward g)) (λ y v k.
+      node (span_at s.at) _ f.begins k.place (λ e. both e (both h.straight k.straight)) refl)))
 
   -- ---- binary operators, conditionals and assignments
 

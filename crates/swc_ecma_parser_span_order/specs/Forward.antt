@@ -33,6 +33,7 @@ abbrev mutual
   forward (tree.null s) = is_forward s
   forward (tree.num s raw) = is_forward s
   forward (tree.big_int s raw) = is_forward s
+  forward (tree.regex s exp flags) = is_forward s
   -- further primary expressions: the elements of an array are `element` or, for a hole, `absent`
   forward (tree.this s) = is_forward s
   forward (tree.array s elems) = is_forward s && forward elems
@@ -55,6 +56,12 @@ abbrev mutual
   forward (tree.super_prop s word prop) = is_forward s && (is_forward word && forward prop)
   forward (tree.call s callee args) = is_forward s && (forward callee && forward args)
   forward (tree.new s callee args) = is_forward s && (forward callee && forward args)
+  -- templates: the expressions, and the texts around them; a tag stands before a `tpl`
+  forward (tree.tpl s exprs quasis) = is_forward s && (forward exprs && forward quasis)
+  forward (tree.tagged_tpl s tag template) = is_forward s && (forward tag && forward template)
+  forward (tree.quasi s tail cooked raw) = is_forward s
+  -- a link of an optional chain, which is a `member` or a `call`
+  forward (tree.opt_chain s optional base) = is_forward s && forward base
   -- an arrow's parameters are patterns, its body a `block` or an expression
   forward (tree.arrow s params body is_async) = is_forward s && (forward params && forward body)
   forward (tree.yield s arg delegate) = is_forward s && forward arg

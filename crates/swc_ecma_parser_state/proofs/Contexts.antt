@@ -34,6 +34,14 @@ recorded_of false c s = ([], sym (append-nil (faults_of s.recorded)))
 pub recorded_stay : (c : Context) (s : Buffered) → IsLater (faults_of s.recorded) (faults_of (buffered.with_context c s).recorded)
 recorded_stay c s = recorded_of c.«module» c s
 
+plain_of : (b : Bool) (c : Context) (s : Buffered) → b ≡ false → (cond b (record (buffered.released s) { context = c }) (record s { context = c })).recorded ≡ s.recorded
+plain_of true c s h = cc
+plain_of false c s h = refl
+
+-- in any other nothing is
+pub none_recorded : (c : Context) (s : Buffered) → c.«module» ≡ false → (buffered.with_context c s).recorded ≡ s.recorded
+none_recorded c s = plain_of c.«module» c s
+
 -- ---- where module code begins
 
 notes_of_held : (hs : List Error) → map as_note (faults_of hs) ≡ held_of hs

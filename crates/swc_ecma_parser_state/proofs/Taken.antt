@@ -1,5 +1,6 @@
--- Names, literals and shebangs, by the token that stands first.
-use Rattle.std.proofs.Common.{◌≡◌, true, false, List, [], ◌∷◌, Some, None, Ok, refl, ap, ◌∙◌, sym}
+-- Names, literals, regular expressions, texts of templates and shebangs, by the token that stands first.
+use Rattle.std.proofs.Common.{◌≡◌, Bool, true, false, List, [], ◌∷◌, Option, Some, None, Ok, refl, ap, ◌∙◌, sym}
+use Rattle.std.specs.Prelude.{not, ◌&&◌, ◌||◌, is_none, is_some}
 use Rattle.swc_ecma_parser_common.specs.declared.span.Span.{Span}
 use Rattle.swc_ecma_parser_error.specs.Kind as faults
 use Rattle.swc_ecma_parser_error.specs.Kind.{Kind}
@@ -14,11 +15,14 @@ use Rattle.swc_ecma_parser_input.specs.Place.{first}
 use Rattle.swc_ecma_parser_grammar.specs.Names.{is_name, is_clean_name, is_identifier, token_is_identifier, first_is_identifier, identifier_at, name_at, may_bind_await}
 use Rattle.swc_ecma_parser_model.specs.Tree.{Tree, Text}
 use Rattle.swc_ecma_parser_model.specs.declared.leaves.Ident.{Ident}
-use Rattle.swc_ecma_parser_reader.specs.State.{State, Outcome, and_then, moved, fault, fault_at, name, name_in, name_by, unclean_name, wanted}
-use Rattle.swc_ecma_parser_reader.specs.Expressions.{literal, literal_in, literal_of}
+use Rattle.swc_ecma_parser_model.specs.declared.leaves.TplElement.{TplElement}
+use Rattle.swc_ecma_parser_model.specs.Tree as tree
+use Rattle.swc_ecma_parser_cursor.specs.Literals.{quasi_tree}
+use Rattle.swc_ecma_parser_reader.specs.State.{State, Outcome, and_then, moved, fault, fault_at, name, name_in, name_by, unclean_name, wanted, reject}
+use Rattle.swc_ecma_parser_reader.specs.Expressions.{literal, literal_in, literal_of, regex, regex_in, regex_of, template_text, text_in, text_of}
 use Rattle.swc_ecma_parser_reader.specs.Words.{any_word, word_by, word_in}
 use Rattle.swc_ecma_parser_reader.specs.Reader.{shebang, shebang_in, shebang_of}
-use Rattle.swc_ecma_parser_state.specs.Taken.{token_is_clean, clean_first, is_literal, literal_first, is_shebang, shebang_first}
+use Rattle.swc_ecma_parser_state.specs.Taken.{token_is_clean, clean_first, is_literal, literal_first, is_regex, regex_first, is_text, text_first, is_shebang, shebang_first}
 
 -- ---- names
 
@@ -117,6 +121,69 @@ literal_taken_in (u ∷ us) t x f h = let g : t ≡ u = cc in rw (← g) h
 pub literal_some : (s : State) (t : TokenAndSpan) (x : Tree) → Some t ≡ first s.at.left → literal_of t.span t.token ≡ Some x → literal s ≡ Ok (Some x, moved s)
 unfolding literal
 literal_some s t x f h = rw (literal_taken_in s.at.left t x f h) refl
+
+-- ---- regular expressions
+
+no_regex_of : (span : Span) (t : Token) → is_regex t ≡ false → regex_of span t ≡ None
+no_regex_of span (token.Regex exp flags) h = cc
+no_regex_of span _ h = refl
+
+no_regex_in : (ts : List TokenAndSpan) → regex_first ts ≡ false → regex_in ts ≡ None
+no_regex_in [] h = refl
+no_regex_in (t ∷ ts) h = no_regex_of t.span t.token h
+
+pub regex_none : (s : State) → regex_first s.at.left ≡ false → regex s ≡ wanted faults.Unexpected s
+unfolding regex
+regex_none s h = rw (no_regex_in s.at.left h) refl
+
+regex_taken_in : (ts : List TokenAndSpan) (t : TokenAndSpan) (exp flags : Text) → Some t ≡ first ts → t.token ≡ token.Regex exp flags → regex_in ts ≡ Some (tree.regex t.span exp flags)
+regex_taken_in [] t exp flags f h = cc
+regex_taken_in (u ∷ us) t exp flags f h = let g : t ≡ u = cc in rw (← g, h) refl
+
+pub regex_some : (s : State) (t : TokenAndSpan) (exp flags : Text) → Some t ≡ first s.at.left → t.token ≡ token.Regex exp flags → regex s ≡ Ok (tree.regex t.span exp flags, moved s)
+unfolding regex
+regex_some s t exp flags f h = rw (regex_taken_in s.at.left t exp flags f h) refl
+
+-- ---- texts of templates
+
+no_text_of : (span : Span) (t : Token) → is_text t ≡ false → text_of span t ≡ None
+no_text_of span (token.Template raw cooked) h = cc
+no_text_of span (token.TemplateHead raw cooked) h = cc
+no_text_of span (token.TemplateMiddle raw cooked) h = cc
+no_text_of span (token.TemplateTail raw cooked) h = cc
+no_text_of span _ h = refl
+
+no_text_in : (ts : List TokenAndSpan) → text_first ts ≡ false → text_in ts ≡ None
+no_text_in [] h = refl
+no_text_in (t ∷ ts) h = no_text_of t.span t.token h
+
+pub text_none : (tagged : Bool) (s : State) → text_first s.at.left ≡ false → template_text tagged s ≡ wanted faults.Unexpected s
+unfolding template_text
+text_none tagged s h = rw (no_text_in s.at.left h) refl
+
+text_taken_in : (ts : List TokenAndSpan) (t : TokenAndSpan) (x : Tree) → Some t ≡ first ts → text_of t.span t.token ≡ Some x → text_in ts ≡ Some x
+text_taken_in [] t x f h = cc
+text_taken_in (u ∷ us) t x f h = let g : t ≡ u = cc in rw (← g) h
+
+-- a tag stands before it, or each escape in it is one
+cooked : (tagged : Bool) (text : Option Text) → (not tagged && is_none text) ≡ false → (tagged || is_some text) ≡ true
+cooked true text h = refl
+cooked false (Some text) h = refl
+cooked false None h = cc
+
+uncooked : (tagged : Bool) (text : Option Text) → (not tagged && is_none text) ≡ true → (tagged || is_some text) ≡ false
+uncooked true text h = cc
+uncooked false (Some text) h = cc
+uncooked false None h = refl
+
+module _ (tagged : Bool) (s : State) (t : TokenAndSpan) (q : TplElement) (stands : Some t ≡ first s.at.left) (found : text_of t.span t.token ≡ Some (quasi_tree q)) where
+  pub text_some : (not tagged && is_none q.cooked) ≡ false → template_text tagged s ≡ Ok (quasi_tree q, moved s)
+  unfolding template_text
+  text_some h = rw (text_taken_in s.at.left t (quasi_tree q) stands found, cooked tagged q.cooked h) refl
+
+  pub text_refused : (not tagged && is_none q.cooked) ≡ true → template_text tagged s ≡ reject (fault_at q.span faults.InvalidStrEscape) (moved s)
+  unfolding template_text
+  text_refused h = rw (text_taken_in s.at.left t (quasi_tree q) stands found, uncooked tagged q.cooked h) refl
 
 -- ---- shebangs
 

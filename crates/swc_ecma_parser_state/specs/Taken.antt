@@ -1,4 +1,4 @@
--- Which tokens are clean names, literals and shebangs.
+-- Which tokens are clean names, literals, regular expressions, texts of templates and shebangs.
 use Rattle.std.specs.Prelude.{Bool, true, false, List, [], ◌∷◌}
 use Rattle.swc_ecma_parser_token.specs.declared.token.Token.{Token}
 use Rattle.swc_ecma_parser_token.specs.declared.token.Token.TheVariants as token
@@ -29,6 +29,25 @@ is_literal _ = false
 abbrev pub literal_first : List TokenAndSpan → Bool
 literal_first [] = false
 literal_first (t ∷ ts) = is_literal t.token
+
+abbrev pub is_regex : Token → Bool
+is_regex (token.Regex exp flags) = true
+is_regex _ = false
+
+abbrev pub regex_first : List TokenAndSpan → Bool
+regex_first [] = false
+regex_first (t ∷ ts) = is_regex t.token
+
+abbrev pub is_text : Token → Bool
+is_text (token.Template raw cooked) = true
+is_text (token.TemplateHead raw cooked) = true
+is_text (token.TemplateMiddle raw cooked) = true
+is_text (token.TemplateTail raw cooked) = true
+is_text _ = false
+
+abbrev pub text_first : List TokenAndSpan → Bool
+text_first [] = false
+text_first (t ∷ ts) = is_text t.token
 
 abbrev pub is_shebang : Token → Bool
 is_shebang (token.Shebang text) = true

@@ -176,6 +176,8 @@ impl<O: Origin, I: Tokens> Call<O, I> {
         ensures noted { self.new.notes.found_module_item ≡ found_module_item }
         ensures at { self.new.at ≡ self.old.at }
         ensures faults { IsLater self.old.faults self.new.faults }
+        // Nothing is recorded in code that is no module's.
+        ensures plain { flags.module ≡ false → self.new.faults ≡ self.old.faults }
     {
         self.labels.clear();
         self.found_module_item = found_module_item;

@@ -3,7 +3,7 @@
 use crate::entry::copied;
 use crate::looks::is_spelled;
 use crate::state::{Call, Origin};
-use crate::steps::literal_of;
+use crate::steps::{literal_of, text_of};
 use std::alloc::Global;
 use std::mem;
 use swc_ecma_parser_common::{Atom, Span};
@@ -14,7 +14,7 @@ use swc_ecma_parser_cursor::{
 use swc_ecma_parser_error::{Error, PResult, SyntaxError};
 use swc_ecma_parser_grammar::Position;
 use swc_ecma_parser_input::{Context, Tokens};
-use swc_ecma_parser_model::Ident;
+use swc_ecma_parser_model::{Ident, Regex, TplElement};
 use swc_ecma_parser_reader::Mark;
 use swc_ecma_parser_reserved::is_free;
 use swc_ecma_parser_token::{Token, TokenAndSpan, TokenKind, Word};
@@ -141,6 +141,8 @@ impl<O: Origin, I: Tokens> Cursor for Call<O, I> {
         self.sees(TokenKind::Dot)
             || self.sees(TokenKind::LBracket)
             || self.sees(TokenKind::LParen)
+            || self.sees(TokenKind::QuestionDot)
+            || (self.sees(TokenKind::Template) || self.sees(TokenKind::TemplateHead))
             || !self.had_line_break()
                 && (self.sees(TokenKind::PlusPlus) || self.sees(TokenKind::MinusMinus))
     }
@@ -428,6 +430,39 @@ impl<O: Origin, I: Tokens> Cursor for Call<O, I> {
             Some(literal) => Ok(Some(literal)),
             None => Err(self.out_of_memory()),
         }
+    }
+
+    #[tactic(auto, using(crate::proofs::Taken::regex_none, crate::proofs::Taken::regex_some))]
+    fn regex(&mut self) -> PResult<Regex> {
+        if !self.is_regex_here() {
+            return Err(self.wanted(Wanted::Expression));
+        }
+        let Some(taken) = self.take()? else {
+            return Err(self.out_of_memory());
+        };
+        let TokenAndSpan { token, span, .. } = taken;
+        let Token::Regex { exp, flags } = token else {
+            return Err(self.out_of_memory());
+        };
+        Ok(Regex { span, exp, flags })
+    }
+
+    #[tactic(auto, using(crate::proofs::Taken::text_none, crate::proofs::Taken::text_some, crate::proofs::Taken::text_refused))]
+    fn template_text(&mut self, tagged: bool) -> PResult<TplElement> {
+        if !self.is_text_here() {
+            return Err(self.wanted(Wanted::Expression));
+        }
+        let Some(taken) = self.take()? else {
+            return Err(self.out_of_memory());
+        };
+        let TokenAndSpan { token, span, .. } = taken;
+        let Some(text) = text_of(token, span) else {
+            return Err(self.out_of_memory());
+        };
+        if !tagged && text.cooked.is_none() {
+            return Err(self.reject(SyntaxError::InvalidStrEscape, text.span));
+        }
+        Ok(text)
     }
 
     #[tactic(auto, using(crate::proofs::Taken::shebang_none, crate::proofs::Taken::shebang_some))]

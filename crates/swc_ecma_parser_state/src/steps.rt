@@ -11,7 +11,7 @@ ghost use Rattle.swc_ecma_parser_reader.specs.State as reader;
 ghost use Rattle.swc_ecma_parser_reader.specs.State.{Gives};
 ghost use Rattle.swc_ecma_parser_reader.specs.declared.mark.Mark.TheVariants as mark;
 ghost use Rattle.swc_ecma_parser_state.specs.FirstError as first;
-ghost use Rattle.swc_ecma_parser_cursor.specs.Literals.{literal_tree};
+ghost use Rattle.swc_ecma_parser_cursor.specs.Literals.{literal_tree, quasi_tree};
 ghost use Rattle.swc_ecma_parser_state.specs.Taken as taken;
 ghost use Rattle.swc_ecma_parser_cursor.specs.Wanted.{wanted_kind};
 ghost use Rattle.swc_ecma_parser_token.specs.Text.{word_text};
@@ -22,7 +22,7 @@ use swc_ecma_parser_common::{Atom, Span};
 use swc_ecma_parser_cursor::{Cursor, Literal, Wanted, missing};
 use swc_ecma_parser_error::{Error, PResult, SyntaxError};
 use swc_ecma_parser_input::Tokens;
-use swc_ecma_parser_model::{BigInt, Bool, Null, Number, Str};
+use swc_ecma_parser_model::{BigInt, Bool, Null, Number, Str, TplElement};
 use swc_ecma_parser_reader::Mark;
 use swc_ecma_parser_token::{Token, TokenAndSpan, Word};
 
@@ -200,7 +200,7 @@ impl<O: Origin, I: Tokens> Call<O, I> {
         ensures state { IfOk result (λ a. self.new ≡ self.old) }
         ensures err { IfErr result IsOutOfMemory }
     {
-        if let Word::Ident(text) = word {
+        if let Word::Ident(text) | Word::Escaped(text) = word {
             return Ok(text);
         }
         let alloc = *self.labels.allocator();
@@ -216,6 +216,29 @@ impl<O: Origin, I: Tokens> Call<O, I> {
         match self.buffer.cur() {
             None => false,
             Some(t) => is_literal(&t.token),
+        }
+    }
+
+    pub(crate) fn is_regex_here(&self) -> bool
+        ensures { result ≡ taken.regex_first self.now.at.left }
+    {
+        match self.buffer.cur() {
+            Some(
+                TokenAndSpan {
+                    token: Token::Regex { .. },
+                    ..
+                },
+            ) => true,
+            _ => false,
+        }
+    }
+
+    pub(crate) fn is_text_here(&self) -> bool
+        ensures { result ≡ taken.text_first self.now.at.left }
+    {
+        match self.buffer.cur() {
+            None => false,
+            Some(t) => is_text(&t.token),
         }
     }
 
@@ -247,6 +270,40 @@ fn is_literal(token: &Token) -> bool
             | Token::Word(Word::True)
             | Token::Word(Word::False)
     )
+}
+
+/// Whether a token is a text of a template.
+fn is_text(token: &Token) -> bool
+    ensures { result ≡ taken.is_text token.now }
+{
+    matches!(
+        token,
+        Token::Template { .. }
+            | Token::TemplateHead { .. }
+            | Token::TemplateMiddle { .. }
+            | Token::TemplateTail { .. }
+    )
+}
+
+/// The text of a template that a token is.
+pub(crate) fn text_of(token: Token, span: Span) -> Option<TplElement>
+    ensures { option_map quasi_tree result ≡ exprs.text_of span token }
+{
+    let (tail, raw, cooked) = match token {
+        Token::Template { raw, cooked } | Token::TemplateTail { raw, cooked } => (
+            true, raw, cooked,
+        ),
+        Token::TemplateHead { raw, cooked } | Token::TemplateMiddle { raw, cooked } => (
+            false, raw, cooked,
+        ),
+        _ => return None,
+    };
+    Some(TplElement {
+        span,
+        tail,
+        cooked,
+        raw,
+    })
 }
 
 /// The literal that a token is.

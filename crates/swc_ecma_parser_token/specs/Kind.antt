@@ -98,6 +98,7 @@ word_kind word.Null = kind.Null
 word_kind word.True = kind.True
 word_kind word.False = kind.False
 word_kind (word.Ident text) = kind.Ident
+word_kind (word.Escaped text) = kind.Escaped
 
 abbrev pub token_kind : Token → TokenKind
 token_kind (token.Word w) = word_kind w
@@ -119,6 +120,9 @@ token_kind token.Semi = kind.Semi
 token_kind token.Comma = kind.Comma
 token_kind token.Colon = kind.Colon
 token_kind token.QuestionMark = kind.QuestionMark
+token_kind token.QuestionDot = kind.QuestionDot
+token_kind token.NewDot = kind.NewDot
+token_kind token.HashIn = kind.HashIn
 token_kind token.PlusPlus = kind.PlusPlus
 token_kind token.MinusMinus = kind.MinusMinus
 token_kind token.Tilde = kind.Tilde
@@ -126,4 +130,9 @@ token_kind (token.Str value raw) = kind.Str
 token_kind (token.Num raw) = kind.Num
 token_kind (token.BigInt raw) = kind.BigInt
 token_kind (token.Shebang text) = kind.Shebang
+token_kind (token.Regex exp flags) = kind.Regex
+token_kind (token.Template raw cooked) = kind.Template
+token_kind (token.TemplateHead raw cooked) = kind.TemplateHead
+token_kind (token.TemplateMiddle raw cooked) = kind.TemplateMiddle
+token_kind (token.TemplateTail raw cooked) = kind.TemplateTail
 token_kind (token.Error e) = kind.Error

@@ -95,3 +95,4 @@ word_text word.Null = codes "null"
 word_text word.True = codes "true"
 word_text word.False = codes "false"
 word_text (word.Ident text) = text
+word_text (word.Escaped text) = text

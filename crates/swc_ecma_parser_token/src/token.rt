@@ -17,6 +17,9 @@ pub enum Word {
     False,
     /// Any other word, which it holds.
     Ident(Atom),
+    /// A word that is written with an escape, and what it says. It may say what a keyword says, and is none: so it is a name where
+    /// that word could be one, and a key.
+    Escaped(Atom),
 }
 
 /// A token: ECMA-262, "Lexical Grammar" (section 12). What is only a mark is of "Punctuators" (section 12.8); `#` begins a
@@ -57,6 +60,12 @@ pub enum Token {
     Colon,
     /// `?`
     QuestionMark,
+    /// `?.`, before no digit.
+    QuestionDot,
+    /// The `.` directly behind the keyword `new`.
+    NewDot,
+    /// `#` where an operand begins, outside the names of members.
+    HashIn,
     /// `++`
     PlusPlus,
     /// `--`
@@ -75,8 +84,33 @@ pub enum Token {
     BigInt { raw: Atom },
     /// The first line of a text that begins with `#!`, without these two: "Hashbang Comments" (section 12.5).
     Shebang(Atom),
+    /// What stands between the slashes of a regular expression, and its flags: "Regular Expression Literals" (section 12.9.5).
+    Regex { exp: Atom, flags: Atom },
+    /// A template with no substitution: "Template Literal Lexical Components" (section 12.9.6). `raw` is what stands between its
+    /// marks, with `\n` for each line break, and `cooked` what that says; it is `None` where an escape in it is none.
+    Template { raw: Atom, cooked: Option<Atom> },
+    /// The same from the first mark to `${`.
+    TemplateHead { raw: Atom, cooked: Option<Atom> },
+    /// The same from `}` to `${`.
+    TemplateMiddle { raw: Atom, cooked: Option<Atom> },
+    /// The same from `}` to the last mark.
+    TemplateTail { raw: Atom, cooked: Option<Atom> },
     /// Where no token could be read, and why.
     Error(Error),
+}
+
+ghost use Rattle.std.specs.Prelude.{◌≡◌, IfOk, IfErr};
+ghost use Rattle.swc_ecma_parser_error.specs.Kind.{fault_of, no_memory};
+
+/// An equal text, where there is one, or a fault of kind `OutOfMemory` at 0.
+fn copied(text: &Option<Atom>) -> PResult<Option<Atom>>
+    ensures ok { IfOk result (λ t. t ≡ text.now) }
+    ensures err { IfErr result (λ e. fault_of e ≡ no_memory) }
+{
+    match text {
+        Some(text) => Ok(Some(text.try_clone()?)),
+        None => Ok(None),
+    }
 }
 
 /// A token with its place. Its span is the bytes that spell it, as byte offsets.
@@ -104,6 +138,7 @@ impl Word {
             Word::True => TokenKind::True,
             Word::False => TokenKind::False,
             Word::Ident(_) => TokenKind::Ident,
+            Word::Escaped(_) => TokenKind::Escaped,
         }
     }
 
@@ -116,7 +151,7 @@ impl Word {
             Word::Null => "null",
             Word::True => "true",
             Word::False => "false",
-            Word::Ident(text) => text.as_str(),
+            Word::Ident(text) | Word::Escaped(text) => text.as_str(),
         }
     }
 
@@ -131,6 +166,7 @@ impl Word {
             Word::True => Word::True,
             Word::False => Word::False,
             Word::Ident(text) => Word::Ident(text.try_clone()?),
+            Word::Escaped(text) => Word::Escaped(text.try_clone()?),
         };
         Ok(copy)
     }
@@ -165,6 +201,9 @@ impl Token {
             Token::Comma => TokenKind::Comma,
             Token::Colon => TokenKind::Colon,
             Token::QuestionMark => TokenKind::QuestionMark,
+            Token::QuestionDot => TokenKind::QuestionDot,
+            Token::NewDot => TokenKind::NewDot,
+            Token::HashIn => TokenKind::HashIn,
             Token::PlusPlus => TokenKind::PlusPlus,
             Token::MinusMinus => TokenKind::MinusMinus,
             Token::Tilde => TokenKind::Tilde,
@@ -172,6 +211,11 @@ impl Token {
             Token::Num { .. } => TokenKind::Num,
             Token::BigInt { .. } => TokenKind::BigInt,
             Token::Shebang(_) => TokenKind::Shebang,
+            Token::Regex { .. } => TokenKind::Regex,
+            Token::Template { .. } => TokenKind::Template,
+            Token::TemplateHead { .. } => TokenKind::TemplateHead,
+            Token::TemplateMiddle { .. } => TokenKind::TemplateMiddle,
+            Token::TemplateTail { .. } => TokenKind::TemplateTail,
             Token::Error(_) => TokenKind::Error,
         }
     }
@@ -181,7 +225,7 @@ impl Token {
         ensures ok { IfOk result (λ t. t ≡ self.now) }
         ensures err { IfErr result (λ e. fault_of e ≡ no_memory) }
     {
-        let copy = match self {
+        Ok(match self {
             Token::Word(word) => Token::Word(word.try_clone()?),
             Token::BinOp(op) => Token::BinOp(*op),
             Token::AssignOp(op) => Token::AssignOp(*op),
@@ -201,6 +245,9 @@ impl Token {
             Token::Comma => Token::Comma,
             Token::Colon => Token::Colon,
             Token::QuestionMark => Token::QuestionMark,
+            Token::QuestionDot => Token::QuestionDot,
+            Token::NewDot => Token::NewDot,
+            Token::HashIn => Token::HashIn,
             Token::PlusPlus => Token::PlusPlus,
             Token::MinusMinus => Token::MinusMinus,
             Token::Tilde => Token::Tilde,
@@ -215,9 +262,28 @@ impl Token {
                 raw: raw.try_clone()?,
             },
             Token::Shebang(text) => Token::Shebang(text.try_clone()?),
+            Token::Regex { exp, flags } => Token::Regex {
+                exp: exp.try_clone()?,
+                flags: flags.try_clone()?,
+            },
+            Token::Template { raw, cooked } => Token::Template {
+                raw: raw.try_clone()?,
+                cooked: copied(cooked)?,
+            },
+            Token::TemplateHead { raw, cooked } => Token::TemplateHead {
+                raw: raw.try_clone()?,
+                cooked: copied(cooked)?,
+            },
+            Token::TemplateMiddle { raw, cooked } => Token::TemplateMiddle {
+                raw: raw.try_clone()?,
+                cooked: copied(cooked)?,
+            },
+            Token::TemplateTail { raw, cooked } => Token::TemplateTail {
+                raw: raw.try_clone()?,
+                cooked: copied(cooked)?,
+            },
             Token::Error(error) => Token::Error(error.try_clone()?),
-        };
-        Ok(copy)
+        })
     }
 }
 

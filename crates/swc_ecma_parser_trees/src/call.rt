@@ -1,13 +1,13 @@
-//! Members, calls and arrays.
+//! Members, calls, optional chains, arrays and templates.
 
 ghost use Rattle.std.specs.Prelude.{◌≡◌, IfOk, map};
 
 use crate::Trees;
 use std::alloc::{AllocError, Global};
 use swc_ecma_parser_common::Span;
-use swc_ecma_parser_model::{Ident, PrivateName};
+use swc_ecma_parser_model::{Ident, PrivateName, TplElement};
 
-/// Makes members, calls and arrays: ECMA-262, sections 13.2.4 and 13.3. Each function that answers a `Result` fails only
+/// Makes members, calls, optional chains, arrays and templates: ECMA-262, sections 13.2.4, 13.2.8 and 13.3. Each function that answers a `Result` fails only
 /// where memory runs out, and spans are in byte offsets.
 pub trait BuildsCall: Trees {
     ghost use Rattle.swc_ecma_parser_model.specs.Forms as forms;
@@ -129,6 +129,81 @@ pub trait BuildsCall: Trees {
     ) -> Result<Self::Expr, AllocError>
         ensures { IfOk result (λ x. Self.expr_of x
             ≡ tree.new span (Self.expr_of callee) (parts.part_of (λ xs. tree.listed (map arg_of xs.items)) args)) };
+
+    /// A member by its name, as a link of an optional chain: section 13.3.9. `optional` says that `?.` stands before it.
+    fn chain_member(
+        alloc: Global,
+        span: Span,
+        optional: bool,
+        obj: Self::Expr,
+        prop: Ident,
+    ) -> Result<Self::Expr, AllocError>
+        ensures { IfOk result (λ x. Self.expr_of x
+            ≡ tree.opt_chain span optional (tree.member span (Self.expr_of obj) (tree.ident prop.span prop.sym))) };
+
+    /// A member by its private name, as such a link.
+    fn chain_private_member(
+        alloc: Global,
+        span: Span,
+        optional: bool,
+        obj: Self::Expr,
+        prop: PrivateName,
+    ) -> Result<Self::Expr, AllocError>
+        ensures { IfOk result (λ x. Self.expr_of x
+            ≡ tree.opt_chain span optional
+            (tree.member span (Self.expr_of obj) (tree.private_name prop.span prop.id.span prop.id.sym))) };
+
+    /// A member by an expression in brackets, which stand at `brackets`, as such a link.
+    fn chain_computed_member(
+        alloc: Global,
+        span: Span,
+        optional: bool,
+        obj: Self::Expr,
+        brackets: Span,
+        prop: Self::Expr,
+    ) -> Result<Self::Expr, AllocError>
+        ensures { IfOk result (λ x. Self.expr_of x
+            ≡ tree.opt_chain span optional
+            (tree.member span (Self.expr_of obj) (tree.computed brackets (Self.expr_of prop)))) };
+
+    /// A call, as such a link.
+    fn chain_call(
+        alloc: Global,
+        span: Span,
+        optional: bool,
+        callee: Self::Expr,
+        args: Vec<Self::Arg>,
+    ) -> Result<Self::Expr, AllocError>
+        ensures { IfOk result (λ x. Self.expr_of x
+            ≡ tree.opt_chain span optional
+            (tree.call span (Self.expr_of callee) (tree.listed (map arg_of args.items)))) };
+
+    /// A template, with one text more than it has expressions: section 13.2.8. The span covers its marks.
+    fn template(
+        alloc: Global,
+        span: Span,
+        exprs: Vec<Self::Expr>,
+        quasis: Vec<TplElement>,
+    ) -> Result<Self::Expr, AllocError>
+        ensures { IfOk result (λ x. Self.expr_of x
+            ≡ tree.tpl span (tree.listed (map Self.expr_of exprs.items)) (tree.listed (map parts.quasi_of quasis.items))) };
+
+    /// A template behind its tag, which stands at `template`: section 13.3.11.
+    fn tagged_template(
+        alloc: Global,
+        span: Span,
+        tag: Self::Expr,
+        template: Span,
+        exprs: Vec<Self::Expr>,
+        quasis: Vec<TplElement>,
+    ) -> Result<Self::Expr, AllocError>
+        ensures { IfOk result (λ x. Self.expr_of x
+            ≡ tree.tagged_tpl span (Self.expr_of tag)
+            (tree.tpl template (tree.listed (map Self.expr_of exprs.items)) (tree.listed (map parts.quasi_of quasis.items)))) };
+
+    /// Whether it is an optional chain, with no parentheses.
+    fn is_chain(expr: &Self::Expr) -> bool
+        ensures { result ≡ forms.is_chain (Self.expr_of expr.now) };
 
     /// Whether it is a member, of a value or of `super`.
     fn is_member(expr: &Self::Expr) -> bool

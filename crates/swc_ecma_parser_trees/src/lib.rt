@@ -39,7 +39,7 @@ pub use script::BuildsScript;
 use std::alloc::{AllocError, Global};
 use std::marker::PhantomData;
 use swc_ecma_parser_common::Span;
-use swc_ecma_parser_model::{BigInt, Bool, Ident, Null, Number, Str};
+use swc_ecma_parser_model::{BigInt, Bool, Ident, Null, Number, Regex, Str};
 pub use variables::BuildsVariables;
 
 /// Where trees are made. A function value that answers a node takes this, since its arguments have to name the types of
@@ -143,6 +143,10 @@ pub trait BuildsExpr: Trees {
     /// A big integer.
     fn big_int(alloc: Global, big_int: BigInt) -> Result<Self::Expr, AllocError>
         ensures { IfOk result (λ x. Self.expr_of x ≡ tree.big_int big_int.span big_int.raw) };
+
+    /// A regular expression: ECMA-262, section 12.9.5.
+    fn regex(alloc: Global, regex: Regex) -> Result<Self::Expr, AllocError>
+        ensures { IfOk result (λ x. Self.expr_of x ≡ tree.regex regex.span regex.exp regex.flags) };
 
     /// An expression in parentheses; the span covers them.
     fn paren(alloc: Global, span: Span, expr: Self::Expr) -> Result<Self::Expr, AllocError>

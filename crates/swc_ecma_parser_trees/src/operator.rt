@@ -5,7 +5,9 @@ ghost use Rattle.std.specs.Prelude.{◌≡◌, true, IfOk, map};
 use crate::Trees;
 use std::alloc::{AllocError, Global};
 use swc_ecma_parser_common::Span;
-use swc_ecma_parser_model::{AssignOp, BinaryOp, Ident, MetaPropKind, UnaryOp, UpdateOp};
+use swc_ecma_parser_model::{
+    AssignOp, BinaryOp, Ident, MetaPropKind, PrivateName, UnaryOp, UpdateOp,
+};
 
 /// Makes expressions of operators and their operands: ECMA-262, sections 13.4 to 13.16. Each function that answers a
 /// `Result` fails only where memory runs out, and spans are in byte offsets.
@@ -26,6 +28,10 @@ pub trait BuildsOperator: Trees {
     /// What stands where no expression was read.
     fn invalid(alloc: Global, span: Span) -> Result<Self::Expr, AllocError>
         ensures { IfOk result (λ x. Self.expr_of x ≡ tree.invalid span) };
+
+    /// A private name as the left operand of `in`: section 13.10.
+    fn private_name(alloc: Global, name: PrivateName) -> Result<Self::Expr, AllocError>
+        ensures { IfOk result (λ x. Self.expr_of x ≡ tree.private_name name.span name.id.span name.id.sym) };
 
     /// An operator before its operand: section 13.5.
     fn unary(

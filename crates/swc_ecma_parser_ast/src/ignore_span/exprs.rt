@@ -1,11 +1,11 @@
 //! Expressions, calls and what is assigned to, compared but for their spans.
 
 ghost use Rattle.std.specs.Prelude.{◌≡◌, Bool};
-ghost use Rattle.swc_ecma_parser_ast.specs.Like.{any_span, like_assign_expr, like_assign_target, like_assign_target_pat, like_await_expr, like_bin_expr, like_call_expr, like_callee, like_cond_expr, like_expr, like_expr_or_spread, like_import, like_invalid, like_lit, like_member_expr, like_member_prop, like_meta_prop_expr, like_new_expr, like_paren_expr, like_seq_expr, like_simple_assign_target, like_super, like_super_prop, like_super_prop_expr, like_this_expr, like_unary_expr, like_update_expr, like_yield_expr};
+ghost use Rattle.swc_ecma_parser_ast.specs.Like.{any_span, like_assign_expr, like_assign_target, like_assign_target_pat, like_await_expr, like_bin_expr, like_call_expr, like_callee, like_cond_expr, like_expr, like_expr_or_spread, like_import, like_invalid, like_lit, like_member_expr, like_member_prop, like_meta_prop_expr, like_new_expr, like_opt_call, like_opt_chain_base, like_opt_chain_expr, like_paren_expr, like_seq_expr, like_simple_assign_target, like_super, like_super_prop, like_super_prop_expr, like_tagged_tpl, like_this_expr, like_tpl, like_unary_expr, like_update_expr, like_yield_expr};
 
 use crate::call::{
-    CallExpr, Callee, ExprOrSpread, Import, MemberExpr, MemberProp, NewExpr, Super, SuperProp,
-    SuperPropExpr,
+    CallExpr, Callee, ExprOrSpread, Import, MemberExpr, MemberProp, NewExpr, OptCall, OptChainBase,
+    OptChainExpr, Super, SuperProp, SuperPropExpr,
 };
 use crate::expr::{
     AwaitExpr, BinExpr, CondExpr, Expr, Invalid, Lit, MetaPropExpr, ParenExpr, SeqExpr, ThisExpr,
@@ -13,6 +13,7 @@ use crate::expr::{
 };
 use crate::ignore_span::EqIgnoreSpan;
 use crate::target::{AssignExpr, AssignTarget, AssignTargetPat, SimpleAssignTarget};
+use crate::template::{TaggedTpl, Tpl};
 
 impl<N: EqIgnoreSpan> EqIgnoreSpan for MemberExpr<N> {
     ghost like = { like_member_expr any_span N.like };
@@ -26,12 +27,7 @@ impl<N: EqIgnoreSpan> EqIgnoreSpan for MemberProp<N> {
     ghost like = { like_member_prop any_span N.like };
 
     fn eq_ignore_span(&self, other: &MemberProp<N>) -> bool {
-        match (self, other) {
-            (MemberProp::Ident(a), MemberProp::Ident(b)) => a.eq_ignore_span(b),
-            (MemberProp::PrivateName(a), MemberProp::PrivateName(b)) => a.eq_ignore_span(b),
-            (MemberProp::Computed(a), MemberProp::Computed(b)) => a.eq_ignore_span(b),
-            _ => false,
-        }
+        are_like_forms!(self, other, MemberProp: Ident PrivateName Computed)
     }
 }
 
@@ -47,11 +43,7 @@ impl<N: EqIgnoreSpan> EqIgnoreSpan for SuperProp<N> {
     ghost like = { like_super_prop any_span N.like };
 
     fn eq_ignore_span(&self, other: &SuperProp<N>) -> bool {
-        match (self, other) {
-            (SuperProp::Ident(a), SuperProp::Ident(b)) => a.eq_ignore_span(b),
-            (SuperProp::Computed(a), SuperProp::Computed(b)) => a.eq_ignore_span(b),
-            _ => false,
-        }
+        are_like_forms!(self, other, SuperProp: Ident Computed)
     }
 }
 
@@ -83,12 +75,7 @@ impl<N: EqIgnoreSpan> EqIgnoreSpan for Callee<N> {
     ghost like = { like_callee any_span N.like };
 
     fn eq_ignore_span(&self, other: &Callee<N>) -> bool {
-        match (self, other) {
-            (Callee::Super(a), Callee::Super(b)) => a.eq_ignore_span(b),
-            (Callee::Import(a), Callee::Import(b)) => a.eq_ignore_span(b),
-            (Callee::Expr(a), Callee::Expr(b)) => a.eq_ignore_span(b),
-            _ => false,
-        }
+        are_like_forms!(self, other, Callee: Super Import Expr)
     }
 }
 
@@ -97,6 +84,46 @@ impl<N: EqIgnoreSpan> EqIgnoreSpan for NewExpr<N> {
 
     fn eq_ignore_span(&self, other: &NewExpr<N>) -> bool {
         self.callee.eq_ignore_span(&other.callee) && self.args.eq_ignore_span(&other.args)
+    }
+}
+
+impl<N: EqIgnoreSpan> EqIgnoreSpan for OptChainExpr<N> {
+    ghost like = { like_opt_chain_expr any_span N.like };
+
+    fn eq_ignore_span(&self, other: &OptChainExpr<N>) -> bool {
+        self.optional.eq_ignore_span(&other.optional) && self.base.eq_ignore_span(&other.base)
+    }
+}
+
+impl<N: EqIgnoreSpan> EqIgnoreSpan for OptChainBase<N> {
+    ghost like = { like_opt_chain_base any_span N.like };
+
+    fn eq_ignore_span(&self, other: &OptChainBase<N>) -> bool {
+        are_like_forms!(self, other, OptChainBase: Member Call)
+    }
+}
+
+impl<N: EqIgnoreSpan> EqIgnoreSpan for OptCall<N> {
+    ghost like = { like_opt_call any_span N.like };
+
+    fn eq_ignore_span(&self, other: &OptCall<N>) -> bool {
+        self.callee.eq_ignore_span(&other.callee) && self.args.eq_ignore_span(&other.args)
+    }
+}
+
+impl<N: EqIgnoreSpan> EqIgnoreSpan for Tpl<N> {
+    ghost like = { like_tpl any_span N.like };
+
+    fn eq_ignore_span(&self, other: &Tpl<N>) -> bool {
+        self.exprs.eq_ignore_span(&other.exprs) && self.quasis.eq_ignore_span(&other.quasis)
+    }
+}
+
+impl<N: EqIgnoreSpan> EqIgnoreSpan for TaggedTpl<N> {
+    ghost like = { like_tagged_tpl any_span N.like };
+
+    fn eq_ignore_span(&self, other: &TaggedTpl<N>) -> bool {
+        self.tag.eq_ignore_span(&other.tag) && self.tpl.eq_ignore_span(&other.tpl)
     }
 }
 
@@ -112,32 +139,9 @@ impl<N: EqIgnoreSpan> EqIgnoreSpan for Expr<N> {
     ghost like = { like_expr any_span N.like };
 
     fn eq_ignore_span(&self, other: &Expr<N>) -> bool {
-        match (self, other) {
-            (Expr::This(a), Expr::This(b)) => a.eq_ignore_span(b),
-            (Expr::Array(a), Expr::Array(b)) => a.eq_ignore_span(b),
-            (Expr::Object(a), Expr::Object(b)) => a.eq_ignore_span(b),
-            (Expr::Fn(a), Expr::Fn(b)) => a.eq_ignore_span(b),
-            (Expr::Unary(a), Expr::Unary(b)) => a.eq_ignore_span(b),
-            (Expr::Update(a), Expr::Update(b)) => a.eq_ignore_span(b),
-            (Expr::Bin(a), Expr::Bin(b)) => a.eq_ignore_span(b),
-            (Expr::Assign(a), Expr::Assign(b)) => a.eq_ignore_span(b),
-            (Expr::Member(a), Expr::Member(b)) => a.eq_ignore_span(b),
-            (Expr::SuperProp(a), Expr::SuperProp(b)) => a.eq_ignore_span(b),
-            (Expr::Cond(a), Expr::Cond(b)) => a.eq_ignore_span(b),
-            (Expr::Call(a), Expr::Call(b)) => a.eq_ignore_span(b),
-            (Expr::New(a), Expr::New(b)) => a.eq_ignore_span(b),
-            (Expr::Seq(a), Expr::Seq(b)) => a.eq_ignore_span(b),
-            (Expr::Ident(a), Expr::Ident(b)) => a.eq_ignore_span(b),
-            (Expr::Lit(a), Expr::Lit(b)) => a.eq_ignore_span(b),
-            (Expr::Arrow(a), Expr::Arrow(b)) => a.eq_ignore_span(b),
-            (Expr::Class(a), Expr::Class(b)) => a.eq_ignore_span(b),
-            (Expr::Yield(a), Expr::Yield(b)) => a.eq_ignore_span(b),
-            (Expr::MetaProp(a), Expr::MetaProp(b)) => a.eq_ignore_span(b),
-            (Expr::Await(a), Expr::Await(b)) => a.eq_ignore_span(b),
-            (Expr::Paren(a), Expr::Paren(b)) => a.eq_ignore_span(b),
-            (Expr::Invalid(a), Expr::Invalid(b)) => a.eq_ignore_span(b),
-            _ => false,
-        }
+        are_like_forms!(self, other, Expr: This Array Object Fn Unary Update Bin Assign Member
+            SuperProp Cond Call New Seq Ident Lit Arrow Class Yield MetaProp Await Paren Tpl
+            TaggedTpl OptChain PrivateName Invalid)
     }
 }
 
@@ -145,14 +149,7 @@ impl EqIgnoreSpan for Lit {
     ghost like = { like_lit any_span };
 
     fn eq_ignore_span(&self, other: &Lit) -> bool {
-        match (self, other) {
-            (Lit::Str(a), Lit::Str(b)) => a.eq_ignore_span(b),
-            (Lit::Bool(a), Lit::Bool(b)) => a.eq_ignore_span(b),
-            (Lit::Null(a), Lit::Null(b)) => a.eq_ignore_span(b),
-            (Lit::Num(a), Lit::Num(b)) => a.eq_ignore_span(b),
-            (Lit::BigInt(a), Lit::BigInt(b)) => a.eq_ignore_span(b),
-            _ => false,
-        }
+        are_like_forms!(self, other, Lit: Str Bool Null Num BigInt Regex)
     }
 }
 
@@ -264,11 +261,7 @@ impl<N: EqIgnoreSpan> EqIgnoreSpan for AssignTarget<N> {
     ghost like = { like_assign_target any_span N.like };
 
     fn eq_ignore_span(&self, other: &AssignTarget<N>) -> bool {
-        match (self, other) {
-            (AssignTarget::Simple(a), AssignTarget::Simple(b)) => a.eq_ignore_span(b),
-            (AssignTarget::Pat(a), AssignTarget::Pat(b)) => a.eq_ignore_span(b),
-            _ => false,
-        }
+        are_like_forms!(self, other, AssignTarget: Simple Pat)
     }
 }
 
@@ -276,11 +269,7 @@ impl<N: EqIgnoreSpan> EqIgnoreSpan for AssignTargetPat<N> {
     ghost like = { like_assign_target_pat any_span N.like };
 
     fn eq_ignore_span(&self, other: &AssignTargetPat<N>) -> bool {
-        match (self, other) {
-            (AssignTargetPat::Array(a), AssignTargetPat::Array(b)) => a.eq_ignore_span(b),
-            (AssignTargetPat::Object(a), AssignTargetPat::Object(b)) => a.eq_ignore_span(b),
-            _ => false,
-        }
+        are_like_forms!(self, other, AssignTargetPat: Array Object)
     }
 }
 
@@ -288,13 +277,6 @@ impl<N: EqIgnoreSpan> EqIgnoreSpan for SimpleAssignTarget<N> {
     ghost like = { like_simple_assign_target any_span N.like };
 
     fn eq_ignore_span(&self, other: &SimpleAssignTarget<N>) -> bool {
-        match (self, other) {
-            (SimpleAssignTarget::Ident(a), SimpleAssignTarget::Ident(b)) => a.eq_ignore_span(b),
-            (SimpleAssignTarget::Member(a), SimpleAssignTarget::Member(b)) => a.eq_ignore_span(b),
-            (SimpleAssignTarget::SuperProp(a), SimpleAssignTarget::SuperProp(b)) =>
-                a.eq_ignore_span(b),
-            (SimpleAssignTarget::Paren(a), SimpleAssignTarget::Paren(b)) => a.eq_ignore_span(b),
-            _ => false,
-        }
+        are_like_forms!(self, other, SimpleAssignTarget: Ident Member SuperProp Paren)
     }
 }

@@ -41,17 +41,8 @@ impl<N: EqIgnoreSpan> EqIgnoreSpan for ClassMember<N> {
     ghost like = { like_class_member any_span N.like };
 
     fn eq_ignore_span(&self, other: &ClassMember<N>) -> bool {
-        match (self, other) {
-            (ClassMember::Constructor(a), ClassMember::Constructor(b)) => a.eq_ignore_span(b),
-            (ClassMember::Method(a), ClassMember::Method(b)) => a.eq_ignore_span(b),
-            (ClassMember::PrivateMethod(a), ClassMember::PrivateMethod(b)) => a.eq_ignore_span(b),
-            (ClassMember::ClassProp(a), ClassMember::ClassProp(b)) => a.eq_ignore_span(b),
-            (ClassMember::PrivateProp(a), ClassMember::PrivateProp(b)) => a.eq_ignore_span(b),
-            (ClassMember::Empty(a), ClassMember::Empty(b)) => a.eq_ignore_span(b),
-            (ClassMember::StaticBlock(a), ClassMember::StaticBlock(b)) => a.eq_ignore_span(b),
-            (ClassMember::AutoAccessor(a), ClassMember::AutoAccessor(b)) => a.eq_ignore_span(b),
-            _ => false,
-        }
+        are_like_forms!(self, other, ClassMember: Constructor Method PrivateMethod ClassProp
+            PrivateProp Empty StaticBlock AutoAccessor)
     }
 }
 
@@ -147,11 +138,7 @@ impl<N: EqIgnoreSpan> EqIgnoreSpan for BlockStmtOrExpr<N> {
     ghost like = { like_block_stmt_or_expr any_span N.like };
 
     fn eq_ignore_span(&self, other: &BlockStmtOrExpr<N>) -> bool {
-        match (self, other) {
-            (BlockStmtOrExpr::BlockStmt(a), BlockStmtOrExpr::BlockStmt(b)) => a.eq_ignore_span(b),
-            (BlockStmtOrExpr::Expr(a), BlockStmtOrExpr::Expr(b)) => a.eq_ignore_span(b),
-            _ => false,
-        }
+        are_like_forms!(self, other, BlockStmtOrExpr: BlockStmt Expr)
     }
 }
 
@@ -200,11 +187,7 @@ impl<N: EqIgnoreSpan> EqIgnoreSpan for Key<N> {
     ghost like = { like_key any_span N.like };
 
     fn eq_ignore_span(&self, other: &Key<N>) -> bool {
-        match (self, other) {
-            (Key::Private(a), Key::Private(b)) => a.eq_ignore_span(b),
-            (Key::Public(a), Key::Public(b)) => a.eq_ignore_span(b),
-            _ => false,
-        }
+        are_like_forms!(self, other, Key: Private Public)
     }
 }
 

@@ -46,11 +46,7 @@ impl<N: EqIgnoreSpan> EqIgnoreSpan for DefaultDecl<N> {
     ghost like = { like_default_decl any_span N.like };
 
     fn eq_ignore_span(&self, other: &DefaultDecl<N>) -> bool {
-        match (self, other) {
-            (DefaultDecl::Class(a), DefaultDecl::Class(b)) => a.eq_ignore_span(b),
-            (DefaultDecl::Fn(a), DefaultDecl::Fn(b)) => a.eq_ignore_span(b),
-            _ => false,
-        }
+        are_like_forms!(self, other, DefaultDecl: Class Fn)
     }
 }
 
@@ -74,12 +70,7 @@ impl EqIgnoreSpan for ExportSpecifier {
     ghost like = { like_export_specifier any_span };
 
     fn eq_ignore_span(&self, other: &ExportSpecifier) -> bool {
-        match (self, other) {
-            (ExportSpecifier::Namespace(a), ExportSpecifier::Namespace(b)) => a.eq_ignore_span(b),
-            (ExportSpecifier::Default(a), ExportSpecifier::Default(b)) => a.eq_ignore_span(b),
-            (ExportSpecifier::Named(a), ExportSpecifier::Named(b)) => a.eq_ignore_span(b),
-            _ => false,
-        }
+        are_like_forms!(self, other, ExportSpecifier: Namespace Default Named)
     }
 }
 
@@ -122,12 +113,7 @@ impl EqIgnoreSpan for ImportSpecifier {
     ghost like = { like_import_specifier any_span };
 
     fn eq_ignore_span(&self, other: &ImportSpecifier) -> bool {
-        match (self, other) {
-            (ImportSpecifier::Named(a), ImportSpecifier::Named(b)) => a.eq_ignore_span(b),
-            (ImportSpecifier::Default(a), ImportSpecifier::Default(b)) => a.eq_ignore_span(b),
-            (ImportSpecifier::Namespace(a), ImportSpecifier::Namespace(b)) => a.eq_ignore_span(b),
-            _ => false,
-        }
+        are_like_forms!(self, other, ImportSpecifier: Named Default Namespace)
     }
 }
 
@@ -159,11 +145,7 @@ impl EqIgnoreSpan for ModuleExportName {
     ghost like = { like_module_export_name any_span };
 
     fn eq_ignore_span(&self, other: &ModuleExportName) -> bool {
-        match (self, other) {
-            (ModuleExportName::Ident(a), ModuleExportName::Ident(b)) => a.eq_ignore_span(b),
-            (ModuleExportName::Str(a), ModuleExportName::Str(b)) => a.eq_ignore_span(b),
-            _ => false,
-        }
+        are_like_forms!(self, other, ModuleExportName: Ident Str)
     }
 }
 
@@ -171,11 +153,7 @@ impl<N: EqIgnoreSpan> EqIgnoreSpan for Program<N> {
     ghost like = { like_program any_span N.like };
 
     fn eq_ignore_span(&self, other: &Program<N>) -> bool {
-        match (self, other) {
-            (Program::Module(a), Program::Module(b)) => a.eq_ignore_span(b),
-            (Program::Script(a), Program::Script(b)) => a.eq_ignore_span(b),
-            _ => false,
-        }
+        are_like_forms!(self, other, Program: Module Script)
     }
 }
 
@@ -191,11 +169,7 @@ impl<N: EqIgnoreSpan> EqIgnoreSpan for ModuleItem<N> {
     ghost like = { like_module_item any_span N.like };
 
     fn eq_ignore_span(&self, other: &ModuleItem<N>) -> bool {
-        match (self, other) {
-            (ModuleItem::ModuleDecl(a), ModuleItem::ModuleDecl(b)) => a.eq_ignore_span(b),
-            (ModuleItem::Stmt(a), ModuleItem::Stmt(b)) => a.eq_ignore_span(b),
-            _ => false,
-        }
+        are_like_forms!(self, other, ModuleItem: ModuleDecl Stmt)
     }
 }
 
@@ -203,17 +177,8 @@ impl<N: EqIgnoreSpan> EqIgnoreSpan for ModuleDecl<N> {
     ghost like = { like_module_decl any_span N.like };
 
     fn eq_ignore_span(&self, other: &ModuleDecl<N>) -> bool {
-        match (self, other) {
-            (ModuleDecl::Import(a), ModuleDecl::Import(b)) => a.eq_ignore_span(b),
-            (ModuleDecl::ExportDecl(a), ModuleDecl::ExportDecl(b)) => a.eq_ignore_span(b),
-            (ModuleDecl::ExportNamed(a), ModuleDecl::ExportNamed(b)) => a.eq_ignore_span(b),
-            (ModuleDecl::ExportDefaultDecl(a), ModuleDecl::ExportDefaultDecl(b)) =>
-                a.eq_ignore_span(b),
-            (ModuleDecl::ExportDefaultExpr(a), ModuleDecl::ExportDefaultExpr(b)) =>
-                a.eq_ignore_span(b),
-            (ModuleDecl::ExportAll(a), ModuleDecl::ExportAll(b)) => a.eq_ignore_span(b),
-            _ => false,
-        }
+        are_like_forms!(self, other, ModuleDecl: Import ExportDecl ExportNamed ExportDefaultDecl
+            ExportDefaultExpr ExportAll)
     }
 }
 

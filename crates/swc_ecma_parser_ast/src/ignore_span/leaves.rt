@@ -3,13 +3,13 @@
 ghost use Rattle.std.specs.Prelude.{◌≡◌, Bool};
 ghost use Rattle.swc_ecma_parser_model.specs.Leaf.{put_assign, put_binary, put_kind, put_meta, put_method, put_phase, put_unary, put_update};
 ghost use Rattle.swc_ecma_parser_model.specs.Same.{alike};
-ghost use Rattle.swc_ecma_parser_ast.specs.Like.{any_span, like_big_int, like_bool, like_flag, like_ident, like_null, like_number, like_private_name, like_str, like_text};
+ghost use Rattle.swc_ecma_parser_ast.specs.Like.{any_span, like_big_int, like_bool, like_flag, like_ident, like_null, like_number, like_private_name, like_regex, like_str, like_text, like_tpl_element};
 
 use crate::ignore_span::EqIgnoreSpan;
 use swc_ecma_parser_common::{Atom, Span};
 use swc_ecma_parser_model::{
     AssignOp, BigInt, BinaryOp, Bool, Ident, ImportPhase, MetaPropKind, MethodKind, Null, Number,
-    PrivateName, Str, UnaryOp, UpdateOp, VarDeclKind,
+    PrivateName, Regex, Str, TplElement, UnaryOp, UpdateOp, VarDeclKind,
 };
 
 impl EqIgnoreSpan for Span {
@@ -145,6 +145,24 @@ impl EqIgnoreSpan for BigInt {
 
     fn eq_ignore_span(&self, other: &BigInt) -> bool {
         self.raw.eq_ignore_span(&other.raw)
+    }
+}
+
+impl EqIgnoreSpan for Regex {
+    ghost like = { like_regex any_span };
+
+    fn eq_ignore_span(&self, other: &Regex) -> bool {
+        self.exp.eq_ignore_span(&other.exp) && self.flags.eq_ignore_span(&other.flags)
+    }
+}
+
+impl EqIgnoreSpan for TplElement {
+    ghost like = { like_tpl_element any_span };
+
+    fn eq_ignore_span(&self, other: &TplElement) -> bool {
+        self.tail.eq_ignore_span(&other.tail)
+            && self.cooked.eq_ignore_span(&other.cooked)
+            && self.raw.eq_ignore_span(&other.raw)
     }
 }
 

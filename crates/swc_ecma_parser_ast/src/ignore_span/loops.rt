@@ -11,13 +11,7 @@ impl<N: EqIgnoreSpan> EqIgnoreSpan for Decl<N> {
     ghost like = { like_decl any_span N.like };
 
     fn eq_ignore_span(&self, other: &Decl<N>) -> bool {
-        match (self, other) {
-            (Decl::Class(a), Decl::Class(b)) => a.eq_ignore_span(b),
-            (Decl::Fn(a), Decl::Fn(b)) => a.eq_ignore_span(b),
-            (Decl::Var(a), Decl::Var(b)) => a.eq_ignore_span(b),
-            (Decl::Using(a), Decl::Using(b)) => a.eq_ignore_span(b),
-            _ => false,
-        }
+        are_like_forms!(self, other, Decl: Class Fn Var Using)
     }
 }
 
@@ -76,11 +70,7 @@ impl<N: EqIgnoreSpan> EqIgnoreSpan for VarDeclOrExpr<N> {
     ghost like = { like_var_decl_or_expr any_span N.like };
 
     fn eq_ignore_span(&self, other: &VarDeclOrExpr<N>) -> bool {
-        match (self, other) {
-            (VarDeclOrExpr::VarDecl(a), VarDeclOrExpr::VarDecl(b)) => a.eq_ignore_span(b),
-            (VarDeclOrExpr::Expr(a), VarDeclOrExpr::Expr(b)) => a.eq_ignore_span(b),
-            _ => false,
-        }
+        are_like_forms!(self, other, VarDeclOrExpr: VarDecl Expr)
     }
 }
 
@@ -109,11 +99,6 @@ impl<N: EqIgnoreSpan> EqIgnoreSpan for ForHead<N> {
     ghost like = { like_for_head any_span N.like };
 
     fn eq_ignore_span(&self, other: &ForHead<N>) -> bool {
-        match (self, other) {
-            (ForHead::VarDecl(a), ForHead::VarDecl(b)) => a.eq_ignore_span(b),
-            (ForHead::UsingDecl(a), ForHead::UsingDecl(b)) => a.eq_ignore_span(b),
-            (ForHead::Pat(a), ForHead::Pat(b)) => a.eq_ignore_span(b),
-            _ => false,
-        }
+        are_like_forms!(self, other, ForHead: VarDecl UsingDecl Pat)
     }
 }

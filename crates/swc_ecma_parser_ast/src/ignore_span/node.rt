@@ -7,12 +7,13 @@ ghost use Rattle.swc_ecma_parser_ast.specs.Nodes.{view_any};
 ghost use Rattle.swc_ecma_parser_ast.specs.Unspanned.{like_held};
 
 use crate::branch::IfStmt;
-use crate::call::{CallExpr, MemberExpr};
+use crate::call::{CallExpr, MemberExpr, OptCall, OptChainBase, OptChainExpr};
 use crate::expr::{BinExpr, Expr};
 use crate::ignore_span::EqIgnoreSpan;
 use crate::node::{Any, ExprBox, Node, PatBox, StmtBox, StmtList};
 use crate::pat::Pat;
 use crate::stmt::Stmt;
+use crate::template::TaggedTpl;
 
 impl<N: EqIgnoreSpan> EqIgnoreSpan for ExprBox<N> {
     ghost like = { λ a b. N.like a.node b.node };
@@ -152,10 +153,27 @@ fn are_like_links(a: &Any, b: &Any) -> bool
 fn are_like_linked_exprs<N: EqIgnoreSpan>(a: &Box<Expr<N>>, b: &Box<Expr<N>>) -> bool
     ensures { result ≡ chain.like_exprs any_span N.like a.now.value b.now.value }
 {
-    match (&**a, &**b) {
-        (Expr::Bin(x), Expr::Bin(y)) => are_like_bins(x, y),
-        (Expr::Member(x), Expr::Member(y)) => are_like_members(x, y),
-        (Expr::Call(x), Expr::Call(y)) => are_like_calls(x, y),
+    match &**a {
+        Expr::Bin(x) => match &**b {
+            Expr::Bin(y) => are_like_bins(x, y),
+            _ => false,
+        },
+        Expr::Member(x) => match &**b {
+            Expr::Member(y) => are_like_members(x, y),
+            _ => false,
+        },
+        Expr::Call(x) => match &**b {
+            Expr::Call(y) => are_like_calls(x, y),
+            _ => false,
+        },
+        Expr::TaggedTpl(x) => match &**b {
+            Expr::TaggedTpl(y) => are_like_tagged(x, y),
+            _ => false,
+        },
+        Expr::OptChain(x) => match &**b {
+            Expr::OptChain(y) => are_like_opt_chains(x, y),
+            _ => false,
+        },
         _ => false,
     }
 }
@@ -187,6 +205,43 @@ fn are_like_members<N: EqIgnoreSpan>(a: &MemberExpr<N>, b: &MemberExpr<N>) -> bo
 /// Whether two calls are alike but for what they call.
 fn are_like_calls<N: EqIgnoreSpan>(a: &CallExpr<N>, b: &CallExpr<N>) -> bool
     ensures { result ≡ chain.like_calls any_span N.like a.now b.now }
+{
+    a.args.eq_ignore_span(&b.args)
+}
+
+/// Whether two templates are alike but for their tags.
+fn are_like_tagged<N: EqIgnoreSpan>(a: &TaggedTpl<N>, b: &TaggedTpl<N>) -> bool
+    ensures { result ≡ chain.like_tagged any_span N.like a.now b.now }
+{
+    a.tpl.eq_ignore_span(&b.tpl)
+}
+
+/// Whether two links of optional chains are alike but for what they are links of.
+fn are_like_opt_chains<N: EqIgnoreSpan>(a: &OptChainExpr<N>, b: &OptChainExpr<N>) -> bool
+    ensures { result ≡ chain.like_opt_chains any_span N.like a.now b.now }
+{
+    a.optional.eq_ignore_span(&b.optional) && are_like_bases(&a.base, &b.base)
+}
+
+/// As `are_like_opt_chains`.
+fn are_like_bases<N: EqIgnoreSpan>(a: &OptChainBase<N>, b: &OptChainBase<N>) -> bool
+    ensures { result ≡ chain.like_bases any_span N.like a.now b.now }
+{
+    match a {
+        OptChainBase::Member(x) => match b {
+            OptChainBase::Member(y) => are_like_members(x, y),
+            OptChainBase::Call(_) => false,
+        },
+        OptChainBase::Call(x) => match b {
+            OptChainBase::Call(y) => are_like_opt_calls(x, y),
+            OptChainBase::Member(_) => false,
+        },
+    }
+}
+
+/// Whether two calls are alike but for what they call.
+fn are_like_opt_calls<N: EqIgnoreSpan>(a: &OptCall<N>, b: &OptCall<N>) -> bool
+    ensures { result ≡ chain.like_opt_calls any_span N.like a.now b.now }
 {
     a.args.eq_ignore_span(&b.args)
 }

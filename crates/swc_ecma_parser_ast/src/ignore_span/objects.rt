@@ -33,11 +33,7 @@ impl<N: EqIgnoreSpan> EqIgnoreSpan for PropOrSpread<N> {
     ghost like = { like_prop_or_spread any_span N.like };
 
     fn eq_ignore_span(&self, other: &PropOrSpread<N>) -> bool {
-        match (self, other) {
-            (PropOrSpread::Spread(a), PropOrSpread::Spread(b)) => a.eq_ignore_span(b),
-            (PropOrSpread::Prop(a), PropOrSpread::Prop(b)) => a.eq_ignore_span(b),
-            _ => false,
-        }
+        are_like_forms!(self, other, PropOrSpread: Spread Prop)
     }
 }
 
@@ -53,15 +49,7 @@ impl<N: EqIgnoreSpan> EqIgnoreSpan for Prop<N> {
     ghost like = { like_prop any_span N.like };
 
     fn eq_ignore_span(&self, other: &Prop<N>) -> bool {
-        match (self, other) {
-            (Prop::Shorthand(a), Prop::Shorthand(b)) => a.eq_ignore_span(b),
-            (Prop::KeyValue(a), Prop::KeyValue(b)) => a.eq_ignore_span(b),
-            (Prop::Assign(a), Prop::Assign(b)) => a.eq_ignore_span(b),
-            (Prop::Getter(a), Prop::Getter(b)) => a.eq_ignore_span(b),
-            (Prop::Setter(a), Prop::Setter(b)) => a.eq_ignore_span(b),
-            (Prop::Method(a), Prop::Method(b)) => a.eq_ignore_span(b),
-            _ => false,
-        }
+        are_like_forms!(self, other, Prop: Shorthand KeyValue Assign Getter Setter Method)
     }
 }
 
@@ -85,14 +73,7 @@ impl<N: EqIgnoreSpan> EqIgnoreSpan for PropName<N> {
     ghost like = { like_prop_name any_span N.like };
 
     fn eq_ignore_span(&self, other: &PropName<N>) -> bool {
-        match (self, other) {
-            (PropName::Ident(a), PropName::Ident(b)) => a.eq_ignore_span(b),
-            (PropName::Str(a), PropName::Str(b)) => a.eq_ignore_span(b),
-            (PropName::Num(a), PropName::Num(b)) => a.eq_ignore_span(b),
-            (PropName::BigInt(a), PropName::BigInt(b)) => a.eq_ignore_span(b),
-            (PropName::Computed(a), PropName::Computed(b)) => a.eq_ignore_span(b),
-            _ => false,
-        }
+        are_like_forms!(self, other, PropName: Ident Str Num BigInt Computed)
     }
 }
 
@@ -134,16 +115,7 @@ impl<N: EqIgnoreSpan> EqIgnoreSpan for Pat<N> {
     ghost like = { like_pat any_span N.like };
 
     fn eq_ignore_span(&self, other: &Pat<N>) -> bool {
-        match (self, other) {
-            (Pat::Ident(a), Pat::Ident(b)) => a.eq_ignore_span(b),
-            (Pat::Array(a), Pat::Array(b)) => a.eq_ignore_span(b),
-            (Pat::Rest(a), Pat::Rest(b)) => a.eq_ignore_span(b),
-            (Pat::Object(a), Pat::Object(b)) => a.eq_ignore_span(b),
-            (Pat::Assign(a), Pat::Assign(b)) => a.eq_ignore_span(b),
-            (Pat::Invalid(a), Pat::Invalid(b)) => a.eq_ignore_span(b),
-            (Pat::Expr(a), Pat::Expr(b)) => a.eq_ignore_span(b),
-            _ => false,
-        }
+        are_like_forms!(self, other, Pat: Ident Array Rest Object Assign Invalid Expr)
     }
 }
 
@@ -175,12 +147,7 @@ impl<N: EqIgnoreSpan> EqIgnoreSpan for ObjectPatProp<N> {
     ghost like = { like_object_pat_prop any_span N.like };
 
     fn eq_ignore_span(&self, other: &ObjectPatProp<N>) -> bool {
-        match (self, other) {
-            (ObjectPatProp::KeyValue(a), ObjectPatProp::KeyValue(b)) => a.eq_ignore_span(b),
-            (ObjectPatProp::Assign(a), ObjectPatProp::Assign(b)) => a.eq_ignore_span(b),
-            (ObjectPatProp::Rest(a), ObjectPatProp::Rest(b)) => a.eq_ignore_span(b),
-            _ => false,
-        }
+        are_like_forms!(self, other, ObjectPatProp: KeyValue Assign Rest)
     }
 }
 

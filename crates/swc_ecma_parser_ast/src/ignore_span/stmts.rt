@@ -67,28 +67,8 @@ impl<N: EqIgnoreSpan> EqIgnoreSpan for Stmt<N> {
     ghost like = { like_stmt any_span N.like };
 
     fn eq_ignore_span(&self, other: &Stmt<N>) -> bool {
-        match (self, other) {
-            (Stmt::Block(a), Stmt::Block(b)) => a.eq_ignore_span(b),
-            (Stmt::Empty(a), Stmt::Empty(b)) => a.eq_ignore_span(b),
-            (Stmt::Debugger(a), Stmt::Debugger(b)) => a.eq_ignore_span(b),
-            (Stmt::With(a), Stmt::With(b)) => a.eq_ignore_span(b),
-            (Stmt::Return(a), Stmt::Return(b)) => a.eq_ignore_span(b),
-            (Stmt::Labeled(a), Stmt::Labeled(b)) => a.eq_ignore_span(b),
-            (Stmt::Break(a), Stmt::Break(b)) => a.eq_ignore_span(b),
-            (Stmt::Continue(a), Stmt::Continue(b)) => a.eq_ignore_span(b),
-            (Stmt::If(a), Stmt::If(b)) => a.eq_ignore_span(b),
-            (Stmt::Switch(a), Stmt::Switch(b)) => a.eq_ignore_span(b),
-            (Stmt::Throw(a), Stmt::Throw(b)) => a.eq_ignore_span(b),
-            (Stmt::Try(a), Stmt::Try(b)) => a.eq_ignore_span(b),
-            (Stmt::While(a), Stmt::While(b)) => a.eq_ignore_span(b),
-            (Stmt::DoWhile(a), Stmt::DoWhile(b)) => a.eq_ignore_span(b),
-            (Stmt::For(a), Stmt::For(b)) => a.eq_ignore_span(b),
-            (Stmt::ForIn(a), Stmt::ForIn(b)) => a.eq_ignore_span(b),
-            (Stmt::ForOf(a), Stmt::ForOf(b)) => a.eq_ignore_span(b),
-            (Stmt::Decl(a), Stmt::Decl(b)) => a.eq_ignore_span(b),
-            (Stmt::Expr(a), Stmt::Expr(b)) => a.eq_ignore_span(b),
-            _ => false,
-        }
+        are_like_forms!(self, other, Stmt: Block Empty Debugger With Return Labeled Break Continue
+            If Switch Throw Try While DoWhile For ForIn ForOf Decl Expr)
     }
 }
 

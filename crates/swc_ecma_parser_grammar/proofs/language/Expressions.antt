@@ -1,5 +1,5 @@
 -- Expressions and patterns: what they ask of their parts, and that they are one deeper than these.
-use Rattle.std.proofs.Common.{◌≡◌, ℕ, suc, max, Bool, true, List, [], ◌∷◌, refl, ap, arith}
+use Rattle.std.proofs.Common.{◌≡◌, ℕ, suc, max, Bool, true, List, [], ◌∷◌, refl, ap, arith, ◌∙◌}
 use Rattle.swc_ecma_parser_input.specs.Place.{Place, after}
 use Rattle.swc_ecma_parser_model.specs.declared.operators.BinaryOp.TheVariants as binary
 use Rattle.swc_ecma_parser_model.specs.Tree.{Tree, trees}
@@ -23,7 +23,7 @@ use Rattle.swc_ecma_parser_grammar.specs.language.Expressions.{UnaryRule, Binary
 use Rattle.swc_ecma_parser_grammar.specs.language.Decorators as decorators
 use Rattle.swc_ecma_parser_grammar.specs.language.Decorators.{ChainRule, GroupRule, DecoratedRule}
 use Rattle.swc_ecma_parser_grammar.proofs.language.Asked.{Inside, Level, Fitting, whole_body, nothing, part, joined, both, turned, sized, leaf, over, beside, aligned, same, raised}
-use Rattle.swc_ecma_parser_grammar.proofs.language.Parts.{key_depth, body_depth, listed_inside, elements_inside, key_inside, access_inside, element_inside, arguments_inside, block_inside, pattern_item_inside, patterns_inside, function_level, method_inside, class_level}
+use Rattle.swc_ecma_parser_grammar.proofs.language.Parts.{key_depth, body_depth, listed_inside, elements_inside, key_inside, access_inside, element_inside, arguments_inside, block_inside, pattern_item_inside, patterns_inside, function_level, method_inside, class_level, template_inside, link_inside}
 
 -- a list of at least one form, at the level of these, is as deep as they are
 separated_level : {In Out : Goal → Type 0} (Reads Other : Tree → Place → Place → Type 0) (inner : (x : Tree) (c d : Place) → Reads x c d → Level In Out (Other x c d) (depth x))
@@ -60,6 +60,8 @@ module _ (In Out : Goal → Type 0) (fitting : (g : Goal) → In g → Fitting g
   primary_level (left.null_rule s r e) = leaf (left.null_rule s r e) (ap depth e)
   primary_level (left.number_rule raw s r e) = leaf (left.number_rule raw s r e) (ap depth e)
   primary_level (left.big_int_rule raw s r e) = leaf (left.big_int_rule raw s r e) (ap depth e)
+  primary_level (left.regex_rule exp flags s r e) = leaf (left.regex_rule exp flags s r e) (ap depth e)
+  primary_level (left.template_rule es qs r e) = over (template_inside In Out fitting r) (λ o. left.template_rule es qs o e) (ap depth e)
   primary_level (left.this_rule h g e) = leaf (left.this_rule h g e) (ap depth e)
   primary_level {k = k} {c = c} (left.array_rule xs m h r i g e) =
       over (elements_inside (ElementRule In k) (ElementRule Out k) (element_inside In Out fitting k) r) (λ o. left.array_rule xs m h o i g e) (ap depth e)
@@ -72,9 +74,13 @@ module _ (In Out : Goal → Type 0) (fitting : (g : Goal) → In g → Fitting g
   pub left_level : {k : Code} {x : Tree} {c d : Place} → LeftSideRule In k x c d → Level In Out (LeftSideRule Out k x c d) (depth x)
   left_level (left.primary_rule r) = same (primary_level r) left.primary_rule refl
   left_level (left.import_meta_rule h i j g o e) = leaf (left.import_meta_rule h i j g o e) (ap depth e)
-  left_level (left.member_rule obj property m r s e) = beside (left_level r) (access_inside In Out fitting s) (λ o w. left.member_rule obj property m o w e) (ap depth e)
+  left_level (left.new_target_rule h i j g e) = leaf (left.new_target_rule h i j g e) (ap depth e)
+  left_level (left.member_rule obj property m r n s e) = beside (left_level r) (access_inside In Out fitting s) (λ o w. left.member_rule obj property m o n w e) (ap depth e)
   left_level (left.super_property_rule property h r i e) = over (access_inside In Out fitting r) (λ o. left.super_property_rule property h o i e) (ap depth e)
-  left_level (left.call_rule called args m r s e) = beside (left_level r) (arguments_inside In Out fitting s) (λ o w. left.call_rule called args m o w e) (ap depth e)
+  left_level (left.call_rule called args m r n s e) = beside (left_level r) (arguments_inside In Out fitting s) (λ o w. left.call_rule called args m o n w e) (ap depth e)
+  left_level (left.tagged_rule t es qs m r n q e) = beside (left_level r) (template_inside In Out fitting q) (λ v w. left.tagged_rule t es qs m v n w e) (ap depth e)
+  left_level (left.chain_rule o b m r h q e) = let a = link_inside In Out fitting q in beside (left_level r) a.inside (λ v w. left.chain_rule o b m v h w e) (ap depth e ∙ a.base_depth)
+  left_level (left.linked_rule o b m r n q e) = let a = link_inside In Out fitting q in beside (left_level r) a.inside (λ v w. left.linked_rule o b m v n w e) (ap depth e ∙ a.base_depth)
   left_level {x = x} (left.super_call_rule args h r e) =
       let g : depth x ≡ max 0 (suc (depth args)) = ap depth e in over (arguments_inside In Out fitting r) (λ o. left.super_call_rule args h o e) (omega arith)
   left_level {x = x} (left.import_call_rule args h r e) =
@@ -131,6 +137,10 @@ module _ (In Out : Goal → Type 0) (fitting : (g : Goal) → In g → Fitting g
       beside (binary_level r) (part (expr_goal (operator (suc (precedence op))) k right (after m) d) s (λ w. w)) (λ v w. expressions.left_rule op left right m h i j v o w a b e) (ap depth e)
   binary_level {k = k} {d = d} (expressions.power_rule left right m h r i j s e) =
       beside (unary_level r) (part (expr_goal (operator (precedence binary.Exp)) k right (after m) d) s (λ w. w)) (λ v w. expressions.power_rule left right m h v i j w e) (ap depth e)
+  binary_level {k = k} {x = x} {d = d} (expressions.private_in_rule name right m l b r h s e) =
+      let g : depth x ≡ max (depth name) (suc (depth right)) = ap depth e in
+      let i : depth name ≡ 0 = ap depth r.is in
+      over (part (expr_goal (operator (suc (precedence binary.In))) k right (after m) d) s (λ o. o)) (λ o. expressions.private_in_rule name right m l b r h o e) (omega arith)
 
   -- ---- arrows and assignments
 

@@ -20,6 +20,10 @@ use Rattle.swc_ecma_parser_grammar.specs.language.Items.{nested_item, directed, 
 use Rattle.swc_ecma_parser_grammar.specs.language.PatternItems as pattern_items
 use Rattle.swc_ecma_parser_grammar.specs.Parameters.{parameter, parameters}
 use Rattle.swc_ecma_parser_grammar.specs.language.Functions.{ParametersRule, FunctionParts, FunctionRule, MethodRule}
+use Rattle.swc_ecma_parser_grammar.specs.language.Templates as templates
+use Rattle.swc_ecma_parser_grammar.specs.language.Templates.{TemplateRest, TemplateRule}
+use Rattle.swc_ecma_parser_grammar.specs.language.Links as links
+use Rattle.swc_ecma_parser_grammar.specs.language.Links.{LinkRule}
 use Rattle.swc_ecma_parser_grammar.specs.language.Classes as classes
 use Rattle.swc_ecma_parser_grammar.specs.language.Classes.{DecoratorRule, DecoratorsRule, MemberKeyRule, method_member, field_member, FieldValueRule, CoreRule, MemberRule, HeritageRule, ClassRule}
 use Rattle.swc_ecma_parser_grammar.proofs.language.Asked.{Inside, Level, Fitting, nothing, part, joined, both, turned, sized, leaf, over, same}
@@ -31,6 +35,12 @@ key_depth x = counted (is_computed x) (depth x)
 -- a block in the place of a body
 abbrev pub body_depth : Tree → ℕ
 body_depth x = flat (is_block x) (depth x)
+
+-- a link of an optional chain, which is as deep as its object, or one deeper than what stands in it
+pub record LinkInside (In Out : Goal → Type 0) (k : Code) (behind_question : Bool) (whole : Span) (object base : Tree) (c d : Place) : Type 0 where
+  pub within : ℕ
+  pub inside : Inside In Out (LinkRule Out k behind_question whole object base c d) within
+  pub base_depth : depth base ≡ max (depth object) (suc within)
 
 -- ---- lists
 
@@ -134,6 +144,28 @@ module _ (In Out : Goal → Type 0) (fitting : (g : Goal) → In g → Fitting g
   pub block_level : {k : Code} {directives : Bool} {x : Tree} {c d : Place} → BlockRule In k directives x c d → Level In Out (BlockRule Out k directives x c d) (depth x)
   block_level r = over (block_items r) (λ b. b) (ap depth r.is)
 
+  -- ---- templates and links
+
+  rest_inside : {tagged : Bool} {k : Code} {es qs : List Tree} {c d : Place} → TemplateRest In tagged k es qs c d → Inside In Out (TemplateRest Out tagged k es qs c d) (depths (trees es))
+  rest_inside {k = k} {es = es} {c = c} (templates.last_text y q m r t e i) =
+      let g : depths (trees es) ≡ max (depth y) 0 = ap (λ l. depths (trees l)) e in
+      sized (part (expr_goal expression (with_in k) y c m) r (λ o. templates.last_text y q m o t e i)) (omega arith)
+  rest_inside {k = k} {c = c} (templates.more_texts y q ys qs m n r t rs e i) =
+      sized (joined (part (expr_goal expression (with_in k) y c m) r (λ o. o)) (rest_inside rs) (λ o os. templates.more_texts y q ys qs m n o t os e i)) (ap (λ l. depths (trees l)) e)
+
+  pub template_inside : {tagged : Bool} {k : Code} {es qs : List Tree} {c d : Place} → TemplateRule In tagged k es qs c d → Inside In Out (TemplateRule Out tagged k es qs c d) (depths (trees es))
+  template_inside (templates.only_text q t e i) = sized (nothing (templates.only_text q t e i)) (ap (λ l. depths (trees l)) e)
+  template_inside (templates.first_text q qs m t r i) = turned (rest_inside r) (λ o. templates.first_text q qs m t o i)
+
+  pub link_inside : {k : Code} {behind_question : Bool} {s : Span} {object base : Tree} {c d : Place} → LinkRule In k behind_question s object base c d
+      → LinkInside In Out k behind_question s object base c d
+  link_inside (links.name_link text w h r e) = record { within = 0; inside = nothing (links.name_link text w h r e); base_depth = ap depth e }
+  link_inside (links.private_link name h r e) =
+      record { within = key_depth name; inside = sized (nothing (links.private_link name h r e)) (ap key_depth r.is); base_depth = ap depth e }
+  link_inside (links.access_link property h r e) =
+      record { within = key_depth property; inside = turned (access_inside r) (λ o. links.access_link property h o e); base_depth = ap depth e }
+  link_inside (links.arguments_link args r e) = record { within = depth args; inside = turned (arguments_inside r) (λ o. links.arguments_link args o e); base_depth = ap depth e }
+
   -- ---- functions
 
   pub pattern_item_inside : (p : Purpose) (k : Code) (x : Tree) (c d : Place) → PatternItemRule In p k x c d → Inside In Out (PatternItemRule Out p k x c d) (depth x)
@@ -197,7 +229,7 @@ module _ (In Out : Goal → Type 0) (fitting : (g : Goal) → In g → Fitting g
   member_key_inside k x c d (classes.member_key r) = turned (key_inside r) classes.member_key
   member_key_inside k x c d (classes.private_key s word text r e h) = sized (nothing (classes.private_key s word text r e h)) (ap key_depth e)
 
-  value_inside : {k : Code} {key x : Tree} {c d : Place} → FieldValueRule In k key x c d → Inside In Out (FieldValueRule Out k key x c d) (depth x)
+  value_inside : {k : Code} {start : Place} {x : Tree} {c d : Place} → FieldValueRule In k start x c d → Inside In Out (FieldValueRule Out k start x c d) (depth x)
   value_inside (classes.no_value h i j g e) = sized (nothing (classes.no_value h i j g e)) (ap depth e)
   value_inside {k = k} {x = x} {c = c} {d = d} (classes.a_value h r) = part (expr_goal assignment (with_in k) x (after c) d) r (classes.a_value h)
 

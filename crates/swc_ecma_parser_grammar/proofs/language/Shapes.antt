@@ -35,6 +35,8 @@ module _ (In : Goal → Type 0) where
   primary_is (left.null_rule s r e) = ap is_part e
   primary_is (left.number_rule raw s r e) = ap is_part e
   primary_is (left.big_int_rule raw s r e) = ap is_part e
+  primary_is (left.regex_rule exp flags s r e) = ap is_part e
+  primary_is (left.template_rule es qs r e) = ap is_part e
   primary_is (left.this_rule h g e) = ap is_part e
   primary_is (left.array_rule xs m h r i g e) = ap is_part e
   primary_is (left.object_rule xs m h r i g e) = ap is_part e
@@ -45,9 +47,13 @@ module _ (In : Goal → Type 0) where
   left_is : {k : Code} {x : Tree} {c d : Place} → LeftSideRule In k x c d → is_part x ≡ false
   left_is (left.primary_rule r) = primary_is r
   left_is (left.import_meta_rule h i j g o e) = ap is_part e
-  left_is (left.member_rule obj property m r s e) = ap is_part e
+  left_is (left.new_target_rule H G W N e) = ap is_part e
+  left_is (left.member_rule obj property m r n s e) = ap is_part e
   left_is (left.super_property_rule property h r i e) = ap is_part e
-  left_is (left.call_rule called args m r s e) = ap is_part e
+  left_is (left.call_rule called args m r n s e) = ap is_part e
+  left_is (left.tagged_rule t es qs m r N q e) = ap is_part e
+  left_is (left.chain_rule o b m r H q e) = ap is_part e
+  left_is (left.linked_rule o b m r N q e) = ap is_part e
   left_is (left.super_call_rule args h r e) = ap is_part e
   left_is (left.import_call_rule args h r e) = ap is_part e
   left_is (left.new_rule called args m h r s e) = ap is_part e
@@ -64,6 +70,7 @@ module _ (In : Goal → Type 0) where
   binary_is (expressions.single_rule r) = unary_is r
   binary_is (expressions.left_rule op left right m h i j r o s a b e) = ap is_part e
   binary_is (expressions.power_rule left right m h r i j s e) = ap is_part e
+  binary_is (expressions.private_in_rule y z m l b r H q e) = ap is_part e
 
   assignment_is : {k : Code} {x : Tree} {c d : Place} → AssignmentRule In k x c d → is_part x ≡ false
   assignment_is (expressions.operators_rule r h) = binary_is r

@@ -12,6 +12,9 @@ abbrev pub begins_operand : TokenKind → Bool
 begins_operand kind.Str = true
 begins_operand kind.Num = true
 begins_operand kind.BigInt = true
+begins_operand kind.Regex = true
+begins_operand kind.Template = true
+begins_operand kind.TemplateHead = true
 begins_operand kind.Null = true
 begins_operand kind.True = true
 begins_operand kind.False = true
@@ -38,8 +41,9 @@ begins_operand _ = false
 unfoldable pub begins_unary : Context → Place → Bool
 begins_unary f c = begins_operand (kind_at c) || identifier_at f c
 
+-- `#` begins the left operand of `in`, which is no unary expression
 unfoldable pub begins_expression : Context → Place → Bool
-begins_expression f c = begins_unary f c || (f.in_generator && sees kind.Yield c)
+begins_expression f c = begins_unary f c || (sees kind.HashIn c || (f.in_generator && sees kind.Yield c))
 
 -- Where a unary expression may begin, `await` is an operator if one can begin behind it, on any line and in whatever code; else it is
 -- a name. Where none may begin it is a name whatever follows: as the first word of what a class extends, of what `new` calls and of

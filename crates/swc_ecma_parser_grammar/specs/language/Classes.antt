@@ -84,15 +84,14 @@ field_member s key value is_static false decorators =
 
 -- ---- fields: FieldDefinition
 
--- behind the key `get` or `set` an accessor goes on, also on the next line, but not with `*` there
-unfoldable pub is_accessor_key : Tree → Place → Bool
-is_accessor_key key c =
-    (is_ident_named (codes "get") key || is_ident_named (codes "set") key) && (not (ends_key c) && not (sees kind.Mul c && breaks_at c))
+-- behind a key that is the word `get` or `set`, with no escape, an accessor goes on, also on the next line, but not with `*` there
+unfoldable pub is_accessor_key : (start c : Place) → Bool
+is_accessor_key start c = (word_at (codes "get") start || word_at (codes "set") start) && (not (ends_key c) && not (sees kind.Mul c && breaks_at c))
 
--- `= ..`, or nothing where neither a method nor an accessor goes on
-pub data FieldValueRule (In : Goal → Type 0) (k : Code) (key x : Tree) (c d : Place) : Type 0 where
-  no_value : sees kind.Assign c ≡ false → sees kind.LParen c ≡ false → is_accessor_key key c ≡ false → d ≡ c → x ≡ tree.absent → FieldValueRule In k key x c d
-  a_value : kind_at c ≡ kind.Assign → In (expr_goal assignment (with_in k) x (after c) d) → FieldValueRule In k key x c d
+-- `= ..`, or nothing where neither a method nor an accessor goes on, behind a key that begins at `start`
+pub data FieldValueRule (In : Goal → Type 0) (k : Code) (start : Place) (x : Tree) (c d : Place) : Type 0 where
+  no_value : sees kind.Assign c ≡ false → sees kind.LParen c ≡ false → is_accessor_key start c ≡ false → d ≡ c → x ≡ tree.absent → FieldValueRule In k start x c d
+  a_value : kind_at c ≡ kind.Assign → In (expr_goal assignment (with_in k) x (after c) d) → FieldValueRule In k start x c d
 
 -- ---- members: ClassElement
 
@@ -106,7 +105,7 @@ pub data CoreRule (In : Goal → Type 0) (k : Code) (is_static is_accessor : Boo
       → MethodRule In (MemberKeyRule In k) k form is_async is_generator key patterns body m d → is_constructor_key key ≡ false
       → x ≡ method_member (spanned c d) key (tree.function (spanned c d) decorators (parameters patterns) body is_async is_generator) form is_static
       → CoreRule In k is_static is_accessor decorators x c m d
-  field_rule : (key value : Tree) (i j : Place) → MemberKeyRule In k key m i → is_constructor_key key ≡ false → FieldValueRule In k key value i j → Ends j d
+  field_rule : (key value : Tree) (i j : Place) → MemberKeyRule In k key m i → is_constructor_key key ≡ false → FieldValueRule In k m value i j → Ends j d
       → x ≡ field_member (spanned c d) key value is_static is_accessor decorators → CoreRule In k is_static is_accessor decorators x c m d
   -- ClassStaticBlock: its `{` stands on any line
   static_block_rule : (body : Tree) → is_static ≡ true → is_accessor ≡ false → decorators ≡ listed [] → BlockRule In (in_static_block k) false body m d

@@ -9,13 +9,13 @@ use Rattle.swc_ecma_parser_model.specs.Tree.{Tree}
 use Rattle.swc_ecma_parser_model.specs.Forms.{is_ident_named}
 use Rattle.swc_ecma_parser_grammar.specs.Looks.{kind_at, breaks_at, sees}
 use Rattle.swc_ecma_parser_grammar.specs.Names.{Code, identifier_at}
-use Rattle.swc_ecma_parser_grammar.specs.Follows.{continues_left_side, word_at}
+use Rattle.swc_ecma_parser_grammar.specs.Follows.{continues_left_side, begins_template, word_at}
 use Rattle.swc_ecma_parser_grammar.specs.language.Begins.{begins_expression}
 use Rattle.swc_ecma_parser_grammar.specs.language.Operators.{binary_operator, assign_operator, precedence, is_operator}
 
--- what `new` calls: an access or arguments
+-- what `new` calls: an access, arguments, a template or an optional chain
 unfoldable pub continues_callee : Place → Bool
-continues_callee d = sees kind.Dot d || (sees kind.LBracket d || sees kind.LParen d)
+continues_callee d = sees kind.Dot d || (sees kind.LBracket d || (sees kind.LParen d || (sees kind.QuestionDot d || begins_template d)))
 
 -- An expression that ends with an operand of an operator, or with the operator itself: what could go on with that operand was
 -- asked there.

@@ -22,6 +22,7 @@ use Rattle.swc_ecma_parser_grammar.specs.language.Contexts.{in_arrow, may_await,
 use Rattle.swc_ecma_parser_grammar.specs.language.Begins.{awaits, begins_expression}
 use Rattle.swc_ecma_parser_grammar.specs.language.Operators.{unary_operator, update_operator, binary_operator, assign_operator, precedence, groups_left, is_operator, mixes, is_unary}
 use Rattle.swc_ecma_parser_grammar.specs.language.Continues.{continues_callee, continues_unary, continues_operand, continues_conditional, continues_assignment, continues_yield}
+use Rattle.swc_ecma_parser_grammar.specs.language.Parts.{PrivateOperandRule}
 use Rattle.swc_ecma_parser_grammar.specs.language.Functions.{ParametersRule}
 use Rattle.swc_ecma_parser_grammar.specs.language.Items.{BlockRule}
 use Rattle.swc_ecma_parser_grammar.specs.language.LeftSides.{LeftSideRule, CalleeRule, OperandRule}
@@ -48,6 +49,9 @@ pub data BinaryRule (In : Goal → Type 0) (k : Code) : ℕ → Tree → Place �
   -- no unary operator stands left of `**`, but `++` and `--` may
   power_rule : {n : ℕ} {x : Tree} {c d : Place} (left right : Tree) (m : Place) → n ≤ precedence binary.Exp → UnaryRule In k left c m → is_unary left ≡ false → kind_at m ≡ kind.Exp
       → In (expr_goal (operator (precedence binary.Exp)) k right (after m) d) → x ≡ tree.bin (spanned c d) binary.Exp left right → BinaryRule In k n x c d
+  -- section 13.10: a private name is an operand left of `in` alone, where that is an operator
+  private_in_rule : {n : ℕ} {x : Tree} {c d : Place} (name right : Tree) (m : Place) → n ≤ precedence binary.In → is_operator k binary.In ≡ true → PrivateOperandRule name c m
+      → kind_at m ≡ kind.In → In (expr_goal (operator (suc (precedence binary.In))) k right (after m) d) → x ≡ tree.bin (spanned c d) binary.In name right → BinaryRule In k n x c d
 
 -- ---- arrows: sections 15.3 and 15.9
 

@@ -1,5 +1,5 @@
 -- The heads of `for` statements: ECMA-262, sections 14.7.4 and 14.7.5.
-use Rattle.std.specs.Prelude.{◌≡◌, Bool, true, false, List, [], ◌∷◌, codes}
+use Rattle.std.specs.Prelude.{◌≡◌, Bool, true, false, ◌&&◌, List, [], ◌∷◌, codes}
 use Rattle.swc_ecma_parser_token.specs.declared.kind.TokenKind.TheVariants as kind
 use Rattle.swc_ecma_parser_input.specs.Place.{Place, after}
 use Rattle.swc_ecma_parser_model.specs.declared.leaves.VarDeclKind.{VarDeclKind}
@@ -55,7 +55,7 @@ pub data UsingHeadRule (In : Goal → Type 0) (k : Code) (x : Tree) (c d : Place
   await_using_head_rule : (y : Tree) → kind_at c ≡ kind.Await → may_await k ≡ true → breaks_at (after c) ≡ false → In (using_goal k y (after c) d)
       → x ≡ tree.using (spanned c d) true (listed (y ∷ [])) → UsingHeadRule In k x c d
 
--- the left side before `of`
+-- the left side before `of`: behind `for await` it may be the word `async`
 pub data OfLeftRule (In : Goal → Type 0) (k : Code) (is_await : Bool) (x : Tree) (c d : Place) : Type 0 where
-  of_left_rule : LeftRule In k x c d → is_async_of is_await x d ≡ false → OfLeftRule In k is_await x c d
+  of_left_rule : LeftRule In k x c d → is_async_of (is_await && word_at (codes "async") c) x d ≡ false → OfLeftRule In k is_await x c d
   of_using_rule : k.setting.explicit_resource_management ≡ true → UsingHeadRule In k x c d → OfLeftRule In k is_await x c d

@@ -1,8 +1,15 @@
 -- What makes a program a module where no import or export does: an item of its own that begins with `await`, which is told by
 -- the tokens (`ModuleItems`), and `import.meta` outside the bodies of functions.
 use Rattle.std.specs.Prelude.{Bool, true, false, ◌||◌}
+use Rattle.swc_ecma_parser_model.specs.declared.leaves.MetaPropKind.{MetaPropKind}
+use Rattle.swc_ecma_parser_model.specs.declared.leaves.MetaPropKind.TheVariants as meta
 use Rattle.swc_ecma_parser_model.specs.Tree as tree
 use Rattle.swc_ecma_parser_model.specs.Tree.{Tree, Trees, none, also}
+
+-- `new.target` is in no code a module's alone
+abbrev pub is_import_meta : MetaPropKind → Bool
+is_import_meta meta.ImportMeta = true
+is_import_meta meta.NewTarget = false
 
 -- Whether `import.meta` stands in a tree outside the bodies of functions, methods, accessors, constructors and arrows. Their
 -- parameters, decorators, fields and static blocks are outside.
@@ -16,13 +23,14 @@ abbrev mutual
   has_meta (tree.null s) = false
   has_meta (tree.num s raw) = false
   has_meta (tree.big_int s raw) = false
+  has_meta (tree.regex s exp flags) = false
   has_meta (tree.this s) = false
   has_meta (tree.array s elems) = has_meta elems
   has_meta (tree.object s props) = has_meta props
   has_meta (tree.fn_expr s name fn) = has_meta name || has_meta fn
   has_meta (tree.class_expr s name body) = has_meta name || has_meta body
   has_meta (tree.paren s e) = has_meta e
-  has_meta (tree.meta_prop s kind) = true
+  has_meta (tree.meta_prop s kind) = is_import_meta kind
   has_meta (tree.invalid s) = false
   has_meta (tree.unary s op arg) = has_meta arg
   has_meta (tree.update s op prefix arg) = has_meta arg
@@ -34,6 +42,9 @@ abbrev mutual
   has_meta (tree.super_prop s word prop) = has_meta prop
   has_meta (tree.call s callee args) = has_meta callee || has_meta args
   has_meta (tree.new s callee args) = has_meta callee || has_meta args
+  has_meta (tree.tpl s exprs quasis) = has_meta exprs
+  has_meta (tree.tagged_tpl s tag template) = has_meta tag || has_meta template
+  has_meta (tree.opt_chain s optional base) = has_meta base
   has_meta (tree.arrow s params body is_async) = has_meta params
   has_meta (tree.yield s arg delegate) = has_meta arg
   has_meta (tree.await s arg) = has_meta arg
@@ -42,6 +53,7 @@ abbrev mutual
   has_meta (tree.computed s e) = has_meta e
   has_meta (tree.super_callee s) = false
   has_meta (tree.import_callee s) = false
+  has_meta (tree.quasi s tail cooked raw) = false
   has_meta (tree.spread_prop dots e) = has_meta e
   has_meta (tree.shorthand_prop s text) = false
   has_meta (tree.key_value_prop s key value) = has_meta key || has_meta value

@@ -54,6 +54,15 @@ pub record PrivateRule (x : Tree) (c d : Place) : Type 0 where
   pub touches : (span_at c).hi ≡ span.lo
   pub is : x ≡ tree.private_name (spanned c d) span text
 
+-- the same where it is the left operand of `in`
+pub record PrivateOperandRule (x : Tree) (c d : Place) : Type 0 where
+  pub text : Text
+  pub span : Span
+  pub hash : kind_at c ≡ kind.HashIn
+  pub reads_word : ReadsWord text span (after c) d
+  pub touches : (span_at c).hi ≡ span.lo
+  pub is : x ≡ tree.private_name (spanned c d) span text
+
 -- ---- keys: PropertyName of section 13.2.5
 
 -- an expression in brackets: ComputedPropertyName

@@ -159,12 +159,11 @@ pub data SmallLeftRule (Expr : Class → Code → Tree → Place → Place → T
 -- What stands before `of`: such variables or such a target, but not `async` on its line unless behind `for await`; or, with the setting,
 -- `using` and a plain name that is not `of`, behind `await` on its line too, where the two words are read as the expression that they are.
 pub data SmallOfLeftRule (Expr : Class → Code → Tree → Place → Place → Type 0) (Pat Target : Code → Tree → Place → Place → Type 0) (k : Code) (is_await : Bool) (x : Tree) (c d : Place) : Type 0 where
-  of_left_rule : SmallLeftRule Expr Pat Target k x c d → is_async_of is_await x d ≡ false → SmallOfLeftRule Expr Pat Target k is_await x c d
+  of_left_rule : SmallLeftRule Expr Pat Target k x c d → is_async_of (is_await && word_at (codes "async") c) x d ≡ false → SmallOfLeftRule Expr Pat Target k is_await x c d
   of_using_rule : (name : Tree) → may_declare_using k c ≡ true → Pat k name (after c) d → is_binding_name name ≡ true
       → x ≡ tree.using (spanned c d) false (listed (tree.declarator (spanned (after c) d) name tree.absent ∷ [])) → SmallOfLeftRule Expr Pat Target k is_await x c d
   of_await_rule : (e name : Tree) (m : Place) → k.setting.explicit_resource_management ≡ true → Expr expression (without_in k) e c m → awaits_using e ≡ true → breaks_at (after c) ≡ false
-      → word_at (codes "of") m ≡ false
-      → Pat k name m d → is_binding_name name ≡ true → x ≡ tree.using (spanned c d) true (listed (tree.declarator (spanned m d) name tree.absent ∷ []))
+      → word_at (codes "using") (after c) ≡ true → word_at (codes "of") m ≡ false → Pat k name m d → is_binding_name name ≡ true → x ≡ tree.using (spanned c d) true (listed (tree.declarator (spanned m d) name tree.absent ∷ []))
       → SmallOfLeftRule Expr Pat Target k is_await x c d
 
 -- the second part and the third

@@ -6,6 +6,7 @@ use Rattle.swc_ecma_parser_model.specs.Tree as tree
 use Rattle.swc_ecma_parser_model.specs.Tree.{Tree, trees, listed}
 use Rattle.swc_ecma_parser_grammar.specs.declared.position.Position.{Position}
 use Rattle.swc_ecma_parser_grammar.specs.Looks.{sees}
+use Rattle.swc_ecma_parser_grammar.specs.Follows.{begins_template}
 use Rattle.swc_ecma_parser_grammar.specs.Names.{Code}
 use Rattle.swc_ecma_parser_grammar.specs.scaffold.Reads.{SmallStmtRule}
 use Rattle.swc_ecma_parser_grammar.specs.scaffold.Decorated.{DeclaredRule, SmallDecoratedRule, EitherRule}
@@ -18,7 +19,7 @@ use Rattle.swc_ecma_parser_grammar.specs.language.Reads.{Reads}
 
 -- An expression of a class within so many levels. Behind what `new` calls its arguments may stand.
 abbrev pub ReadsClass : ℕ → Class → Code → Tree → Place → Place → Type 0
-ReadsClass n callee k x c d = Reads n (callee_goal k x c d) × (sees kind.Dot d || sees kind.LBracket d ≡ false) × (supported_in k.flags.module x ≡ true)
+ReadsClass n callee k x c d = Reads n (callee_goal k x c d) × (sees kind.Dot d || (sees kind.LBracket d || begins_template d) ≡ false) × (supported_in k.flags.module x ≡ true)
 ReadsClass n class k x c d = Reads n (expr_goal class k x c d) × (supported_in k.flags.module x ≡ true)
 
 -- a binding pattern within so many levels, and one with its default, if it has one

@@ -33,6 +33,10 @@ abbrev mutual
   supported_in m (tree.null s) = true
   supported_in m (tree.num s raw) = true
   supported_in m (tree.big_int s raw) = true
+  supported_in m (tree.regex s exp flags) = true
+  -- templates, with tags or without: sections 13.2.8 and 13.3.11
+  supported_in m (tree.tpl s exprs quasis) = supported_in m exprs
+  supported_in m (tree.tagged_tpl s tag template) = supported_in m tag && supported_in m template
   supported_in m (tree.array s elems) = supported_in m elems
   supported_in m (tree.object s props) = supported_in m props
   supported_in m (tree.spread_prop dots e) = supported_in m e
@@ -52,9 +56,13 @@ abbrev mutual
   supported_in m (tree.super_callee s) = true
   supported_in m (tree.import_callee s) = true
   supported_in m (tree.new s f args) = supported_in m f && supported_in m args
+  -- optional chains: section 13.3.9
+  supported_in m (tree.opt_chain s optional base) = supported_in m base
   supported_in m (tree.element spread e) = supported_in m e
   supported_in m tree.absent = true
   -- operators, conditionals, assignments and sequences: sections 13.4 to 13.16
+  -- a private name before `in`: section 13.10
+  supported_in m (tree.private_name s word text) = true
   supported_in m (tree.unary s op arg) = supported_in m arg
   supported_in m (tree.update s op prefix arg) = supported_in m arg
   supported_in m (tree.bin s op left right) = supported_in m left && supported_in m right

@@ -30,7 +30,8 @@ unfoldable pub stands_in_head : Place → Bool
 stands_in_head c = sees token.In c || word_at (codes "of") c
 
 -- The expression `await using`. In such a head, with the setting, it declares a name that stands behind it on any line and is not
--- `of`, where `in` or `of` stands behind the name and the two words stand on one line.
+-- `of`, where `in` or `of` stands behind the name and the two words stand on one line. The tree does not tell whether the second is
+-- written with an escape: the token does.
 unfoldable pub awaits_using : Tree → Bool
 awaits_using (tree.await s e) = is_ident_named (codes "using") e
 awaits_using _ = false

@@ -150,17 +150,17 @@ abbrev modifies : Place → Bool
 modifies d = not (ends_key d) && not (can_end d)
 
 -- a word is no modifier where what stands behind a key of that name is none's
-unmodified : {In : Goal → Type 0} (behind : Place → Bool) (text : Text) {k : Code} {x : Tree} {c d : Place} → MemberKeyRule In k x c d → (is_ident_named text x ≡ true → behind d ≡ false)
+unmodified : {In : Goal → Type 0} (behind : Place → Bool) (text : Text) {k : Code} {x : Tree} {c d : Place} → MemberKeyRule In k x c d → (word_at text c ≡ true → behind d ≡ false)
     → (word_at text c && behind (after c)) ≡ false
 unmodified behind text {c = c} r g = by_test (word_at text c) refl
   where
     by_test : (b : Bool) → word_at text c ≡ b → (b && behind (after c)) ≡ false
     by_test false h = refl
-    by_test true h = let (named, next) = member_key_word text r h in ap behind (sym next) ∙ g named
+    by_test true h = ap behind (sym (member_key_word text r h).1) ∙ g h
 
 -- behind a key neither an accessor nor an async method goes on
-pub record Ended (x : Tree) (d : Place) : Type 0 where
-  pub no_accessor : is_accessor_key x d ≡ false
+pub record Ended (c d : Place) : Type 0 where
+  pub no_accessor : is_accessor_key c d ≡ false
   pub no_modifier : modifies d ≡ false
 
 first_denied : (a b r : Bool) → ((a || b) && r) ≡ false → a ≡ true → r ≡ false
@@ -171,14 +171,14 @@ second_denied : (a b r : Bool) → ((a || b) && r) ≡ false → b ≡ true → 
 second_denied true b r h e = h
 second_denied false b r h e = rw e at h
 
-module _ {In : Goal → Type 0} {k : Code} {x : Tree} {c d : Place} (r : MemberKeyRule In k x c d) (e : Ended x d) where
+module _ {In : Goal → Type 0} {k : Code} {x : Tree} {c d : Place} (r : MemberKeyRule In k x c d) (e : Ended c d) where
   pub no_getter_here : begins_accessor (codes "get") c ≡ false
   unfolding begins_accessor is_accessor_key
-  no_getter_here = unmodified accesses (codes "get") r (first_denied (is_ident_named (codes "get") x) (is_ident_named (codes "set") x) (accesses d) e.no_accessor)
+  no_getter_here = unmodified accesses (codes "get") r (first_denied (word_at (codes "get") c) (word_at (codes "set") c) (accesses d) e.no_accessor)
 
   pub no_setter_here : begins_accessor (codes "set") c ≡ false
   unfolding begins_accessor is_accessor_key
-  no_setter_here = unmodified accesses (codes "set") r (second_denied (is_ident_named (codes "get") x) (is_ident_named (codes "set") x) (accesses d) e.no_accessor)
+  no_setter_here = unmodified accesses (codes "set") r (second_denied (word_at (codes "get") c) (word_at (codes "set") c) (accesses d) e.no_accessor)
 
   pub no_async_here : begins_async_member c ≡ false
   unfolding begins_async_member
@@ -193,13 +193,13 @@ module _ {In : Goal → Type 0} {k : Code} {x : Tree} {c d : Place} (r : MemberK
   unfolding member_words starred star
   bare_words w f h = rw (no_getter_here, no_setter_here, no_async_here, (key_begins_member r).1) refl
 
-pub paren_ended : (x : Tree) (d : Place) → kind_at d ≡ kind.LParen → Ended x d
+pub paren_ended : (c d : Place) → kind_at d ≡ kind.LParen → Ended c d
 unfolding is_accessor_key ends_key same_kind
-paren_ended x d e = record { no_accessor = and_no (is_ident_named (codes "get") x || is_ident_named (codes "set") x) _ (rw e refl); no_modifier = rw e refl }
+paren_ended c d e = record { no_accessor = and_no (word_at (codes "get") c || word_at (codes "set") c) _ (rw e refl); no_modifier = rw e refl }
 
-pub assign_ended : (x : Tree) (d : Place) → kind_at d ≡ kind.Assign → Ended x d
+pub assign_ended : (c d : Place) → kind_at d ≡ kind.Assign → Ended c d
 unfolding is_accessor_key ends_key same_kind
-assign_ended x d e = record { no_accessor = and_no (is_ident_named (codes "get") x || is_ident_named (codes "set") x) _ (rw e refl); no_modifier = rw e refl }
+assign_ended c d e = record { no_accessor = and_no (word_at (codes "get") c || word_at (codes "set") c) _ (rw e refl); no_modifier = rw e refl }
 
 -- ---- words before a key
 
@@ -226,9 +226,9 @@ unfolding can_end
 goes_modified c (e, l) b = rw (e, l, no_brace_closes c e, b) refl
 
 module _ {In : Goal → Type 0} {k : Code} {y : Tree} {i : Place} (w : Scope) (f : List Fault) (h : Notes) where
-  star_words : {g : Bool} (c d : Place) → Star g c d → MemberKeyRule In k y d i → Ended y i → member_words (st c k w f h) ≡ Ok (method_form false g, st d k w f h)
+  star_words : {g : Bool} (c d : Place) → Star g c d → MemberKeyRule In k y d i → Ended d i → member_words (st c k w f h) ≡ Ok (method_form false g, st d k w f h)
   unfolding member_words begins_accessor begins_async_member starred star
-  star_words c d (no_star e n) r o = let t : MemberKeyRule In k y c i = rw (← n) r in rw (e, n) (bare_words t o w f h)
+  star_words c d (no_star e n) r o = let t : MemberKeyRule In k y c i = rw (← n) r in let l : Ended c i = rw (← n) o in rw (e, n) (bare_words t l w f h)
   star_words c d (stands e s n) r o = rw (star_unworded (codes "get") c s, star_unworded (codes "set") c s, star_unworded (codes "async") c s, seen c kind.Mul s, e, n) refl
 
   starred_reads : {g : Bool} (a : Bool) (c d : Place) → Star g c d → MemberKeyRule In k y d i → (starred a (st c k w f h) ≡ Ok (method_form a g, st d k w f h)) × Goes c
@@ -245,7 +245,7 @@ module _ {In : Goal → Type 0} {k : Code} {y : Tree} {i : Place} (w : Scope) (f
       rw (apart (codes "async") (codes "get") c refl a, apart (codes "async") (codes "set") c refl a, a, goes_modified (after c) goes l) reads
 
   -- the words of a method, and none
-  pub words_read : (form : MethodForm) (c d : Place) → MethodHead (kind_of_form form) (form_is_async form) (form_is_generator form) c d → MemberKeyRule In k y d i → Ended y i
+  pub words_read : (form : MethodForm) (c d : Place) → MethodHead (kind_of_form form) (form_is_async form) (form_is_generator form) c d → MemberKeyRule In k y d i → Ended d i
       → member_words (st c k w f h) ≡ Ok (form, st d k w f h)
   unfolding member_words begins_accessor
   words_read getter_form c d (getter_head e p q g n) r o =

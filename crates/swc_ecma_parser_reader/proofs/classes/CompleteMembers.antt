@@ -190,8 +190,8 @@ brace_no_semicolon : (c : Place) → kind_at c ≡ kind.LBrace → sees kind.Sem
 unfolding same_kind
 brace_no_semicolon c e = rw e refl
 
-record FieldGoes (key : Tree) (c d : Place) : Type 0 where
-  ended : Ended key c
+record FieldGoes (start c d : Place) : Type 0 where
+  ended : Ended start c
   no_paren : sees kind.LParen c ≡ false
   goes : (sees kind.Assign c || ends_at c) ≡ true
   no_brace : sees kind.LBrace d ≡ false → sees kind.LBrace c ≡ false
@@ -206,12 +206,12 @@ or_yes : (a b : Bool) → b ≡ true → (a || b) ≡ true
 or_yes true b h = refl
 or_yes false b h = h
 
-field_goes : {In : Goal → Type 0} {k : Code} (key value : Tree) {c m d : Place} → FieldValueRule In k key value c m → Ends m d → FieldGoes key c d
+field_goes : {In : Goal → Type 0} {k : Code} {start : Place} (value : Tree) {c m d : Place} → FieldValueRule In k start value c m → Ends m d → FieldGoes start c d
 unfolding same_kind
-field_goes key value {c = c} {d = d} (no_value a p g e i) q =
+field_goes value {c = c} {d = d} (no_value a p g e i) q =
     let (modifies, ends, brace) = ends_goes c d (subst (λ z. Ends z d) e q) in
     record { ended = record { no_accessor = g; no_modifier = modifies }; no_paren = p; goes = or_yes (sees kind.Assign c) _ ends; no_brace = brace }
-field_goes key value {c = c} (a_value i r) q = record { ended = assign_ended key c i; no_paren = rw i refl; goes = rw (seen c kind.Assign i) refl; no_brace = λ h. rw i refl }
+field_goes {start = start} value {c = c} (a_value i r) q = record { ended = assign_ended start c i; no_paren = rw i refl; goes = rw (seen c kind.Assign i) refl; no_brace = λ h. rw i refl }
 
 -- a member that begins with `static` begins with no `;`
 static_no_semicolon : (c : Place) → sees kind.Semi (classes.behind_static c) ≡ false → sees kind.Semi c ≡ false
@@ -277,7 +277,7 @@ module _ (n : ℕ) (below : Below n)
       let f' = f ++ walk env ds in
       let h' = h ⊕ notes_of ds in
       rw (
-        words_read w f' h' form m r.behind_head r.reads_head r.reads_key (paren_ended key r.behind_key paren),
+        words_read w f' h' form m r.behind_head r.reads_head r.reads_key (paren_ended r.behind_head r.behind_key paren),
         member_key_reads (language.Reads n) (expr n) (cover n) below.exprs k key r.behind_head r.behind_key r.reads_key t.0 w f' h',
         behind_key_method v is_static form (span_at c) first (span_at m) key k r.behind_key w (f' ++ walk env key) (h' ⊕ notes_of key) paren i,
         i,
@@ -305,7 +305,7 @@ module _ (n : ℕ) (below : Below n)
       let b = walks env false (trees ps) in
       let l = walk_body (env_in_body env) body in
       rw (
-        bare_words key_rule (paren_ended key i p.opens) w f h,
+        bare_words key_rule (paren_ended m i p.opens) w f h,
         member_key_reads (language.Reads n) (expr n) (cover n) below.exprs k key m i key_rule (plainly _ _ t.0) w f h,
         seen i kind.LParen p.opens,
         o,
@@ -328,14 +328,14 @@ module _ (n : ℕ) (below : Below n)
   field_end_reads c d k w f h (by_semicolon e g) = rw (seen c kind.Semi e, g) refl
   field_end_reads c d k w f h (by_insertion e i g) = rw (e, i, g) refl
 
-  value_reads : (k : Code) (key x : Tree) (c d : Place) → FieldValueRule (language.Reads n) k key x c d → supported_in k.flags.module x ≡ true → ReadsCalm (field_value (expr n) (cover n)) k x c d
+  value_reads : (k : Code) {start : Place} (x : Tree) (c d : Place) → FieldValueRule (language.Reads n) k start x c d → supported_in k.flags.module x ≡ true → ReadsCalm (field_value (expr n) (cover n)) k x c d
   unfolding field_value
-  value_reads k key x c d (no_value a p g e i) s w f h q = rw (a, i, e, append-nil f, append-nil h.held_back, or_nil h.found_module_item) refl
-  value_reads k key x c d (a_value i r) s w f h q = rw (seen c kind.Assign i) (inside_reads (language.Reads n) (expr n) (cover n) below.exprs assignment k x (after c) d r s w f h q)
+  value_reads k x c d (no_value a p g e i) s w f h q = rw (a, i, e, append-nil f, append-nil h.held_back, or_nil h.found_module_item) refl
+  value_reads k x c d (a_value i r) s w f h q = rw (seen c kind.Assign i) (inside_reads (language.Reads n) (expr n) (cover n) below.exprs assignment k x (after c) d r s w f h q)
 
   -- from behind the key
-  field_reads : (ds : List Tree) (is_static is_accessor : Bool) (key value x : Tree) (k : Code) (c i j d : Place) → is_constructor_key key ≡ false
-      → FieldValueRule (language.Reads n) k key value i j → Ends j d → x ≡ field_member (spanned c d) key value is_static is_accessor (listed ds) → supported_in k.flags.module value ≡ true
+  field_reads : (ds : List Tree) (is_static is_accessor : Bool) (key value x : Tree) (k : Code) {start : Place} (c i j d : Place) → is_constructor_key key ≡ false
+      → FieldValueRule (language.Reads n) k start value i j → Ends j d → x ≡ field_member (spanned c d) key value is_static is_accessor (listed ds) → supported_in k.flags.module value ≡ true
       → is_error (kind_at d) ≡ false → (w : Scope) (f : List Fault) (h : Notes) → field (expr n) (cover n) ds is_static is_accessor (span_at c) key
       (st i k w (f ++ walk (env_of k w.labels) (listed ds) ++ walk (env_of k w.labels) key) (h ⊕ notes_of (listed ds) ⊕ notes_of key))
       ≡ Ok (x, st d k w (f ++ walk (env_of k w.labels) x) (h ⊕ notes_of x))
@@ -345,9 +345,9 @@ module _ (n : ℕ) (below : Below n)
       let f' = f ++ walk env (listed ds) in
       let h' = h ⊕ notes_of (listed ds) in
       rw (
-        (field_goes key value v q).goes,
+        (field_goes value v q).goes,
         o,
-        value_reads k key value i j v s w (f' ++ walk env key) (h' ⊕ notes_of key) (inr (before_end j d q a)),
+        value_reads k value i j v s w (f' ++ walk env key) (h' ⊕ notes_of key) (inr (before_end j d q a)),
         field_end_reads j d k w (f' ++ walk env key ++ walk env value) (h' ⊕ notes_of key ⊕ notes_of value) q,
         ap (walk env) e ∙ field_walk (spanned c d) key value is_static (listed ds) is_accessor env,
         ap notes e ∙ field_noted (spanned c d) key value is_static (listed ds) is_accessor,
@@ -356,12 +356,12 @@ module _ (n : ℕ) (below : Below n)
       ) (simp (append_assoc, or_assoc) refl)
 
   keyed_field_reads : (first : Span) (v : Leading) (is_static : Bool) (key value x : Tree) (k : Code) (c m i j d : Place) → MemberKeyRule (language.Reads n) k key m i → is_constructor_key key ≡ false
-      → FieldValueRule (language.Reads n) k key value i j → Ends j d → x ≡ field_member (spanned c d) key value is_static false (listed v.found) → supported_in k.flags.module x ≡ true → is_error (kind_at d) ≡ false
+      → FieldValueRule (language.Reads n) k m value i j → Ends j d → x ≡ field_member (spanned c d) key value is_static false (listed v.found) → supported_in k.flags.module x ≡ true → is_error (kind_at d) ≡ false
       → ReadsBehind v.found (keyed_member (expr n) (cover n) (stmt n nested_item) (parameters n) v is_static (span_at c) first) k x m d
   unfolding keyed_member behind_key
   keyed_field_reads first v is_static key value x k c m i j d r o a q e s z w f h =
       let t = field_supported k.flags.module (spanned c d) key value is_static false (listed v.found) (supported_as _ x (field_member (spanned c d) key value is_static false (listed v.found)) e s) in
-      let g = field_goes key value a q in
+      let g = field_goes value a q in
       let f' = f ++ walk (env_of k w.labels) (listed v.found) in
       let h' = h ⊕ notes_of (listed v.found) in
       rw (
@@ -372,12 +372,12 @@ module _ (n : ℕ) (below : Below n)
 
   -- behind `accessor`: neither a block nor words stand before its key
   accessed_reads : (first : Span) (v : Leading) (is_static : Bool) (accessor : Span) (key value x : Tree) (k : Code) (c m i j d : Place) → MemberKeyRule (language.Reads n) k key m i → is_constructor_key key ≡ false
-      → FieldValueRule (language.Reads n) k key value i j → Ends j d → x ≡ field_member (spanned c d) key value is_static true (listed v.found) → supported_in k.flags.module x ≡ true → MemberFollows d
+      → FieldValueRule (language.Reads n) k m value i j → Ends j d → x ≡ field_member (spanned c d) key value is_static true (listed v.found) → supported_in k.flags.module x ≡ true → MemberFollows d
       → ReadsBehind v.found (accessed (expr n) (cover n) (stmt n nested_item) (parameters n) v is_static (span_at c) first accessor) k x m d
   unfolding accessed accessed_key behind_accessed_key begins_block
   accessed_reads first v is_static accessor key value x k c m i j d r o a q e s z w f h =
       let t = field_supported k.flags.module (spanned c d) key value is_static true (listed v.found) (supported_as _ x (field_member (spanned c d) key value is_static true (listed v.found)) e s) in
-      let g = field_goes key value a q in
+      let g = field_goes value a q in
       let u : Keyed m = key_keyed r (g.no_brace z.1) in
       let f' = f ++ walk (env_of k w.labels) (listed v.found) in
       let h' = h ⊕ notes_of (listed v.found) in
@@ -435,7 +435,7 @@ module _ (n : ℕ) (below : Below n)
             (λ form r e. method_reads first v is_static form key ps body x k c m d r i e s z.0) r e),
       )
   core_reads first v is_static k x c m d (field_rule key value i j r o u q e) a s z =
-      let t : Keyed m = key_keyed r ((field_goes key value u q).no_brace z.1) in
+      let t : Keyed m = key_keyed r ((field_goes value u q).no_brace z.1) in
       (t.no_semicolon, keyed_reads v is_static (span_at c) first k x m d a t (keyed_field_reads first v is_static key value x k c m i j d r o u q e s z.0))
   core_reads first v is_static k x c m d (static_block_rule body f b g r e) a s z = let none = listed_none v.found g in (
     brace_no_semicolon m r.opens,

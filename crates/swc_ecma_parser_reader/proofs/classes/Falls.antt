@@ -24,9 +24,9 @@ use Rattle.swc_ecma_parser_reader.specs.Jumps.{told}
 use Rattle.swc_ecma_parser_reader.specs.Bodies.{closes, close, braced, named, misdirected, function_body}
 use Rattle.swc_ecma_parser_reader.specs.Members.{static_word, begins_accessor, begins_async_member, member_words, private_faults, parameter_faults, misnamed, misnamed_by, field_end, field_named, private_key, member_key, field_value, field_from, field, method_parts, method, constructor, plain_method, static_block, second_static, behind_key, before_constructor, keyed_member, begins_words, begins_block, static_behind, block_behind, behind_accessed_key, accessed_key, accessed, accessor_member, behind_static, full_member, empty_member, member_level, Members, no_members, dropped, members_turn, members, extended, surplus, class_parts, named_class, class_decl, class_name, unnamed_class, class_expr, class_stmt, form_is_async, form_is_generator}
 use Rattle.swc_ecma_parser_reader.proofs.Errors.{is_error, fault_here}
-use Rattle.swc_ecma_parser_reader.proofs.Takes.{Falls, falls_then, falls_last, falls_coded, falls_found, falls_if, less, falls_next, moves, takes, falls_past, falls_moved, wanted_falls, name_falls, fault_falls, close_falls, expect_falls, loop_falls}
+use Rattle.swc_ecma_parser_reader.proofs.Takes.{Falls, falls_then, falls_last, falls_coded, falls_found, falls_if, less, falls_next, moves, takes, falls_past, falls_moved, wanted_falls, name_falls, fault_falls, close_falls, expect_falls, loop_falls, reject_falls}
 use Rattle.swc_ecma_parser_reader.proofs.decorators.Falls.{leading_falls, misplaced_falls}
-use Rattle.swc_ecma_parser_reader.proofs.expressions.Falls.{reject_falls, no_end, falls_when, starred_falls, private_falls, told_falls, inside_falls, key_falls}
+use Rattle.swc_ecma_parser_reader.proofs.expressions.Falls.{no_end, falls_when, starred_falls, private_falls, told_falls, inside_falls, key_falls}
 
 -- ---- the words before a key, and faults of keys
 

@@ -31,7 +31,8 @@ use Rattle.swc_ecma_parser_reader.proofs.Meets.{Answers, answers_then, answers_i
 use Rattle.swc_ecma_parser_reader.proofs.Behind.{NothingLost, Kept, Lost, Passes, flagged_kept, behind_after, behind_seen, fault_keeps, fault_stays, wanted_keeps, reject_keeps, expect_keeps, close_keeps, name_keeps, loop_keeps}
 use Rattle.swc_ecma_parser_reader.proofs.classes.Words.{static_kind, auto_accessor_kind, accessor_kind, async_kind}
 use Rattle.swc_ecma_parser_reader.proofs.decorators.Keeps.{leading_keeps, misplaced_keeps, misplaced_stays}
-use Rattle.swc_ecma_parser_reader.proofs.expressions.Keeps.{other_test, told_keeps, private_keeps, starred_keeps, inside_keeps, key_keeps}
+use Rattle.swc_ecma_parser_reader.proofs.expressions.Keeps.{starred_keeps, inside_keeps, key_keeps}
+use Rattle.swc_ecma_parser_reader.proofs.expressions.KeepSteps.{other_test, told_keeps, private_keeps}
 
 -- no error token stands where a static block begins
 block_is_none : (is_static : Bool) (c : Place) → begins_block is_static c ≡ true → is_error (kind_at c) ≡ false

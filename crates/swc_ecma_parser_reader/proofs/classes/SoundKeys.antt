@@ -102,47 +102,30 @@ member_words_sound s = meets_if _ (begins_accessor (codes "get") s.at) _ _
 
 -- ---- keys that name accessors
 
--- no keyword is one of these words
-no_keyword : (w : Keyword) → (bytes_eq (keyword_text w) (codes "get") ≡ false) × (bytes_eq (keyword_text w) (codes "set") ≡ false)
-no_keyword keyword.Await = (refl, refl)
-no_keyword _ = (refl, refl)
+-- a key that begins with such a word is that word
+module _ (text : Text) (In : Goal → Type 0) where
+  key_is_word : {k : Code} {x : Tree} {c d : Place} → KeyRule In k x c d → word_at text c ≡ true → d ≡ after c
+  key_is_word (parts.word_key t s r e) h = r.reads_word.next
+  key_is_word (parts.string_key value raw s r e) h = r.next
+  key_is_word (parts.number_key raw s r e) h = r.next
+  key_is_word (parts.big_int_key raw s r e) h = r.next
+  key_is_word {c = c} (parts.computed_key r) h = let i : kind.LBracket ≡ kind.Ident = sym r.opens ∙ word_place text c h in cc
 
-get_word : (w : Word) → bytes_eq (word_text w) (codes "get") ≡ true → token_is (codes "get") (token.Word w) ≡ true
-get_word (word.Ident t) h = h
-get_word (word.Keyword w) h = absurd (true≢false (sym h ∙ (no_keyword w).0))
-get_word _ h = absurd (true≢false (sym h))
-
-set_word : (w : Word) → bytes_eq (word_text w) (codes "set") ≡ true → token_is (codes "set") (token.Word w) ≡ true
-set_word (word.Ident t) h = h
-set_word (word.Keyword w) h = absurd (true≢false (sym h ∙ (no_keyword w).1))
-set_word _ h = absurd (true≢false (sym h))
-
--- a key of the text of such a word is that word
-module _ (text : Text) (spells : (w : Word) → bytes_eq (word_text w) text ≡ true → token_is text (token.Word w) ≡ true) (In : Goal → Type 0) where
-  word_of_key : {k : Code} {x : Tree} {c d : Place} → KeyRule In k x c d → is_ident_named text x ≡ true → (word_at text c ≡ true) × (d ≡ after c)
-  unfolding word_at
-  word_of_key (parts.word_key t s r e) h = let w = r.reads_word in let g = spells r.word (sym (ap (λ z. bytes_eq z text) r.is_text) ∙ sym (ap (is_ident_named text) e) ∙ h) in (rw w.is g, w.next)
-  word_of_key (parts.string_key value raw s r e) h = absurd (true≢false (sym h ∙ ap (is_ident_named text) e))
-  word_of_key (parts.number_key raw s r e) h = absurd (true≢false (sym h ∙ ap (is_ident_named text) e))
-  word_of_key (parts.big_int_key raw s r e) h = absurd (true≢false (sym h ∙ ap (is_ident_named text) e))
-  word_of_key (parts.computed_key r) h = absurd (true≢false (sym h ∙ ap (is_ident_named text) r.is))
-
-  word_of_member_key : {k : Code} {x : Tree} {c d : Place} → MemberKeyRule In k x c d → is_ident_named text x ≡ true → (word_at text c ≡ true) × (d ≡ after c)
-  word_of_member_key (classes.member_key r) h = word_of_key r h
-  word_of_member_key (classes.private_key s w t r e g) h = absurd (true≢false (sym h ∙ ap (is_ident_named text) e))
+  member_key_is_word : {k : Code} {x : Tree} {c d : Place} → MemberKeyRule In k x c d → word_at text c ≡ true → d ≡ after c
+  member_key_is_word (classes.member_key r) h = key_is_word r h
+  member_key_is_word {c = c} (classes.private_key s w t r e g) h = let i : kind.Hash ≡ kind.Ident = sym r.hash ∙ word_place text c h in cc
 
   -- so no accessor goes on behind it, where none begins with it
-  goes_not_on : {k : Code} {x : Tree} {c d : Place} → MemberKeyRule In k x c d → is_ident_named text x ≡ true → begins_accessor text c ≡ false
+  goes_not_on : {k : Code} {x : Tree} {c d : Place} → MemberKeyRule In k x c d → word_at text c ≡ true → begins_accessor text c ≡ false
       → not (ends_key d) && not (sees kind.Mul d && breaks_at d) ≡ false
   unfolding begins_accessor
-  goes_not_on {c = c} r h g = let (w, e) = word_of_member_key r h in
-      subst (λ z. not (ends_key z) && not (sees kind.Mul z && breaks_at z) ≡ false) (sym e) (rw w at g)
+  goes_not_on r h g = subst (λ z. not (ends_key z) && not (sees kind.Mul z && breaks_at z) ≡ false) (sym (member_key_is_word r h)) (rw h at g)
 
 pub no_accessor_key : (In : Goal → Type 0) {k : Code} {x : Tree} {c d : Place} → MemberKeyRule In k x c d → begins_accessor (codes "get") c ≡ false → begins_accessor (codes "set") c ≡ false
-    → is_accessor_key x d ≡ false
+    → is_accessor_key c d ≡ false
 unfolding is_accessor_key
-no_accessor_key In {x = x} {d = d} r a b = by_names (is_ident_named (codes "get") x) (is_ident_named (codes "set") x)
-    (λ h. goes_not_on (codes "get") get_word In r h a) (λ h. goes_not_on (codes "set") set_word In r h b)
+no_accessor_key In {c = c} {d = d} r a b = by_names (word_at (codes "get") c) (word_at (codes "set") c)
+    (λ h. goes_not_on (codes "get") In r h a) (λ h. goes_not_on (codes "set") In r h b)
   where
     by_names : (a b : Bool) → (a ≡ true → not (ends_key d) && not (sees kind.Mul d && breaks_at d) ≡ false) → (b ≡ true → not (ends_key d) && not (sees kind.Mul d && breaks_at d) ≡ false)
         → (a || b) && (not (ends_key d) && not (sees kind.Mul d && breaks_at d)) ≡ false

@@ -272,9 +272,9 @@ module _ (n : ℕ) (inner : Class → Reader Tree) (cover : Reader Cover) (stmt 
       meets_as (inside inner cover assignment (moved s)) (inside_sound n inner cover sound sound_cover assignment (moved s)) (λ x t p. sound_after s t h refl refl refl (λ r. one_read h r) p))
       (λ e. sound_here s (none_read e refl refl))
 
-  value_rule : {k : Code} (key x : Tree) {c d : Place} → sees kind.LParen c ≡ false → is_accessor_key key c ≡ false → ValueRead k x c d → FieldValueRule (Reads n) k key x c d
-  value_rule key x l a (none_read e i g) = no_value e l a i g
-  value_rule key x l a (one_read e r) = a_value e r.0
+  value_rule : {k : Code} (start : Place) (x : Tree) {c d : Place} → sees kind.LParen c ≡ false → is_accessor_key start c ≡ false → ValueRead k x c d → FieldValueRule (Reads n) k start x c d
+  value_rule start x l a (none_read e i g) = no_value e l a i g
+  value_rule start x l a (one_read e r) = a_value e r.0
 
   value_supported : {k : Code} (x : Tree) {c d : Place} → ValueRead k x c d → supported_in k.flags.module x ≡ true
   value_supported {k = k} x (none_read e i g) = ap (supported_in k.flags.module) g
@@ -345,7 +345,7 @@ module _ (n : ℕ) (inner : Class → Reader Tree) (cover : Reader Cover) (stmt 
 
   -- the key was read, and no accessor goes on behind it
   abbrev FieldKeyRead : Tree → Code → Place → Place → Type 0
-  FieldKeyRead key k c d = MemberKeyRead n k key c d × (is_accessor_key key d ≡ false)
+  FieldKeyRead key k c d = MemberKeyRead n k key c d × (is_accessor_key c d ≡ false)
 
   -- it begins at a state; another is behind its decorators, and a third behind these words, of which is known what holds in a code
   module _ (first : Span) (v : Leading) (s m i : State) (lead : SoundLeading n s v m) (Words : Code → Type 0) (words : SoundStep (λ k c d. Words k) m i) (is_static is_accessor : Bool) where
@@ -486,7 +486,7 @@ module _ (n : ℕ) (inner : Class → Reader Tree) (cover : Reader Cover) (stmt 
             sound_as s t refl (field_walk (env_of s.code s.scope.labels) here key value is_static is_accessor v.found) (field_noted here key value is_static is_accessor v.found)
             (λ (((z, (k, a)), y), e). (
               z,
-              field_rule key value u.at o.at k.0 h (value_rule key value l a y) e refl,
+              field_rule key value u.at o.at k.0 h (value_rule _ value l a y) e refl,
               field_supported s.code.flags.module here key k.1 v.found value is_static is_accessor z.0.0.1 (value_supported value y),
             ))
             (stepped (paired (keyed (FieldKeyRead key) key u p) q) r)))

@@ -11,11 +11,10 @@ use Rattle.swc_ecma_parser_reader.specs.Decorators.{Leading, leading, misplaced}
 use Rattle.swc_ecma_parser_reader.specs.DecoratedStatements.{begins_declared, declared_behind, exported_behind, other_behind, stmt_behind, decorated_stmt, either_stmt}
 use Rattle.swc_ecma_parser_reader.specs.State.{State, Reader}
 use Rattle.swc_ecma_parser_reader.proofs.Meets.{Answers, answers_then, answers_if}
-use Rattle.swc_ecma_parser_reader.proofs.Takes.{Falls, falls_then, falls_last, falls_if, wanted_falls}
+use Rattle.swc_ecma_parser_reader.proofs.Takes.{Falls, falls_then, falls_last, falls_if, wanted_falls, reject_falls}
 use Rattle.swc_ecma_parser_reader.proofs.Behind.{Kept, Passes, reject_keeps, wanted_keeps}
 use Rattle.swc_ecma_parser_reader.proofs.Shallow.{Fine, Shallow, Levels, StmtLevels, wanted_shallow}
 use Rattle.swc_ecma_parser_reader.proofs.Shallow as shallow
-use Rattle.swc_ecma_parser_reader.proofs.expressions.Falls.{reject_falls}
 use Rattle.swc_ecma_parser_reader.proofs.expressions.LimitSteps.{reject_shallow}
 use Rattle.swc_ecma_parser_reader.proofs.decorators.Falls.{leading_falls, misplaced_falls}
 use Rattle.swc_ecma_parser_reader.proofs.decorators.Keeps.{leading_keeps, misplaced_keeps}

@@ -9,13 +9,14 @@ use Rattle.swc_ecma_parser_model.specs.declared.operators.BinaryOp.{BinaryOp}
 use Rattle.swc_ecma_parser_model.specs.declared.operators.AssignOp.{AssignOp}
 use Rattle.swc_ecma_parser_model.specs.Tree as tree
 use Rattle.swc_ecma_parser_model.specs.Tree.{Tree}
-use Rattle.swc_ecma_parser_model.specs.Forms.{is_ident_named}
+use Rattle.swc_ecma_parser_model.specs.Forms.{is_ident_named, is_chain}
 use Rattle.swc_ecma_parser_grammar.specs.Looks.{kind_at, sees}
 use Rattle.swc_ecma_parser_grammar.specs.language.Goals.{Class}
 use Rattle.swc_ecma_parser_grammar.specs.language.Operators.{assign_operator, mixes}
+use Rattle.swc_ecma_parser_grammar.specs.Follows.{begins_template}
 use Rattle.swc_ecma_parser_reader.specs.State.{State, Outcome, Reader, and_then, ◌>>=◌, moved, wanted}
-use Rattle.swc_ecma_parser_reader.specs.Expressions.{Cover, heads_arrow, simple, update_behind, behind_operand, postfix_at, right_class, operator_at, left_operand, unmixed, unheaded, access, arguments, accessed, called, left_turn, left_from, operated, binary_by, binary_turn, binary_from, conditional, assigned_or, behind_operators, postfixed, continued}
-use Rattle.swc_ecma_parser_reader.proofs.Meets.{Meets, Refuses, meets_then, meets_if, always, Turned, loop_answers}
+use Rattle.swc_ecma_parser_reader.specs.Expressions.{chain_of, template_pieces, tagged, tagged_by, behind_question, chained, Cover, heads_arrow, simple, update_behind, behind_operand, postfix_at, right_class, operator_at, left_operand, unmixed, unheaded, access, arguments, accessed, called, left_turn, left_from, operated, binary_by, binary_turn, binary_from, conditional, assigned_or, behind_operators, postfixed, continued}
+use Rattle.swc_ecma_parser_reader.proofs.Meets.{Meets, Refuses, meets_then, meets_if, always, Turned, loop_answers, wanted_meets}
 use Rattle.swc_ecma_parser_reader.proofs.expressions.SoundSteps.{reject_meets}
 
 -- a call of that name
@@ -69,11 +70,26 @@ module _ (inner : Class → Reader Tree) (cover : Reader Cover) where
     unfolding called
     called_alone start x u e = always Alone (arguments inner cover true u) _ (λ _ _. (refl, λ h. absurd (let i : true ≡ false = sym h ∙ e in cc)))
 
+    -- as a link of a chain too
+    link_alone : (b : Bool) (y : Tree) (u : State) → Alone y u → Alone (cond b (chain_of false y) y) u
+    link_alone true y u p = (refl, λ h. cc)
+    link_alone false y u p = p
+
+    tagged_alone : (start : Span) (x : Tree) (u : State) → Meets Alone (tagged inner cover start x u)
+    unfolding tagged tagged_by
+    tagged_alone start x u = meets_if _ (is_chain x) _ _ (λ _. wanted_meets _ faults.Unexpected u) (λ _. always Alone (template_pieces inner cover true u) _ (λ _ _. (refl, λ h. cc)))
+
+    chained_alone : (start : Span) (x : Tree) (u : State) → Meets Alone (chained inner cover start x u)
+    unfolding chained
+    chained_alone start x u = always Alone (behind_question inner cover start x (moved u)) _ (λ _ _. (refl, λ h. cc))
+
     left_turn_alone : (start : Span) (x : Tree) (u : State) → Alone x u → Meets (Turned (left_turn inner cover true start) Alone Alone Refuses) (left_turn inner cover true start x u)
     unfolding left_turn
     left_turn_alone start x u p = meets_if _ (sees kind.Dot u.at || sees kind.LBracket u.at) _ _
-        (λ _. meets_then _ (accessed inner cover start x u) _ (accessed_alone start x u) (λ _ _ q. q))
-        (λ _. meets_if _ (sees kind.LParen u.at) _ _ (λ _. meets_then _ (called inner cover start x u) _ (called_alone start x u p.0) (λ _ _ q. q)) (λ _. p))
+        (λ _. meets_then _ (accessed inner cover start x u) _ (accessed_alone start x u) (λ y v q. link_alone (is_chain x) y v q))
+        (λ _. meets_if _ (sees kind.LParen u.at) _ _ (λ _. meets_then _ (called inner cover start x u) _ (called_alone start x u p.0) (λ y v q. link_alone (is_chain x) y v q))
+        (λ _. meets_if _ (begins_template u.at) _ _ (λ _. meets_then _ (tagged inner cover start x u) _ (tagged_alone start x u) (λ _ _ q. q))
+        (λ _. meets_if _ (sees kind.QuestionDot u.at) _ _ (λ _. meets_then _ (chained inner cover start x u) _ (chained_alone start x u) (λ _ _ q. q)) (λ _. p))))
 
     left_alone : (start : Span) (x : Tree) (u : State) → Alone x u → Meets Alone (left_from inner cover true start x u)
     unfolding left_from

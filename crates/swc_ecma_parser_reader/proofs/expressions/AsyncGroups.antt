@@ -18,7 +18,7 @@ use Rattle.swc_ecma_parser_reader.specs.Words.{is_head, heads_arrow, begins_asyn
 use Rattle.swc_ecma_parser_reader.specs.Operands.{Cover, operator_at, unheaded, close, inside, covered, spread_element, plain_element, element, arguments_turn, arguments, called, left_turn, left_from, postfixed, binary_turn, binary_from, behind_operators, ident_expr, continued}
 use Rattle.swc_ecma_parser_reader.specs.Arrows.{arrow_from}
 use Rattle.swc_ecma_parser_reader.specs.AsyncArrows.{Argument, followed, closed_argument, closed_arguments, argument_parameters, async_called, spread_argument, plain_argument, argument, either_turn, either_arguments, behind_async, async_grouped}
-use Rattle.swc_ecma_parser_reader.specs.Expressions.{operators_expr}
+use Rattle.swc_ecma_parser_reader.specs.Expressions.{linked, operators_expr}
 use Rattle.swc_ecma_parser_reader.proofs.Steps.{then_ok, chosen, loop_more, loop_done, loop_err}
 use Rattle.swc_ecma_parser_reader.proofs.Takes.{moves, takes}
 use Rattle.swc_ecma_parser_reader.proofs.Meets.{Refuses, Meets, meets_then, meets_if, wanted_meets, Turned, loop_answers, saw, meant}
@@ -311,11 +311,11 @@ module _ (inner : Class → Reader Tree) (cover : Reader Cover) (tied : IsTied i
 
   -- behind what was called the same goes on
   continues_called : (start : Span) (x : Tree) (s : State) (y : Tree) (t : State) → kind_at s.at ≡ kind.LParen → called inner cover start x s ≡ Ok (y, t) → length t.at.left ≤ length (after s.at).left
-      → goes_behind inner cover true start x s ≡ goes_behind inner cover true start y t
+      → goes_behind inner cover true start x s ≡ goes_behind inner cover true start (linked x y) t
   unfolding left_from left_turn same_kind
   continues_called start x s y t o e l =
       ap (λ z. and_then z (λ v. postfixed inner cover start v >>= (λ w. binary_from inner cover 1 start w >>= behind_operators inner cover true start)))
-      (loop_more (left_turn inner cover true start) x y s t (rw (o, e) refl) (let a = takes s.at (λ g. let k = sym g ∙ o in cc) in omega arith))
+      (loop_more (left_turn inner cover true start) x (linked x y) s t (rw (o, e) refl) (let a = takes s.at (λ g. let k = sym g ∙ o in cc) in omega arith))
 
   record Called (start : Span) (x : Tree) (s : State) : Type 0 where
     y : Tree
@@ -338,7 +338,7 @@ module _ (inner : Class → Reader Tree) (cover : Reader Cover) (tied : IsTied i
   stays_by start x s h e =
       let t = stopped s.at h in
       rw (
-        loop_done (left_turn inner cover true start) x x s s (rw (t.dot, t.bracket, t.paren) refl),
+        loop_done (left_turn inner cover true start) x x s s (rw (t.dot, t.bracket, t.paren, t.template, t.question) refl),
         t.postfix,
         loop_done (binary_turn inner cover 1 start) x x s s (rw e refl),
       ) refl

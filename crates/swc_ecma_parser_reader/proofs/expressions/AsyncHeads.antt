@@ -32,14 +32,15 @@ use Rattle.swc_ecma_parser_reader.specs.Methods.{FunctionForm}
 use Rattle.swc_ecma_parser_reader.specs.Yields.{begins_yield}
 use Rattle.swc_ecma_parser_reader.specs.Arrows.{begins_named_arrow}
 use Rattle.swc_ecma_parser_reader.specs.AsyncArrows.{begins_async_arrow, async_named_arrow, async_grouped}
-use Rattle.swc_ecma_parser_reader.specs.Expressions.{Cover, begins_async_call, heads_arrow, operator_at, unheaded, ident_expr, named_expr, primary, left_turn, left_from, left_head, left, postfix, postfixed, unary_expr, binary_turn, binary_from, binary_expr, behind_operators, operators_expr, plain_expr}
+use Rattle.swc_ecma_parser_reader.specs.Expressions.{first_operand, Cover, begins_async_call, heads_arrow, operator_at, unheaded, ident_expr, named_expr, primary, left_turn, left_from, left_head, left, postfix, postfixed, unary_expr, binary_turn, binary_from, binary_expr, behind_operators, operators_expr, plain_expr}
 use Rattle.swc_ecma_parser_reader.proofs.Words.{word_named, unreserved}
 use Rattle.swc_ecma_parser_reader.proofs.Steps.{loop_done}
 use Rattle.swc_ecma_parser_reader.proofs.Meets.{Meets, wanted_meets, saw}
 use Rattle.swc_ecma_parser_reader.proofs.expressions.Awaits.{other_awaits}
 use Rattle.swc_ecma_parser_reader.proofs.expressions.AsyncCalls.{goes_behind}
 use Rattle.swc_ecma_parser_reader.proofs.expressions.Covers.{met, four_steps}
-use Rattle.swc_ecma_parser_reader.proofs.expressions.CompleteKinds.{Quiet, token_first, paren_here, named_here, no_async_function, quiet_stops, stopped}
+use Rattle.swc_ecma_parser_reader.proofs.expressions.CompleteKinds.{Quiet, token_first, paren_here, named_here, quiet_stops, stopped}
+use Rattle.swc_ecma_parser_reader.proofs.expressions.PartEnds.{no_async_function}
 
 not_yes : (b : Bool) → not b ≡ true → b ≡ false
 not_yes true e = cc
@@ -82,13 +83,13 @@ unfolding is_identifier is_reserved same_kind
 keyword_passes f keyword.In e = cc
 keyword_passes f keyword.InstanceOf e = cc
 keyword_passes f keyword.Function e = cc
-keyword_passes f keyword.Await e = ((refl, refl, refl, refl, refl), refl, refl, refl, refl, refl)
-keyword_passes f _ e = ((refl, refl, refl, refl, refl), refl, refl, refl, refl, refl)
+keyword_passes f keyword.Await e = ((refl, refl, refl, refl, refl, refl, refl, refl), refl, refl, refl, refl, refl)
+keyword_passes f _ e = ((refl, refl, refl, refl, refl, refl, refl, refl), refl, refl, refl, refl, refl)
 
 word_passes : (f : Context) (w : Word) → is_identifier f (word_text w) ≡ true → Passes (word_kind w)
 unfolding same_kind
 word_passes f (word.Keyword k) e = keyword_passes f k e
-word_passes f _ e = ((refl, refl, refl, refl, refl), refl, refl, refl, refl, refl)
+word_passes f _ e = ((refl, refl, refl, refl, refl, refl, refl, refl), refl, refl, refl, refl, refl)
 
 name_passes : (f : Context) (c : Place) → name_at f c ≡ true → Passes (kind_at c)
 name_passes f c n = let (v, s, r, i) = named_here f c n in subst Passes (sym (token_first (token.Word v) s c (after c) r)) (word_passes f v i)
@@ -154,13 +155,14 @@ module _ (inner : Class → Reader Tree) (cover : Reader Cover) (function : Func
 
   -- no word of an operator or of a form stands there
   unprefixed : (awaits s.code.flags s.at ≡ false) × (sees kind.Super s.at ≡ false) × (sees kind.New s.at ≡ false) × (sees kind.Import s.at ≡ false)
+      × (sees kind.HashIn s.at ≡ false)
   unfolding same_kind
-  unprefixed = (other_awaits s.code.flags s.at first refl, rw first refl, rw first refl, rw first refl)
+  unprefixed = (other_awaits s.code.flags s.at first refl, rw first refl, rw first refl, rw first refl, rw first refl)
 
   -- what goes on with a call of it
   pub operators_async : begins_async_call s.at ≡ true → operators_expr inner cover function s ≡ and_then (ident_expr s) (goes_behind inner cover true (span_at s.at))
-  unfolding operators_expr binary_expr unary_expr postfix left left_head postfixed
-  operators_async h = rw (ap unary_operator first, unprefixed.0, ap update_operator first, unprefixed.1, unprefixed.2, unprefixed.3, primary_async, h)
+  unfolding operators_expr binary_expr first_operand unary_expr postfix left left_head postfixed
+  operators_async h = rw (unprefixed.4, ap unary_operator first, unprefixed.0, ap update_operator first, unprefixed.1, unprefixed.2, unprefixed.3, primary_async, h)
       (four_steps (ident_expr s) (left_from inner cover true (span_at s.at)) (postfixed inner cover (span_at s.at)) (binary_from inner cover 1 (span_at s.at)) (behind_operators inner cover true (span_at s.at)))
 
   -- a name on its line
@@ -173,13 +175,14 @@ module _ (inner : Class → Reader Tree) (cover : Reader Cover) (function : Func
         rw (p.2, p.4, p.1, e, line, named) (wanted_meets (λ _ _. ⊥) faults.Unexpected (moved s))
 
     operators_none : Meets (λ _ _. ⊥) (operators_expr inner cover function s)
-    unfolding operators_expr binary_expr unary_expr postfix left left_head left_from left_turn binary_from binary_turn operator_at
+    unfolding operators_expr binary_expr first_operand unary_expr postfix left left_head left_from left_turn binary_from binary_turn operator_at
     operators_none =
         let n = async_name s begins in
         let p = name_passes s.code.flags (after s.at) named in
         let x = tree.ident n.span n.text in
         let t = stopped (after s.at) (quiet_stops (after s.at) p.0) in
         rw (
+          unprefixed.4,
           ap unary_operator first,
           unprefixed.0,
           ap update_operator first,
@@ -188,7 +191,7 @@ module _ (inner : Class → Reader Tree) (cover : Reader Cover) (function : Func
           unprefixed.3,
           primary_async,
           n.reads,
-          loop_done (left_turn inner cover true (span_at s.at)) x x (moved s) (moved s) (rw (t.dot, t.bracket, t.paren) refl),
+          loop_done (left_turn inner cover true (span_at s.at)) x x (moved s) (moved s) (rw (t.dot, t.bracket, t.paren, t.template, t.question) refl),
           t.postfix,
           loop_done (binary_turn inner cover 1 (span_at s.at)) x x (moved s) (moved s) (rw p.5 refl),
         ) (behind_none (begins_async_call s.at) (span_at s.at) n.span n.text n.is_async)

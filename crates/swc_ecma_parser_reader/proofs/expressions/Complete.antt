@@ -9,7 +9,7 @@ use Rattle.swc_ecma_parser_grammar.proofs.Binding.{parameter_down, item_down}
 use Rattle.swc_ecma_parser_grammar.proofs.Marks.{awaits_apart}
 use Rattle.swc_ecma_parser_reader.proofs.expressions.Awaits.{update_no_await}
 use Rattle.std.proofs.Common.{◌≡◌, ℕ, zero, suc, ◌≤◌, Bool, true, false, List, [], ◌∷◌, ◌++◌, length, ◌⊎◌, inl, inr, Option, Some, None, Ok, refl, sym, ◌∙◌, ap, arith, append_assoc, append-nil, subst}
-use Rattle.std.specs.Prelude.{◌&&◌, ◌||◌, is_some, codes, not}
+use Rattle.std.specs.Prelude.{◌&&◌, ◌||◌, is_some, codes, not, nat_le}
 use Rattle.std.proofs.lemmas.Bool.{le-leb}
 use Rattle.swc_ecma_parser_common.specs.declared.span.Span.{Span}
 use Rattle.swc_ecma_parser_error.specs.Kind.{Fault}
@@ -27,7 +27,8 @@ use Rattle.swc_ecma_parser_model.specs.Forms.{is_ident, is_ident_named, is_simpl
 use Rattle.swc_ecma_parser_model.specs.Targets.{leaf, as_target, as_element}
 use Rattle.swc_ecma_parser_grammar.specs.Looks.{kind_at, breaks_at, sees, same_kind, span_at, spanned}
 use Rattle.swc_ecma_parser_grammar.specs.Names.{Code}
-use Rattle.swc_ecma_parser_grammar.specs.Follows.{continues_left_side}
+use Rattle.swc_ecma_parser_grammar.specs.Follows.{begins_template, continues_left_side}
+use Rattle.swc_ecma_parser_grammar.specs.language.Parts.{PrivateOperandRule}
 use Rattle.swc_ecma_parser_grammar.specs.Notes.{notes}
 use Rattle.swc_ecma_parser_grammar.specs.language.Noted.{has_meta}
 use Rattle.swc_ecma_parser_grammar.specs.Walk.{env_of, walk, walks}
@@ -49,7 +50,7 @@ use Rattle.swc_ecma_parser_grammar.proofs.language.spans.Expressions.{left_side_
 use Rattle.swc_ecma_parser_reader.specs.Notes.{Notes, ◌⊕◌, notes_of, all_notes_of}
 use Rattle.swc_ecma_parser_reader.specs.State.{Scope, State, Outcome, Reader, loop}
 use Rattle.swc_ecma_parser_reader.specs.Methods.{FunctionForm}
-use Rattle.swc_ecma_parser_reader.specs.Expressions.{Cover, done, goes_on, begins_async_call, is_head, heads_arrow, closed_left, simple, update_behind, read_operator, operator_at, left_operand, unmixed, unassigned, unheaded, left, left_expr, prefixed, update_before, await_allowed, await_expr, postfix, unary_expr, operated, binary_turn, binary_from, binary_expr, conditional, assigned_to, assigned, behind_operators, operators_expr, cover_expr, assignment_expr, sequence_turn, sequence_from, expression_expr, expr_level, is_literal, plain_expr}
+use Rattle.swc_ecma_parser_reader.specs.Expressions.{Cover, done, goes_on, begins_async_call, is_head, heads_arrow, closed_left, simple, update_behind, read_operator, operator_at, left_operand, unmixed, unassigned, unheaded, left, left_expr, prefixed, update_before, await_allowed, await_expr, postfix, unary_expr, operated, binary_turn, binary_from, binary_expr, conditional, assigned_to, assigned, private_name, in_word, private_in, first_operand, behind_operators, operators_expr, cover_expr, assignment_expr, sequence_turn, sequence_from, expression_expr, expr_level, is_literal, plain_expr}
 use Rattle.swc_ecma_parser_reader.specs.Yields.{begins_yield, bare_yield, yielded, behind_yield, yield_expr}
 use Rattle.swc_ecma_parser_reader.proofs.Notes.{or_nil, or_assoc}
 use Rattle.swc_ecma_parser_reader.proofs.Answered.{st, Reads, Calm, ReadsCalm, Gets, gets_also, ReadsAs, ReadsAsCalm}
@@ -66,9 +67,10 @@ use Rattle.swc_ecma_parser_reader.proofs.expressions.Groups.{IsTied, ReadsParts,
 use Rattle.swc_ecma_parser_reader.proofs.expressions.AsyncHeads.{plain_async_grouped, never_async_named}
 use Rattle.swc_ecma_parser_reader.proofs.expressions.AsyncGroups.{operators_async_grouped}
 use Rattle.swc_ecma_parser_reader.proofs.expressions.NamedArrows.{never_named}
-use Rattle.swc_ecma_parser_reader.proofs.expressions.CompleteKinds.{names_stand, supported_as, seen, begins, element_begins, ends_part, part_calm, ended_at, ended_stops, ended_continues, no_async_function, left_first, operand_plain, operand_update, update_plain, operator_stops, assign_stops, question_stops, stops_unary, unary_stops, stopped, update_seen, postfix_seen, assign_seen, unassigned_at, update_calm, operator_calm, assign_calm}
+use Rattle.swc_ecma_parser_reader.proofs.expressions.CompleteKinds.{no_private, no_new_dot, unary_no_hash, names_stand, supported_as, seen, begins, element_begins, left_first, operand_plain, operand_update, update_plain, operator_stops, assign_stops, question_stops, stops_unary, unary_stops, stopped, update_seen, postfix_seen, assign_seen, unassigned_at, update_calm, operator_calm, assign_calm}
+use Rattle.swc_ecma_parser_reader.proofs.expressions.PartEnds.{ends_part, part_calm, ended_at, ended_stops, ended_continues, no_async_function}
 use Rattle.swc_ecma_parser_reader.proofs.expressions.Loops.{shorter_by}
-use Rattle.swc_ecma_parser_reader.proofs.expressions.CompleteParts.{expect_reads, AsExpr, AsElement, AsTarget, IsRead, IsFunctionRead, inside_reads}
+use Rattle.swc_ecma_parser_reader.proofs.expressions.CompleteParts.{private_operand_reads, in_reads, expect_reads, AsExpr, AsElement, AsTarget, IsRead, IsFunctionRead, inside_reads}
 use Rattle.swc_ecma_parser_reader.proofs.expressions.CompleteCovers.{AsLiteral, array_pattern, object_pattern}
 use Rattle.swc_ecma_parser_reader.proofs.expressions.CompleteLefts.{left_reads}
 use Rattle.swc_ecma_parser_reader.proofs.expressions.CompleteAsync.{arrow_reads}
@@ -85,6 +87,8 @@ module _ (In : Goal → Type 0) where
   primary_simple k x c d (sides.null_rule s r e) = ap is_operation e
   primary_simple k x c d (sides.number_rule raw s r e) = ap is_operation e
   primary_simple k x c d (sides.big_int_rule raw s r e) = ap is_operation e
+  primary_simple k x c d (sides.regex_rule exp flags s r e) = ap is_operation e
+  primary_simple k x c d (sides.template_rule es qs r e) = ap is_operation e
   primary_simple k x c d (sides.this_rule i n e) = ap is_operation e
   primary_simple k x c d (sides.array_rule xs m i r j n e) = ap is_operation e
   primary_simple k x c d (sides.object_rule xs m i r j n e) = ap is_operation e
@@ -95,9 +99,13 @@ module _ (In : Goal → Type 0) where
   left_simple : (k : Code) (x : Tree) (c d : Place) → LeftSideRule In k x c d → is_operation x ≡ false
   left_simple k x c d (sides.primary_rule r) = primary_simple k x c d r
   left_simple k x c d (sides.import_meta_rule i j w n m e) = ap is_operation e
-  left_simple k x c d (sides.member_rule y p m r a e) = ap is_operation e
+  left_simple k x c d (sides.new_target_rule i j w n e) = ap is_operation e
+  left_simple k x c d (sides.member_rule y p m r u a e) = ap is_operation e
+  left_simple k x c d (sides.tagged_rule y es qs m r u a e) = ap is_operation e
+  left_simple k x c d (sides.chain_rule y b m r i a e) = ap is_operation e
+  left_simple k x c d (sides.linked_rule y b m r n a e) = ap is_operation e
   left_simple k x c d (sides.super_property_rule p i a j e) = ap is_operation e
-  left_simple k x c d (sides.call_rule y z m r a e) = ap is_operation e
+  left_simple k x c d (sides.call_rule y z m r u a e) = ap is_operation e
   left_simple k x c d (sides.super_call_rule z i a e) = ap is_operation e
   left_simple k x c d (sides.import_call_rule z i a e) = ap is_operation e
   left_simple k x c d (sides.new_rule y z m i r a e) = ap is_operation e
@@ -220,15 +228,16 @@ module _ (In : Goal → Type 0) (inner : Class → Reader Tree) (cover : Reader 
 
   -- a left side, and no token that goes on with it
   side_reads : (k : Code) (x : Tree) (c d : Place) → LeftSideRule In k x c d → supported_in k.flags.module x ≡ true → sees kind.Dot d ≡ false → sees kind.LBracket d ≡ false → sees kind.LParen d ≡ false
-      → ReadsCalm (left inner cover function true) k x c d
-  side_reads k x c d r s dot bracket paren w f h q = left_reads In inner cover given function functions true k x c d r s refl (or_none _ _ dot bracket) paren w f h q
+      → begins_template d ≡ false → sees kind.QuestionDot d ≡ false → ReadsCalm (left inner cover function true) k x c d
+  side_reads k x c d r s dot bracket paren template question w f h q =
+      left_reads In inner cover given function functions true k x c d r s refl (or_none _ _ dot bracket) paren template question w f h q
 
   operand_reads : (k : Code) (x : Tree) (c d : Place) → LeftSideRule In k x c d → awaits k.flags c ≡ false → supported_in k.flags.module x ≡ true → continues_left_side d ≡ false → ReadsCalm (unary_expr inner cover function) k x c d
   unfolding unary_expr postfix
   operand_reads k x c d r a s e w f h q =
       let first = left_first In k x c d r s in
       let t = stopped d e in
-      rw (operand_plain (kind_at c) first, a, operand_update (kind_at c) first, side_reads k x c d r s t.dot t.bracket t.paren w f h q, t.postfix) refl
+      rw (operand_plain (kind_at c) first, a, operand_update (kind_at c) first, side_reads k x c d r s t.dot t.bracket t.paren t.template t.question w f h q, t.postfix) refl
 
   prefixed_reads : (op : UnaryOp) (e : Tree) (k : Code) (x : Tree) (c d : Place) → unary_operator (kind_at c) ≡ Some op → In (expr_goal unary k e (after c) d) → supported_in k.flags.module e ≡ true
       → x ≡ tree.unary (spanned c d) op e → ReadsCalm (unary_expr inner cover function) k x c d
@@ -260,7 +269,7 @@ module _ (In : Goal → Type 0) (inner : Class → Reader Tree) (cover : Reader 
   update_behind_reads op e m k x c d r a s t b o i j w f h =
       let first = left_first In k e c m r s in
       let apart = update_seen m op o in
-      rw (operand_plain (kind_at c) first, a, operand_update (kind_at c) first, side_reads k e c m r s apart.0 apart.1 apart.2 w f h (inr (update_calm m op o)), postfix_seen m op b o, t, j, i) refl
+      rw (operand_plain (kind_at c) first, a, operand_update (kind_at c) first, side_reads k e c m r s apart.0 apart.1 apart.2 apart.4 apart.3 w f h (inr (update_calm m op o)), postfix_seen m op b o, t, j, i) refl
 
   unary_reads : (k : Code) (x : Tree) (c d : Place) → UnaryRule In k x c d → supported_in k.flags.module x ≡ true → continues_unary x d ≡ false → ReadsCalm (unary_expr inner cover function) k x c d
   unary_reads k x c d (rules.operand_rule r) s e w f h q = operand_reads k x c d r.0 r.1 s (unary_stops x d (left_simple In k x c d r.0) e) w f h q
@@ -296,11 +305,28 @@ module _ (In : Goal → Type 0) (inner : Class → Reader Tree) (cover : Reader 
   unfolding binary_from binary_turn
   operators_stop l start x s e = loop_done (binary_turn inner cover l start) x x s s (rw e refl)
 
+  private_in_reads : (name right : Tree) (m : Place) (k : Code) (x : Tree) (c d : Place) → is_operator k binary.In ≡ true → PrivateOperandRule name c m → kind_at m ≡ kind.In
+      → In (expr_goal (operator (suc (precedence binary.In))) k right (after m) d) → supported_in k.flags.module right ≡ true → x ≡ tree.bin (spanned c d) binary.In name right
+      → ReadsCalm (private_in inner cover) k x c d
+  unfolding private_in spanned
+  private_in_reads name right m k x c d g r i o s e w f h q =
+      let f' = f ++ walk (env_of k w.labels) name in
+      let h' = h ⊕ notes_of name in
+      rw (
+        private_operand_reads k name c m r w f h,
+        in_reads m k w f' h' i g,
+        given.reads (operator (suc (precedence binary.In))) k right (after m) d o s w f' h' (calm_last d (walk (env_of k w.labels) name) (walk (env_of k w.labels) right) _ (ap (walk (env_of k w.labels)) e) q),
+        e,
+        append_assoc f _ _,
+        append_assoc h.held_back _ _,
+        or_assoc h.found_module_item _ _,
+      ) refl
+
   -- What was read so far is reached by the loop of any operators that bind no more tightly.
   binary_reached : (l : ℕ) (k : Code) (n : ℕ) (x : Tree) (c d : Place) → l ≤ n → BinaryRule In k n x c d → supported_in k.flags.module x ≡ true → continues_unary x d ≡ false → (w : Scope) (f : List Fault) (h : Notes)
       → Calm k w.labels x d → binary_expr inner cover function l (st c k w f h) ≡ binary_from inner cover l (span_at c) x (st d k w (f ++ walk (env_of k w.labels) x) (h ⊕ notes_of x))
-  unfolding binary_expr spanned
-  binary_reached l k n x c d b (rules.single_rule r) s e w f h a = rw (unary_reads k x c d r s e w f h a) refl
+  unfolding binary_expr first_operand spanned
+  binary_reached l k n x c d b (rules.single_rule r) s e w f h a = rw (no_private l c (unary_no_hash In k x c d r s), unary_reads k x c d r s e w f h a) refl
   binary_reached l k n x c d b (rules.left_rule op y z m p g o r i q u v j) s e w f h a =
       let t = and_yes (supported_in k.flags.module y) _ (supported_as _ x (tree.bin (spanned c d) op y z) j s) in
       let below : l ≤ precedence op = omega arith in
@@ -316,10 +342,16 @@ module _ (In : Goal → Type 0) (inner : Class → Reader Tree) (cover : Reader 
       let o : binary_operator (kind_at m) ≡ Some binary.Exp = rw i refl in
       let f' = f ++ walk (env_of k w.labels) y in
       let h' = h ⊕ notes_of y in
-      rw (unary_reads k y c m r t.0 (stops_unary y m (operator_stops m binary.Exp o)) w f h (inr (operator_calm m binary.Exp o)))
+      rw (no_private l c (unary_no_hash In k y c m r t.0), unary_reads k y c m r t.0 (stops_unary y m (operator_stops m binary.Exp o)) w f h (inr (operator_calm m binary.Exp o)))
       (operator_more l (span_at c) binary.Exp y (tree.bin (spanned c d) binary.Exp y z) k m d w f' h' (f' ++ walk (env_of k w.labels) z) (h' ⊕ notes_of z)
       (bound l binary.Exp m k w f' h' o refl below) (power_grouped (span_at c) y z k m d a q t.1 w f' h' (calm_last d (walk (env_of k w.labels) y) (walk (env_of k w.labels) z) _ (ap (walk (env_of k w.labels)) j) u))
       ∙ rw (j, append_assoc f _ _, append_assoc h.held_back _ _, or_assoc h.found_module_item _ _) refl)
+  -- a private name with `in` and its right operand
+  binary_reached l k n x c d b (rules.private_in_rule y z m p g r i o j) s e w f h a =
+      let t = and_yes (supported_in k.flags.module y) _ (supported_as _ x (tree.bin (spanned c d) binary.In y z) j s) in
+      let below : l ≤ precedence binary.In = omega arith in
+      let first : (nat_le l (precedence binary.In) && sees kind.HashIn c) ≡ true = rw (le-leb l (precedence binary.In) below, seen c kind.HashIn r.hash) refl in
+      rw (first, private_in_reads y z m k x c d g r i o t.1 j w f h a) refl
 
   binary_reads : (l : ℕ) (k : Code) (x : Tree) (c d : Place) → BinaryRule In k l x c d → supported_in k.flags.module x ≡ true → continues_unary x d ≡ false → binds k l (binary_operator (kind_at d)) ≡ false
       → ReadsCalm (binary_expr inner cover function l) k x c d
@@ -644,26 +676,36 @@ module _ (In : Goal → Type 0) (inner : Class → Reader Tree) (cover : Reader 
 
   left_expr_reads : (k : Code) (x : Tree) (c d : Place) → LeftSideRule In k x c d → supported_in k.flags.module x ≡ true → continues_left_side d ≡ false → ReadsCalm (left_expr inner cover function) k x c d
   unfolding left_expr closed_left
-  left_expr_reads k x c d r s e w f h q = let t = stopped d e in rw (side_reads k x c d r s t.dot t.bracket t.paren w f h q, e) refl
+  left_expr_reads k x c d r s e w f h q = let t = stopped d e in rw (side_reads k x c d r s t.dot t.bracket t.paren t.template t.question w f h q, e) refl
 
   operator_reads : (n : ℕ) (k : Code) (x : Tree) (c d : Place) → BinaryRule In k n x c d → supported_in k.flags.module x ≡ true → continues_operand k n x d ≡ false → ReadsCalm (binary_expr inner cover function n) k x c d
   unfolding continues_operand
   operator_reads n k x c d r s e w f h q = let (unary_ends, operators) = or_no (continues_unary x d) _ e in binary_reads n k x c d r s unary_ends operators w f h q
 
-  callee_reads : (k : Code) (x : Tree) (c d : Place) → sides.CalleeRule In k x c d → (sees kind.Dot d || sees kind.LBracket d) ≡ false → supported_in k.flags.module x ≡ true
-      → ReadsCalm (left inner cover function false) k x c d
-  callee_reads k x c d r e s w f h q = left_reads In inner cover given function functions false k x c d r.0 s r.1 e refl w f h q
+  callee_reads : (k : Code) (x : Tree) (c d : Place) → sides.CalleeRule In k x c d → (sees kind.Dot d || (sees kind.LBracket d || begins_template d)) ≡ false
+      → supported_in k.flags.module x ≡ true → ReadsCalm (left inner cover function false) k x c d
+  callee_reads k x c d r e s w f h q =
+      let (dot, more) = or_no (sees kind.Dot d) _ e in
+      let (bracket, template) = or_no (sees kind.LBracket d) (begins_template d) more in
+      left_reads In inner cover given function functions false k x c d r.0 s r.1 (or_none _ _ dot bracket) refl template refl w f h q
+
+  -- what `new` calls does not begin with the `.` of `new.target`
+  callee_undotted : (k : Code) (x : Tree) (c d : Place) → sides.CalleeRule In k x c d → supported_in k.flags.module x ≡ true → sees kind.NewDot c ≡ false
+  callee_undotted k x c d r s = no_new_dot (kind_at c) (left_first In k x c d r.0 s)
 
 -- ---- within so many levels
 
 -- nothing goes on with what `new` calls without arguments
-bare_ends : (n : ℕ) (k : Code) (x : Tree) (c d : Place) → language.Reads n (expr_goal callee k x c d) → ((sees kind.Dot d || sees kind.LBracket d) ≡ false) × (sees kind.LParen d ≡ false)
+bare_ends : (n : ℕ) (k : Code) (x : Tree) (c d : Place) → language.Reads n (expr_goal callee k x c d)
+    → ((sees kind.Dot d || (sees kind.LBracket d || begins_template d)) ≡ false) × (sees kind.LParen d ≡ false) × (sees kind.QuestionDot d ≡ false)
 unfolding continues_callee
 bare_ends zero k x c d r = absurd r
 bare_ends (suc n) k x c d r =
     let (dot, more) = or_no (sees kind.Dot d) _ r.1 in
-    let (bracket, parentheses) = or_no (sees kind.LBracket d) _ more in
-    (or_none _ _ dot bracket, parentheses)
+    let (bracket, others) = or_no (sees kind.LBracket d) _ more in
+    let (parentheses, links) = or_no (sees kind.LParen d) _ others in
+    let (question, template) = or_no (sees kind.QuestionDot d) _ links in
+    (or_none _ _ dot (or_none _ _ bracket template), parentheses, question)
 
 bare_calls : (n : ℕ) (k : Code) (x : Tree) (c d : Place) → language.Reads n (expr_goal callee k x c d) → language.Reads n (callee_goal k x c d)
 bare_calls zero k x c d r = absurd r
@@ -681,7 +723,7 @@ module _ (n : ℕ) (inner : Class → Reader Tree) (cover : Reader Cover) (given
   class_reads callee k x c d r s w f h q =
       callee_reads (language.Reads n) inner cover given function functions k x c d (bare_calls (suc n) k x c d r) (bare_ends (suc n) k x c d r).0 s w f h q
 
-  level_calls : (k : Code) (x : Tree) (c d : Place) → language.Reads (suc n) (callee_goal k x c d) → (sees kind.Dot d || sees kind.LBracket d) ≡ false → supported_in k.flags.module x ≡ true
+  level_calls : (k : Code) (x : Tree) (c d : Place) → language.Reads (suc n) (callee_goal k x c d) → (sees kind.Dot d || (sees kind.LBracket d || begins_template d)) ≡ false → supported_in k.flags.module x ≡ true
       → ReadsCalm (expr_level inner cover function callee) k x c d
   unfolding expr_level
   level_calls k x c d r e s w f h q = callee_reads (language.Reads n) inner cover given function functions k x c d r e s w f h q
@@ -695,7 +737,9 @@ module _ (n : ℕ) (inner : Class → Reader Tree) (cover : Reader Cover) (given
   read_above tied parts = record {
     reads = class_reads;
     calls = level_calls;
-    bare = λ k x c d r. (bare_ends (suc n) k x c d r).1;
+    bare = λ k x c d r. let e = bare_ends (suc n) k x c d r in (e.1, e.2);
+    undotted = λ k x c d r s. callee_undotted (language.Reads n) inner cover given function functions k x c d r s;
+    bare_undotted = λ k x c d r s. callee_undotted (language.Reads n) inner cover given function functions k x c d (bare_calls (suc n) k x c d r) s;
     begins = begins (suc n);
     no_blocks = no_block (suc n);
     falls = level_falls inner cover given.falls given.cover_falls function functions.falls;
@@ -718,6 +762,8 @@ read_nowhere inner cover falls cover_falls tied parts = record {
   reads = λ class k x c d r s. absurd r;
   calls = λ k x c d r e s. absurd r;
   bare = λ k x c d r. absurd r;
+  undotted = λ k x c d r s. absurd r;
+  bare_undotted = λ k x c d r s. absurd r;
   begins = λ k x c d r s. absurd r;
   no_blocks = no_block zero;
   falls = falls;

@@ -37,7 +37,8 @@ use Rattle.swc_ecma_parser_reader.proofs.Takes.{moves}
 use Rattle.swc_ecma_parser_reader.proofs.Steps.{loop_more, loop_done}
 use Rattle.swc_ecma_parser_reader.proofs.expressions.Falls.{covered_falls}
 use Rattle.swc_ecma_parser_reader.proofs.expressions.Loops.{shorter_by}
-use Rattle.swc_ecma_parser_reader.proofs.expressions.CompleteKinds.{supported_as, seen, begin_seen, ends_part}
+use Rattle.swc_ecma_parser_reader.proofs.expressions.CompleteKinds.{supported_as, seen, begin_seen}
+use Rattle.swc_ecma_parser_reader.proofs.expressions.PartEnds.{ends_part}
 use Rattle.swc_ecma_parser_reader.proofs.expressions.Covers.{plain_named, plain_grouped}
 use Rattle.swc_ecma_parser_reader.proofs.expressions.NamedArrows.{name_no_yield}
 use Rattle.swc_ecma_parser_reader.proofs.expressions.CompleteParts.{expect_reads, AsElement, IsRead, IsFunctionRead, Behind, behind_last}

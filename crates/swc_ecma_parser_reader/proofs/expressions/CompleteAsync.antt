@@ -38,7 +38,8 @@ use Rattle.swc_ecma_parser_reader.proofs.Takes.{moves}
 use Rattle.swc_ecma_parser_reader.proofs.Steps.{loop_more, loop_done}
 use Rattle.swc_ecma_parser_reader.proofs.expressions.Falls.{argument_falls}
 use Rattle.swc_ecma_parser_reader.proofs.expressions.Loops.{shorter_by}
-use Rattle.swc_ecma_parser_reader.proofs.expressions.CompleteKinds.{supported_as, seen, begin_seen, ends_part}
+use Rattle.swc_ecma_parser_reader.proofs.expressions.CompleteKinds.{supported_as, seen, begin_seen}
+use Rattle.swc_ecma_parser_reader.proofs.expressions.PartEnds.{ends_part}
 use Rattle.swc_ecma_parser_reader.proofs.expressions.AsyncHeads.{async_arrow_begins, async_call_begins, plain_async_named, plain_async_grouped, async_name}
 use Rattle.swc_ecma_parser_reader.proofs.expressions.CompleteParts.{expect_reads, AsElement, AsTarget, IsRead, IsFunctionRead}
 use Rattle.swc_ecma_parser_reader.proofs.expressions.CompleteCovers.{covered_reads}

@@ -46,7 +46,8 @@ use Rattle.swc_ecma_parser_reader.proofs.Errors.{is_error}
 use Rattle.swc_ecma_parser_reader.proofs.Takes.{moves, takes}
 use Rattle.swc_ecma_parser_reader.proofs.Steps.{loop_more, loop_done}
 use Rattle.swc_ecma_parser_reader.proofs.expressions.Falls.{item_falls, property_falls}
-use Rattle.swc_ecma_parser_reader.proofs.expressions.CompleteKinds.{supported_as, seen, key_begins, begin_seen, ends_part, part_calm, ended_at, ends_property, property_ended}
+use Rattle.swc_ecma_parser_reader.proofs.expressions.CompleteKinds.{supported_as, seen, key_begins, begin_seen}
+use Rattle.swc_ecma_parser_reader.proofs.expressions.PartEnds.{ends_part, part_calm, ended_at, ends_property, property_ended}
 use Rattle.swc_ecma_parser_reader.proofs.expressions.CompleteMethods.{bare_words, getter_words, setter_words, plain_words, head_begins}
 use Rattle.swc_ecma_parser_grammar.proofs.Naming.{name_is_name}
 use Rattle.swc_ecma_parser_reader.proofs.expressions.Loops.{shorter_by}

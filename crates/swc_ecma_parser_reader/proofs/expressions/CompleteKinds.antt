@@ -1,6 +1,6 @@
 -- With which token an expression of the language begins, and which stands behind it, as far as the reader asks.
-use Rattle.std.proofs.Common.{◌≡◌, inl, inr, ℕ, zero, suc, Bool, true, false, cond, List, [], ◌∷◌, Option, Some, None, refl, sym, ◌∙◌, ap}
-use Rattle.std.specs.Prelude.{nat_eq, not, ◌&&◌, ◌||◌, is_some, codes}
+use Rattle.std.proofs.Common.{◌≡◌, ◌⊎◌, inl, inr, ℕ, zero, suc, Bool, true, false, cond, List, [], ◌∷◌, Option, Some, None, refl, sym, ◌∙◌, ap}
+use Rattle.std.specs.Prelude.{nat_eq, not, ◌&&◌, ◌||◌, is_some, codes, nat_le}
 use Rattle.std.proofs.lemmas.Bool.{eq-eqb}
 use denote.Enum.Bare.{true_same}
 use Rattle.swc_ecma_parser_common.specs.declared.span.Span.{Span}
@@ -19,6 +19,7 @@ use Rattle.swc_ecma_parser_token.specs.Text.{word_text}
 use Rattle.swc_ecma_parser_input.specs.declared.context.Context.{Context}
 use Rattle.swc_ecma_parser_input.specs.Place.{Place, after, past}
 use Rattle.swc_ecma_parser_model.specs.declared.operators.UnaryOp.{UnaryOp}
+use Rattle.swc_ecma_parser_model.specs.declared.operators.BinaryOp.TheVariants as binary
 use Rattle.swc_ecma_parser_model.specs.declared.operators.UpdateOp.{UpdateOp}
 use Rattle.swc_ecma_parser_model.specs.declared.operators.BinaryOp.{BinaryOp}
 use Rattle.swc_ecma_parser_model.specs.declared.operators.AssignOp.{AssignOp}
@@ -28,30 +29,30 @@ use Rattle.swc_ecma_parser_model.specs.Forms.{is_ident, is_binding_name}
 use Rattle.swc_ecma_parser_grammar.specs.Looks.{kind_at, first_kind, breaks_at, span_at, first_span, sees, same_kind, spanned}
 use Rattle.swc_ecma_parser_grammar.specs.Names.{Code, is_reserved, is_name, token_is_identifier, first_is_identifier, name_at, identifier_at, is_identifier}
 use Rattle.swc_ecma_parser_grammar.specs.Follows as follows
-use Rattle.swc_ecma_parser_grammar.specs.Follows.{continues_left_side, word_at, is_async_function}
+use Rattle.swc_ecma_parser_grammar.specs.Follows.{continues_left_side, begins_template}
 use Rattle.swc_ecma_parser_grammar.specs.scaffold.Supported.{supported_in}
 use Rattle.swc_ecma_parser_grammar.specs.scaffold.ReadsSupported.{ReadsClass}
 use Rattle.swc_ecma_parser_grammar.specs.language.Goals.{Goal, Purpose, binding, expr_goal, pattern_goal, element_goal, expression, assignment}
 use Rattle.swc_ecma_parser_grammar.proofs.StatementBegins.{word_place}
 use Rattle.swc_ecma_parser_grammar.proofs.ExpressionBegins.{await_stands}
-use Rattle.swc_ecma_parser_grammar.specs.language.Operators.{unary_operator, update_operator, binary_operator, assign_operator}
-use Rattle.swc_ecma_parser_grammar.specs.language.Continues.{continues_unary, is_operation, continues_operand, continues_head, continues_conditional, continues_assignment}
+use Rattle.swc_ecma_parser_grammar.specs.language.Operators.{unary_operator, update_operator, binary_operator, assign_operator, precedence}
+use Rattle.swc_ecma_parser_grammar.specs.language.Continues.{continues_unary, is_operation}
 use Rattle.swc_ecma_parser_grammar.specs.language.Parts as parts
 use Rattle.swc_ecma_parser_grammar.specs.language.Parts.{ReadsName, ReadsWord, KeyRule, ReadsToken}
 use Rattle.swc_ecma_parser_grammar.specs.language.Functions as functions
 use Rattle.swc_ecma_parser_grammar.specs.language.LeftSides as sides
-use Rattle.swc_ecma_parser_grammar.proofs.SupportedBegins.{function_begins}
+use Rattle.swc_ecma_parser_grammar.proofs.SupportedBegins.{function_begins, link_opens}
 use Rattle.swc_ecma_parser_grammar.specs.language.LeftSides.{PrimaryRule, LeftSideRule}
 use Rattle.swc_ecma_parser_grammar.specs.language.Patterns as patterns
 use Rattle.swc_ecma_parser_grammar.specs.language.Patterns.{PatternRule, PatternElementRule}
 use Rattle.swc_ecma_parser_grammar.specs.language.Expressions as rules
 use Rattle.swc_ecma_parser_grammar.specs.language.Expressions.{UnaryRule, BinaryRule, AssignmentRule, ExpressionRule}
 use Rattle.swc_ecma_parser_grammar.specs.language.Reads as language
-use Rattle.swc_ecma_parser_grammar.proofs.Tests.{or_no, or_none, and_yes, and_no}
+use Rattle.swc_ecma_parser_grammar.proofs.Tests.{or_no, and_yes, and_no}
 use Rattle.swc_ecma_parser_grammar.proofs.Arrows.{arrow_parts}
 use Rattle.swc_ecma_parser_grammar.proofs.Naming.{name_is_name, name_is_free}
 use Rattle.swc_ecma_parser_grammar.proofs.Unnoted as unnoted
-use Rattle.swc_ecma_parser_reader.specs.Methods.{ends_key}
+use Rattle.swc_ecma_parser_grammar.proofs.Beginnings.{template_opens}
 use Rattle.swc_ecma_parser_reader.proofs.Errors.{is_error}
 use Rattle.swc_ecma_parser_reader.specs.Expressions.{literal_of, literal_in, token_is_word, first_is_word, is_word_at, postfix_at}
 
@@ -76,22 +77,22 @@ unfolding kind_at
 token_first t s c d r = rw r.is refl
 
 -- where a token stands, its span is what was read last behind it
-last_by : (c : Place) (ts : List TokenAndSpan) → first_kind ts ≡ kind.Hash → (past c ts).last ≡ first_span c.last ts
-last_by c [] e = cc
-last_by c (t ∷ ts) e = refl
+last_by : (c : Place) (ts : List TokenAndSpan) → (past c ts).last ≡ first_span c.last ts
+last_by c [] = refl
+last_by c (t ∷ ts) = refl
 
-last_is : (c : Place) → kind_at c ≡ kind.Hash → (after c).last ≡ span_at c
-unfolding kind_at after span_at
-last_is c e = last_by c c.left e
+last_is : (c : Place) → (after c).last ≡ span_at c
+unfolding after span_at
+last_is c = last_by c c.left
 
 word_span : (text : Text) (s : Span) (c d : Place) → ReadsWord text s c d → span_at c ≡ s
 unfolding span_at
 word_span text s c d r = rw r.reads_word.is refl
 
 -- the word of a private name touches its `#`
-pub touching : (text : Text) (s : Span) (c d : Place) → kind_at c ≡ kind.Hash → ReadsWord text s (after c) d → (span_at c).hi ≡ s.lo
+pub touching : (text : Text) (s : Span) (c d : Place) → ReadsWord text s (after c) d → (span_at c).hi ≡ s.lo
     → nat_eq (after c).last.hi.0 (span_at (after c)).lo.0 ≡ true
-touching text s c d e r t = rw (word_span text s (after c) d r, last_is c e, t) (eq-eqb s.lo.0 s.lo.0 refl)
+touching text s c d r t = rw (word_span text s (after c) d r, last_is c, t) (eq-eqb s.lo.0 s.lo.0 refl)
 
 -- no word is `#`
 keyword_no_hash : (k : Keyword) → same_kind (keyword_kind k) kind.Hash ≡ false
@@ -103,6 +104,20 @@ word_no_hash : (w : Word) → same_kind (word_kind w) kind.Hash ≡ false
 unfolding same_kind
 word_no_hash (word.Keyword k) = keyword_no_hash k
 word_no_hash _ = refl
+
+-- nor a bracket
+keyword_unlinked : (k : Keyword) → (same_kind (keyword_kind k) kind.LParen ≡ false) × (same_kind (keyword_kind k) kind.LBracket ≡ false)
+unfolding same_kind
+keyword_unlinked keyword.Await = (refl, refl)
+keyword_unlinked _ = (refl, refl)
+
+word_unlinked : (w : Word) → (same_kind (word_kind w) kind.LParen ≡ false) × (same_kind (word_kind w) kind.LBracket ≡ false)
+unfolding same_kind
+word_unlinked (word.Keyword k) = keyword_unlinked k
+word_unlinked _ = (refl, refl)
+
+pub unlinked : (text : Text) (s : Span) (c d : Place) → ReadsWord text s c d → (sees kind.LParen c ≡ false) × (sees kind.LBracket c ≡ false)
+unlinked text s c d r = rw (token_first (token.Word r.word) s c d r.reads_word) (word_unlinked r.word)
 
 -- nor is one `*`
 keyword_no_star : (k : Keyword) → same_kind (keyword_kind k) kind.Mul ≡ false
@@ -143,7 +158,7 @@ pub false_unnamed : (f : Context) → token_is_identifier f (token.Word word.Fal
 unfolding is_identifier is_reserved
 false_unnamed f = refl
 
--- `(`, `[`, `{`, `this`, `function` and `class` are no name and no literal, nor are `)` and `...`
+-- `(`, `[`, `{`, `this`, `function`, `class`, a regular expression and a template are no name and no literal, nor are `)` and `...`
 abbrev is_marked : TokenKind → Bool
 is_marked kind.LParen = true
 is_marked kind.LBracket = true
@@ -153,6 +168,9 @@ is_marked kind.Function = true
 is_marked kind.Class = true
 is_marked kind.RParen = true
 is_marked kind.DotDotDot = true
+is_marked kind.Regex = true
+is_marked kind.Template = true
+is_marked kind.TemplateHead = true
 is_marked _ = false
 
 marked_keyword : (f : Context) (k : Keyword) → is_marked (keyword_kind k) ≡ true → is_identifier f (word_text (word.Keyword k)) ≡ false
@@ -167,6 +185,7 @@ marked_word f word.Null s e = cc
 marked_word f word.True s e = cc
 marked_word f word.False s e = cc
 marked_word f (word.Ident text) s e = cc
+marked_word f (word.Escaped text) s e = cc
 marked_word f (word.Keyword k) s e = (marked_keyword f k e, refl)
 
 marked_token : (f : Context) (t : Token) (s : Span) → is_marked (token_kind t) ≡ true → (token_is_identifier f t ≡ false) × (literal_of s t ≡ None)
@@ -201,6 +220,13 @@ function_here f c e = marked_here f c (rw e refl)
 
 pub class_here : (f : Context) (c : Place) → kind_at c ≡ kind.Class → (name_at f c ≡ false) × (literal_in c.left ≡ None)
 class_here f c e = marked_here f c (rw e refl)
+
+pub regex_here : (f : Context) (c : Place) → kind_at c ≡ kind.Regex → (name_at f c ≡ false) × (literal_in c.left ≡ None)
+regex_here f c e = marked_here f c (rw e refl)
+
+pub template_here : (f : Context) (c : Place) → (kind_at c ≡ kind.Template) ⊎ (kind_at c ≡ kind.TemplateHead) → (name_at f c ≡ false) × (literal_in c.left ≡ None)
+template_here f c (inl e) = marked_here f c (rw e refl)
+template_here f c (inr e) = marked_here f c (rw e refl)
 
 pub close_here : (f : Context) (c : Place) → kind_at c ≡ kind.RParen → (name_at f c ≡ false) × (literal_in c.left ≡ None)
 close_here f c e = marked_here f c (rw e refl)
@@ -263,7 +289,7 @@ key_begins In k x c d (parts.computed_key r) = rw r.opens (refl, refl)
 
 -- ---- the first token
 
--- neither an operator before an operand, nor what ends or opens an argument or an element, nor `const`
+-- neither an operator before an operand, nor what ends or opens an argument or an element, nor `const` or the `#` of an operand
 abbrev pub operand_kind : TokenKind → Bool
 operand_kind kind.Delete = false
 operand_kind kind.Void = false
@@ -279,6 +305,8 @@ operand_kind kind.RParen = false
 operand_kind kind.RBracket = false
 operand_kind kind.Comma = false
 operand_kind kind.Const = false
+operand_kind kind.HashIn = false
+operand_kind kind.NewDot = false
 operand_kind _ = true
 
 -- nor `super`, `new` and `import`
@@ -300,6 +328,8 @@ primary_kind kind.RParen = false
 primary_kind kind.RBracket = false
 primary_kind kind.Comma = false
 primary_kind kind.Const = false
+primary_kind kind.HashIn = false
+primary_kind kind.NewDot = false
 primary_kind _ = true
 
 abbrev pub begin_kind : TokenKind → Bool
@@ -337,6 +367,30 @@ operand_update _ e = cc
 operand_begins : (k : TokenKind) → operand_kind k ≡ true → begin_kind k ≡ true
 operand_begins kind.DotDotDot e = cc
 operand_begins _ e = cc
+
+pub no_hash_in : (k : TokenKind) → operand_kind k ≡ true → same_kind k kind.HashIn ≡ false
+unfolding same_kind
+no_hash_in kind.HashIn e = cc
+no_hash_in _ e = refl
+
+pub no_new_dot : (k : TokenKind) → operand_kind k ≡ true → same_kind k kind.NewDot ≡ false
+unfolding same_kind
+no_new_dot kind.NewDot e = cc
+no_new_dot _ e = refl
+
+unary_no_hash_in : (k : TokenKind) (op : UnaryOp) → unary_operator k ≡ Some op → same_kind k kind.HashIn ≡ false
+unfolding same_kind
+unary_no_hash_in kind.HashIn op e = cc
+unary_no_hash_in _ op e = refl
+
+update_no_hash_in : (k : TokenKind) (op : UpdateOp) → update_operator k ≡ Some op → same_kind k kind.HashIn ≡ false
+unfolding same_kind
+update_no_hash_in kind.HashIn op e = cc
+update_no_hash_in _ op e = refl
+
+-- no private name stands where no `#` of an operand does
+pub no_private : (n : ℕ) (c : Place) → sees kind.HashIn c ≡ false → (nat_le n (precedence binary.In) && sees kind.HashIn c) ≡ false
+no_private n c h = and_no (nat_le n (precedence binary.In)) _ h
 
 unary_begins : (k : TokenKind) (op : UnaryOp) → unary_operator k ≡ Some op → begin_kind k ≡ true
 unary_begins kind.DotDotDot op e = cc
@@ -444,6 +498,8 @@ module _ (In : Goal → Type 0) where
   primary_first k x c d (sides.null_rule s r e) h = token_primary (token.Word word.Null) s c d r refl
   primary_first k x c d (sides.number_rule raw s r e) h = token_primary (token.Num raw) s c d r refl
   primary_first k x c d (sides.big_int_rule raw s r e) h = token_primary (token.BigInt raw) s c d r refl
+  primary_first k x c d (sides.regex_rule exp flags s r e) h = token_primary (token.Regex exp flags) s c d r refl
+  primary_first k x c d (sides.template_rule es qs r e) h = elim (template_opens r) [ inl i ↦ rw i refl | inr i ↦ rw i refl ]
   primary_first k x c d (sides.this_rule i n e) h = rw i refl
   primary_first k x c d (sides.array_rule xs m i r j n e) h = rw i refl
   primary_first k x c d (sides.object_rule xs m i r j n e) h = rw i refl
@@ -454,9 +510,13 @@ module _ (In : Goal → Type 0) where
   pub left_first : (k : Code) (x : Tree) (c d : Place) → LeftSideRule In k x c d → supported_in k.flags.module x ≡ true → operand_kind (kind_at c) ≡ true
   left_first k x c d (sides.primary_rule r) h = primary_operand (kind_at c) (primary_first k x c d r h)
   left_first k x c d (sides.import_meta_rule i j w n m e) h = rw i refl
-  left_first k x c d (sides.member_rule y p m r a e) h = left_first k y c m r (and_yes (supported_in k.flags.module y) _ (supported_as _ x (tree.member (spanned c d) y p) e h)).0
+  left_first k x c d (sides.new_target_rule i j w n e) h = rw i refl
+  left_first k x c d (sides.member_rule y p m r n a e) h = left_first k y c m r (and_yes (supported_in k.flags.module y) _ (supported_as _ x (tree.member (spanned c d) y p) e h)).0
   left_first k x c d (sides.super_property_rule p i a j e) h = rw i refl
-  left_first k x c d (sides.call_rule y z m r a e) h = left_first k y c m r (and_yes (supported_in k.flags.module y) _ (supported_as _ x (tree.call (spanned c d) y z) e h)).0
+  left_first k x c d (sides.call_rule y z m r n a e) h = left_first k y c m r (and_yes (supported_in k.flags.module y) _ (supported_as _ x (tree.call (spanned c d) y z) e h)).0
+  left_first k x c d (sides.tagged_rule t es qs m r n q e) h = left_first k t c m r (and_yes (supported_in k.flags.module t) _ (supported_as _ x (tree.tagged_tpl (spanned c d) t (tree.tpl (spanned m d) (listed es) (listed qs))) e h)).0
+  left_first k x c d (sides.chain_rule o b m r i q e) h = link_opens In k o b (left_first k o c m r) q (supported_as _ x (tree.opt_chain (spanned c d) true b) e h)
+  left_first k x c d (sides.linked_rule o b m r n q e) h = link_opens In k o b (left_first k o c m r) q (supported_as _ x (tree.opt_chain (spanned c d) false b) e h)
   left_first k x c d (sides.super_call_rule z i a e) h = rw i refl
   left_first k x c d (sides.import_call_rule z i a e) h = rw i refl
   left_first k x c d (sides.new_rule y z m i r a e) h = rw i refl
@@ -469,10 +529,19 @@ module _ (In : Goal → Type 0) where
   unary_first k x c d (rules.postfix_rule op y m r t b i n e) h = operand_begins (kind_at c) (left_first k y c m r.0 (supported_as _ x (tree.update (spanned c d) op false y) e h))
   unary_first k x c d (rules.await_rule y a m r e) h = ap begin_kind (await_stands k.flags c a)
 
+  pub unary_no_hash : (k : Code) (x : Tree) (c d : Place) → UnaryRule In k x c d → supported_in k.flags.module x ≡ true → sees kind.HashIn c ≡ false
+  unfolding same_kind
+  unary_no_hash k x c d (rules.operand_rule r) h = no_hash_in (kind_at c) (left_first k x c d r.0 h)
+  unary_no_hash k x c d (rules.unary_rule op y i r e) h = unary_no_hash_in (kind_at c) op i
+  unary_no_hash k x c d (rules.prefix_rule op y i r t e) h = update_no_hash_in (kind_at c) op i
+  unary_no_hash k x c d (rules.postfix_rule op y m r t b i n e) h = no_hash_in (kind_at c) (left_first k y c m r.0 (supported_as _ x (tree.update (spanned c d) op false y) e h))
+  unary_no_hash k x c d (rules.await_rule y a m r e) h = ap (λ j. same_kind j kind.HashIn) (await_stands k.flags c a)
+
   binary_first : (k : Code) (n : ℕ) (x : Tree) (c d : Place) → BinaryRule In k n x c d → supported_in k.flags.module x ≡ true → begin_kind (kind_at c) ≡ true
   binary_first k n x c d (rules.single_rule r) h = unary_first k x c d r h
   binary_first k n x c d (rules.left_rule op y z m b g i r o s u v e) h = binary_first k _ y c m r (and_yes (supported_in k.flags.module y) _ (supported_as _ x (tree.bin (spanned c d) op y z) e h)).0
   binary_first k n x c d (rules.power_rule y z m b r u i s e) h = unary_first k y c m r (and_yes (supported_in k.flags.module y) _ (supported_as _ x (tree.bin (spanned c d) _ y z) e h)).0
+  binary_first k n x c d (rules.private_in_rule y z m b g r i s e) h = ap begin_kind r.hash
 
   -- a name that is bound or assigned to begins as an operand does
   name_first : (k : Code) (x : Tree) (text : Text) (s : Span) (c d : Place) → ReadsName k text s c d → x ≡ tree.ident_pat s text → supported_in k.flags.module x ≡ true → begin_kind (kind_at c) ≡ true
@@ -541,11 +610,11 @@ import_unnamed n k x c d r i = unnoted.import_unnamed n k x c d r (seen c kind.I
 
 -- ---- the token behind
 
--- neither an access, arguments nor an operator behind an operand
+-- neither an access, arguments, `?.`, a template nor an operator behind an operand
 abbrev pub Quiet : TokenKind → Type 0
 Quiet k =
     (same_kind k kind.Dot ≡ false) × (same_kind k kind.LBracket ≡ false) × (same_kind k kind.LParen ≡ false) × (same_kind k kind.PlusPlus ≡ false)
-    × (same_kind k kind.MinusMinus ≡ false)
+    × (same_kind k kind.MinusMinus ≡ false) × (same_kind k kind.QuestionDot ≡ false) × (same_kind k kind.Template ≡ false) × (same_kind k kind.TemplateHead ≡ false)
 
 operator_quiet : (k : TokenKind) (op : BinaryOp) → binary_operator k ≡ Some op → Quiet k
 unfolding same_kind
@@ -554,7 +623,10 @@ operator_quiet kind.LBracket op e = cc
 operator_quiet kind.LParen op e = cc
 operator_quiet kind.PlusPlus op e = cc
 operator_quiet kind.MinusMinus op e = cc
-operator_quiet _ op e = (refl, refl, refl, refl, refl)
+operator_quiet kind.QuestionDot op e = cc
+operator_quiet kind.Template op e = cc
+operator_quiet kind.TemplateHead op e = cc
+operator_quiet _ op e = (refl, refl, refl, refl, refl, refl, refl, refl)
 
 assign_quiet : (k : TokenKind) (op : AssignOp) → assign_operator k ≡ Some op → Quiet k
 unfolding same_kind
@@ -563,15 +635,18 @@ assign_quiet kind.LBracket op e = cc
 assign_quiet kind.LParen op e = cc
 assign_quiet kind.PlusPlus op e = cc
 assign_quiet kind.MinusMinus op e = cc
-assign_quiet _ op e = (refl, refl, refl, refl, refl)
+assign_quiet kind.QuestionDot op e = cc
+assign_quiet kind.Template op e = cc
+assign_quiet kind.TemplateHead op e = cc
+assign_quiet _ op e = (refl, refl, refl, refl, refl, refl, refl, refl)
 
 question_quiet : (k : TokenKind) → k ≡ kind.QuestionMark → Quiet k
 unfolding same_kind
-question_quiet k e = rw e (refl, refl, refl, refl, refl)
+question_quiet k e = rw e (refl, refl, refl, refl, refl, refl, refl, refl)
 
 pub quiet_stops : (c : Place) → Quiet (kind_at c) → continues_left_side c ≡ false
 unfolding continues_left_side
-quiet_stops c q = rw (q.0, q.1, q.2, q.3, q.4) (and_no (not (breaks_at c)) _ refl)
+quiet_stops c q = rw (q.0, q.1, q.2, q.3, q.4, q.5, q.6, q.7) (and_no (not (breaks_at c)) _ refl)
 
 pub operator_stops : (c : Place) (op : BinaryOp) → binary_operator (kind_at c) ≡ Some op → continues_left_side c ≡ false
 operator_stops c op e = quiet_stops c (operator_quiet (kind_at c) op e)
@@ -624,8 +699,10 @@ no_postfix : (b : Bool) (k : TokenKind) → (not b && (same_kind k kind.PlusPlus
 no_postfix true k e = refl
 no_postfix false k e = no_update k e
 
--- where a left side stops, neither an access, arguments nor a postfix operator stands
+-- where a left side stops, neither an access, arguments, `?.`, a template nor a postfix operator stands
 pub record Stopped (c : Place) : Type 0 where
+  pub question : sees kind.QuestionDot c ≡ false
+  pub template : begins_template c ≡ false
   pub dot : sees kind.Dot c ≡ false
   pub bracket : sees kind.LBracket c ≡ false
   pub paren : sees kind.LParen c ≡ false
@@ -636,17 +713,22 @@ unfolding continues_left_side postfix_at
 stopped c h =
     let (dot, more) = or_no (sees kind.Dot c) _ h in
     let (bracket, others) = or_no (sees kind.LBracket c) _ more in
-    let (paren, postfix) = or_no (sees kind.LParen c) _ others in
-    record { dot = dot; bracket = bracket; paren = paren; postfix = no_postfix (breaks_at c) (kind_at c) postfix }
+    let (paren, behind) = or_no (sees kind.LParen c) _ others in
+    let (question, rest) = or_no (sees kind.QuestionDot c) _ behind in
+    let (template, postfix) = or_no (begins_template c) _ rest in
+    record { dot = dot; bracket = bracket; paren = paren; question = question; template = template; postfix = no_postfix (breaks_at c) (kind_at c) postfix }
 
 -- a postfix operator is no access
-update_apart : (k : TokenKind) (op : UpdateOp) → update_operator k ≡ Some op → (same_kind k kind.Dot ≡ false) × (same_kind k kind.LBracket ≡ false) × (same_kind k kind.LParen ≡ false)
+update_apart : (k : TokenKind) (op : UpdateOp) → update_operator k ≡ Some op
+    → (same_kind k kind.Dot ≡ false) × (same_kind k kind.LBracket ≡ false) × (same_kind k kind.LParen ≡ false) × (same_kind k kind.QuestionDot ≡ false)
+    × (same_kind k kind.Template || same_kind k kind.TemplateHead ≡ false)
 unfolding same_kind
-update_apart kind.PlusPlus op e = (refl, refl, refl)
-update_apart kind.MinusMinus op e = (refl, refl, refl)
+update_apart kind.PlusPlus op e = (refl, refl, refl, refl, refl)
+update_apart kind.MinusMinus op e = (refl, refl, refl, refl, refl)
 update_apart _ op e = cc
 
-pub update_seen : (c : Place) (op : UpdateOp) → update_operator (kind_at c) ≡ Some op → (sees kind.Dot c ≡ false) × (sees kind.LBracket c ≡ false) × (sees kind.LParen c ≡ false)
+pub update_seen : (c : Place) (op : UpdateOp) → update_operator (kind_at c) ≡ Some op
+    → (sees kind.Dot c ≡ false) × (sees kind.LBracket c ≡ false) × (sees kind.LParen c ≡ false) × (sees kind.QuestionDot c ≡ false) × (begins_template c ≡ false)
 update_seen c op e = update_apart (kind_at c) op e
 
 pub postfix_seen : (c : Place) (op : UpdateOp) → breaks_at c ≡ false → update_operator (kind_at c) ≡ Some op → postfix_at c ≡ Some op
@@ -672,93 +754,3 @@ none_of (Some a) e = cc
 
 pub unassigned_at : (c : Place) → is_some (assign_operator (kind_at c)) ≡ false → assign_operator (kind_at c) ≡ None
 unassigned_at c e = none_of (assign_operator (kind_at c)) e
-
--- ---- the end of a part of an array, an object or a list of parameters
-
-abbrev pub ends_part : TokenKind → Bool
-ends_part kind.Comma = true
-ends_part kind.RBracket = true
-ends_part kind.RBrace = true
-ends_part kind.RParen = true
-ends_part _ = false
-
--- no word ends one
-keyword_ends : {X : Type 0} (k : Keyword) → ends_part (keyword_kind k) ≡ true → X
-keyword_ends keyword.Await e = cc
-keyword_ends _ e = cc
-
-word_ends : {X : Type 0} (w : Word) → ends_part (word_kind w) ≡ true → X
-word_ends (word.Keyword k) e = keyword_ends k e
-word_ends _ e = cc
-
-token_ends : (f : Context) (t : Token) → ends_part (token_kind t) ≡ true → token_is_identifier f t ≡ false
-token_ends f (token.Word w) e = word_ends w e
-token_ends f _ e = refl
-
-first_ends : (f : Context) (ts : List TokenAndSpan) → ends_part (first_kind ts) ≡ true → first_is_identifier f ts ≡ false
-first_ends f [] e = refl
-first_ends f (t ∷ ts) e = token_ends f t.token e
-
-unnamed_end : (f : Context) (c : Place) → ends_part (kind_at c) ≡ true → identifier_at f c ≡ false
-unfolding identifier_at kind_at
-unnamed_end f c e = first_ends f c.left e
-
--- what does not stand there
-pub record Ended (k : TokenKind) : Type 0 where
-  pub quiet : Quiet k
-  pub colon : same_kind k kind.Colon ≡ false
-  pub assign : same_kind k kind.Assign ≡ false
-  pub question : same_kind k kind.QuestionMark ≡ false
-  pub arrow : same_kind k kind.Arrow ≡ false
-  pub function : same_kind k kind.Function ≡ false
-  pub binary : binary_operator k ≡ None
-  pub assigns : assign_operator k ≡ None
-
-ended : (k : TokenKind) → ends_part k ≡ true → Ended k
-unfolding same_kind
-ended kind.Comma e = record { quiet = (refl, refl, refl, refl, refl); colon = refl; assign = refl; question = refl; arrow = refl; function = refl; binary = refl; assigns = refl }
-ended kind.RBracket e = record { quiet = (refl, refl, refl, refl, refl); colon = refl; assign = refl; question = refl; arrow = refl; function = refl; binary = refl; assigns = refl }
-ended kind.RBrace e = record { quiet = (refl, refl, refl, refl, refl); colon = refl; assign = refl; question = refl; arrow = refl; function = refl; binary = refl; assigns = refl }
-ended kind.RParen e = record { quiet = (refl, refl, refl, refl, refl); colon = refl; assign = refl; question = refl; arrow = refl; function = refl; binary = refl; assigns = refl }
-ended _ e = cc
-
-pub ended_at : (c : Place) → ends_part (kind_at c) ≡ true → Ended (kind_at c)
-ended_at c e = ended (kind_at c) e
-
--- where a part ends no error token stands
-pub part_calm : (c : Place) → ends_part (kind_at c) ≡ true → is_error (kind_at c) ≡ false
-part_calm c e = by_kind (kind_at c) e
-  where
-    by_kind : (j : TokenKind) → ends_part j ≡ true → is_error j ≡ false
-    by_kind kind.Error h = cc
-    by_kind _ h = refl
-
--- a part of an object ends before its comma or its brace
-abbrev pub ends_property : TokenKind → Bool
-ends_property kind.Comma = true
-ends_property kind.RBrace = true
-ends_property _ = false
-
-property_ends : (k : TokenKind) → ends_property k ≡ true → (ends_part k ≡ true) × (ends_key k ≡ true)
-property_ends kind.Comma e = (refl, refl)
-property_ends kind.RBrace e = (refl, refl)
-property_ends _ e = cc
-
-pub property_ended : (c : Place) → ends_property (kind_at c) ≡ true → (ends_part (kind_at c) ≡ true) × (ends_key (kind_at c) ≡ true)
-property_ended c e = property_ends (kind_at c) e
-
-pub ended_stops : (c : Place) → ends_part (kind_at c) ≡ true → continues_left_side c ≡ false
-ended_stops c e = quiet_stops c (ended_at c e).quiet
-
--- nothing there goes on with an expression
-pub ended_continues : (k : Code) (x : Tree) (c d : Place) → ends_part (kind_at d) ≡ true → continues_assignment k x c d ≡ false
-unfolding continues_assignment continues_operand continues_conditional continues_head
-ended_continues k x c d e =
-    let t = ended_at d e in
-    or_none _ _ (or_none _ _ (stops_unary x d (ended_stops d e)) (rw t.binary refl))
-    (or_none _ _ t.question (or_none _ _ (rw t.assigns refl) (or_none _ _ (and_no _ _ t.arrow) (and_no _ _ (and_no _ _ (unnamed_end k.flags d e))))))
-
--- a name before no `function` is a name
-pub no_async_function : (c d : Place) → d ≡ after c → sees kind.Function d ≡ false → is_async_function c ≡ false
-unfolding is_async_function
-no_async_function c d e h = and_no (word_at (codes "async") c) (sees kind.Function (after c) && not (breaks_at (after c))) (rw (← e, h) refl)

@@ -1,7 +1,7 @@
 -- Primary and left-hand-side expressions of the language are read, with the faults of the walk and the notes held back, and no
 -- others.
 use Rattle.swc_ecma_parser_reader.proofs.Words.{async_named, async_stands}
-use Rattle.std.proofs.Common.{◌≡◌, inr, Bool, true, false, List, [], ◌++◌, length, Some, Ok, refl, sym, ◌∙◌, ap, append_assoc, append-nil}
+use Rattle.std.proofs.Common.{◌≡◌, ◌⊎◌, inl, inr, Bool, true, false, List, [], ◌++◌, length, Some, Ok, refl, sym, ◌∙◌, ap, append_assoc, append-nil}
 use Rattle.std.specs.Prelude.{◌&&◌, ◌||◌, codes}
 use Rattle.swc_ecma_parser_common.specs.declared.span.Span.{Span}
 use Rattle.swc_ecma_parser_error.specs.Kind as faults
@@ -14,36 +14,48 @@ use Rattle.swc_ecma_parser_token.specs.Text.{word_text}
 use Rattle.swc_ecma_parser_input.specs.Place.{Place, after}
 use Rattle.swc_ecma_parser_model.specs.declared.leaves.MetaPropKind.TheVariants as meta
 use Rattle.swc_ecma_parser_model.specs.Tree as tree
-use Rattle.swc_ecma_parser_model.specs.Tree.{Tree, Text, listed}
+use Rattle.swc_ecma_parser_model.specs.Tree.{Tree, Text, listed, trees}
+use Rattle.swc_ecma_parser_model.specs.Forms.{is_chain}
 use Rattle.swc_ecma_parser_grammar.specs.Looks.{kind_at, sees, same_kind, span_at, spanned}
 use Rattle.swc_ecma_parser_grammar.specs.Names.{Code, is_name, token_is_identifier}
-use Rattle.swc_ecma_parser_grammar.specs.Follows.{word_at, is_async_function, AsyncWord, not_async, async_word}
+use Rattle.swc_ecma_parser_grammar.specs.Follows.{word_at, begins_template, is_async_function, AsyncWord, not_async, async_word}
 use Rattle.swc_ecma_parser_grammar.specs.Notes.{notes}
 use Rattle.swc_ecma_parser_grammar.specs.language.Contexts.{with_in}
 use Rattle.swc_ecma_parser_grammar.specs.language.Noted.{has_meta}
-use Rattle.swc_ecma_parser_grammar.specs.Walk.{Env, env_of, walk}
-use Rattle.swc_ecma_parser_grammar.specs.scaffold.Supported.{supported_in, is_supported_property_in}
+use Rattle.swc_ecma_parser_grammar.specs.Walk.{Env, env_of, walk, walks}
+use Rattle.swc_ecma_parser_grammar.specs.scaffold.Supported.{supported_in, is_supported_property_in, all_supported_in}
 use Rattle.swc_ecma_parser_grammar.specs.language.Goals.{Goal, Class, expression, callee, expr_goal, callee_goal}
-use Rattle.swc_ecma_parser_grammar.specs.language.Parts.{ReadsName, AccessRule, is_private, ArgumentsRule, ReadsToken}
+use Rattle.swc_ecma_parser_grammar.specs.language.Parts.{ReadsName, ReadsWord, PrivateRule, AccessRule, is_private, ArgumentsRule, ReadsToken}
+use Rattle.swc_ecma_parser_grammar.specs.language.Templates.{TemplateRule}
+use Rattle.swc_ecma_parser_grammar.specs.language.Links as links
 use Rattle.swc_ecma_parser_grammar.specs.language.LeftSides as sides
+use Rattle.swc_ecma_parser_grammar.proofs.Beginnings.{template_opens}
 use Rattle.swc_ecma_parser_grammar.specs.language.LeftSides.{PrimaryRule, LeftSideRule, is_callee}
 use Rattle.swc_ecma_parser_grammar.proofs.Tests.{and_yes, and_no}
-use Rattle.swc_ecma_parser_reader.specs.Notes.{Notes, ◌⊕◌, notes_of}
+use Rattle.swc_ecma_parser_reader.specs.Notes.{Notes, ◌⊕◌, notes_of, all_notes_of}
 use Rattle.swc_ecma_parser_reader.specs.State.{and_then, ◌>>=◌, Scope, State, Reader, name}
 use Rattle.swc_ecma_parser_reader.specs.Methods.{FunctionForm, expression_form, class_form}
-use Rattle.swc_ecma_parser_reader.specs.Expressions.{Cover, close, literal_of, literal, ident_expr, this, bare_new, access, arguments, array, property, object, paren, marked_primary, primary, accessed, called, left_turn, left_from, super_call, super_access, behind_super, super_head, constructed, new_head, import_call, meta_fault, import_meta, import_head, left_head, left, named_expr, filled_paren}
+use Rattle.swc_ecma_parser_reader.specs.Expressions.{Cover, regex, regex_in, template_pieces, template, new_target, linked, chain_of, tagged, tagged_by, dotted, word_property, named_link, behind_question, chained, behind_called, new_called, close, literal_of, literal, ident_expr, this, bare_new, access, arguments, array, property, object, paren, marked_primary, primary, accessed, called, left_turn, left_from, super_call, super_access, behind_super, super_head, constructed, new_head, import_call, meta_fault, import_meta, import_head, left_head, left, named_expr, filled_paren}
 use Rattle.swc_ecma_parser_reader.proofs.Notes.{or_nil, or_true, or_assoc}
 use Rattle.swc_ecma_parser_reader.proofs.Answered.{st, Reads, Calm, ReadsCalm, ReadsAs}
 use Rattle.swc_ecma_parser_reader.proofs.Calm.{calm_first}
 use Rattle.swc_ecma_parser_reader.proofs.Errors.{is_error}
 use Rattle.swc_ecma_parser_reader.proofs.Steps.{loop_more, loop_done}
-use Rattle.swc_ecma_parser_reader.proofs.expressions.Falls.{access_falls, arguments_fall}
+use Rattle.swc_ecma_parser_reader.proofs.expressions.Falls.{inside_falls, access_falls, arguments_fall, chained_falls}
+use Rattle.swc_ecma_parser_reader.proofs.expressions.FallsTemplates.{pieces_fall}
+use Rattle.swc_ecma_parser_reader.proofs.expressions.SoundSteps.{other}
+use Rattle.swc_ecma_parser_reader.proofs.expressions.CompleteTemplates.{pieces_read, template_reads}
 use Rattle.swc_ecma_parser_reader.proofs.expressions.Loops.{shorter_by}
 use Rattle.swc_ecma_parser_reader.proofs.expressions.Groups.{expression_opens}
-use Rattle.swc_ecma_parser_reader.proofs.expressions.CompleteParts.{expect_reads, reference_reads, literal_reads, AsExpr, IsRead, IsFunctionRead, inside_reads, access_reads, access_calm, access_seen, super_property_reads, arguments_read}
+use Rattle.swc_ecma_parser_reader.proofs.expressions.CompleteParts.{any_word_reads, private_reads, expect_reads, reference_reads, literal_reads, AsExpr, IsRead, IsFunctionRead, inside_reads, access_reads, access_calm, access_seen, super_property_reads, arguments_read}
 use Rattle.swc_ecma_parser_reader.proofs.expressions.CompleteCovers.{array_reads, object_reads}
-use Rattle.swc_ecma_parser_reader.proofs.expressions.CompleteKinds.{supported_as, seen, named, null_unnamed, true_unnamed, false_unnamed, paren_here, array_here, object_here, this_here, function_here, class_here, primary_first, primary_seen, named_word}
+use Rattle.swc_ecma_parser_reader.proofs.expressions.CompleteKinds.{token_first, no_hash, unlinked, regex_here, template_here, supported_as, seen, named, null_unnamed, true_unnamed, false_unnamed, paren_here, array_here, object_here, this_here, function_here, class_here, primary_first, primary_seen, named_word}
 use Rattle.swc_ecma_parser_grammar.proofs.Naming.{name_is_name}
+
+-- a template begins with no error token
+template_calm : (c : Place) → (kind_at c ≡ kind.Template) ⊎ (kind_at c ≡ kind.TemplateHead) → is_error (kind_at c) ≡ false
+template_calm c (inl e) = ap is_error e
+template_calm c (inr e) = ap is_error e
 
 module _ (In : Goal → Type 0) (inner : Class → Reader Tree) (cover : Reader Cover) (given : IsRead In inner cover) (function : FunctionForm → Reader Tree) (functions : IsFunctionRead In function) where
   -- ---- primary expressions
@@ -73,6 +85,19 @@ module _ (In : Goal → Type 0) (inner : Class → Reader Tree) (cover : Reader 
   first_object : (k : Code) (x : Tree) (c d : Place) → kind_at c ≡ kind.LBrace → ReadsAs (AsExpr x) (object inner cover function) k x c d → Reads (primary inner cover function) k x c d
   unfolding primary literal marked_primary same_kind
   first_object k x c d e reads w f h = rw ((object_here k.flags c e).0, (object_here k.flags c e).1, e) (closed_reads (object inner cover function) k x c d reads w f h)
+
+  regex_reads : (exp flags : Text) (sp : Span) (k : Code) (x : Tree) (c d : Place) → ReadsToken (token.Regex exp flags) sp c d → x ≡ tree.regex sp exp flags → Reads (primary inner cover function) k x c d
+  unfolding primary literal marked_primary regex same_kind
+  regex_reads exp flags sp k x c d r e w f h =
+      let i = token_first (token.Regex exp flags) sp c d r in
+      let first : regex_in c.left ≡ Some (tree.regex sp exp flags) = rw r.is refl in
+      rw ((regex_here k.flags c i).0, (regex_here k.flags c i).1, i, first, r.next, e, append-nil f, append-nil h.held_back, or_nil h.found_module_item) refl
+
+  -- its first text leads to a template
+  first_template : (k : Code) (x : Tree) (c d : Place) → (kind_at c ≡ kind.Template) ⊎ (kind_at c ≡ kind.TemplateHead) → Reads (template inner cover) k x c d → Reads (primary inner cover function) k x c d
+  unfolding primary literal marked_primary same_kind
+  first_template k x c d (inl e) reads w f h = rw ((template_here k.flags c (inl e)).0, (template_here k.flags c (inl e)).1, e) (reads w f h)
+  first_template k x c d (inr e) reads w f h = rw ((template_here k.flags c (inr e)).0, (template_here k.flags c (inr e)).1, e) (reads w f h)
 
   -- `(` leads to what stands in parentheses
   first_paren : (k : Code) (x : Tree) (c d : Place) → kind_at c ≡ kind.LParen → Reads (paren inner cover) k x c d → Reads (primary inner cover function) k x c d
@@ -129,6 +154,8 @@ module _ (In : Goal → Type 0) (inner : Class → Reader Tree) (cover : Reader 
   primary_reads k x c d (sides.null_rule sp r g) s w f h q = literal_primary (token.Word word.Null) sp x (tree.null sp) c d k r (null_unnamed k.flags) refl g (λ env. refl) refl refl w f h
   primary_reads k x c d (sides.number_rule raw sp r g) s w f h q = literal_primary (token.Num raw) sp x (tree.num sp raw) c d k r refl refl g (λ env. refl) refl refl w f h
   primary_reads k x c d (sides.big_int_rule raw sp r g) s w f h q = literal_primary (token.BigInt raw) sp x (tree.big_int sp raw) c d k r refl refl g (λ env. refl) refl refl w f h
+  primary_reads k x c d (sides.regex_rule exp flags sp r g) s w f h q = regex_reads exp flags sp k x c d r g w f h
+  primary_reads k x c d (sides.template_rule es qs r e) s w f h q = first_template k x c d (template_opens r) (template_reads In inner cover given es qs k x c d r s e) w f h
   primary_reads k x c d (sides.this_rule e i g) s w f h q = this_reads k x c d e i g w f h
   primary_reads k x c d (sides.array_rule xs m i r j n e) s w f h q =
       first_array k x c d i (array_reads In inner cover given xs m k x c d r (supported_as _ x (tree.array (spanned c d) (listed xs)) e s) j n e) w f h
@@ -161,10 +188,11 @@ module _ (In : Goal → Type 0) (inner : Class → Reader Tree) (cover : Reader 
 
   new_reads : (calls : Bool) (what args : Tree) (m : Place) (k : Code) (x : Tree) (c d : Place) → kind_at c ≡ kind.New → In (callee_goal k what (after c) m) → supported_in k.flags.module what ≡ true
       → (r : ArgumentsRule In k true args m d) → supported_in k.flags.module args ≡ true → x ≡ tree.new (spanned c d) what args → Reads (left_head inner cover function calls) k x c d
-  unfolding left_head new_head constructed spanned same_kind
+  unfolding left_head new_head new_called behind_called constructed spanned same_kind
   new_reads calls what args m k x c d g q t r s e w f h =
       rw (
         g,
+        given.undotted k what (after c) m q t,
         given.calls k what (after c) m q (rw r.opens refl) t w f h (inr (ap is_error r.opens)),
         seen m kind.LParen r.opens,
         arguments_read In inner cover given true k args m d w (f ++ walk (env_of k w.labels) what) (h ⊕ notes_of what) r s,
@@ -174,17 +202,24 @@ module _ (In : Goal → Type 0) (inner : Class → Reader Tree) (cover : Reader 
 
   bare_new_reads : (calls : Bool) (what : Tree) (k : Code) (x : Tree) (c d : Place) → kind_at c ≡ kind.New → In (expr_goal callee k what (after c) d) → supported_in k.flags.module what ≡ true
       → x ≡ tree.new (spanned c d) what tree.absent → ReadsCalm (left_head inner cover function calls) k x c d
-  unfolding left_head new_head bare_new spanned same_kind
+  unfolding left_head new_head new_called behind_called bare_new spanned same_kind
   bare_new_reads calls what k x c d g q t e w f h o =
       rw (
         g,
+        given.bare_undotted k what (after c) d q t,
         given.reads callee k what (after c) d q t w f h (calm_first d (walk (env_of k w.labels) what) [] _ (ap (walk (env_of k w.labels)) e) o),
-        given.bare k what (after c) d q,
+        (given.bare k what (after c) d q).0,
+        (given.bare k what (after c) d q).1,
         e,
         append-nil (walk (env_of k w.labels) what),
         append-nil (notes what),
         or_nil (has_meta what),
       ) refl
+
+  new_target_reads : (calls : Bool) (k : Code) (x : Tree) (c d : Place) → kind_at c ≡ kind.New → kind_at (after c) ≡ kind.NewDot → word_at (codes "target") (after (after c)) ≡ true
+      → d ≡ after (after (after c)) → x ≡ tree.meta_prop (spanned c d) meta.NewTarget → Reads (left_head inner cover function calls) k x c d
+  unfolding left_head new_head new_target spanned same_kind
+  new_target_reads calls k x c d i j v n e w f h = rw (i, j, v, e, n, append-nil f, append-nil h.held_back, or_nil h.found_module_item) refl
 
   import_call_reads : (args : Tree) (k : Code) (x : Tree) (c d : Place) → kind_at c ≡ kind.Import → (r : ArgumentsRule In k k.setting.import_attributes args (after c) d)
       → supported_in k.flags.module args ≡ true → x ≡ tree.call (spanned c d) (tree.import_callee (span_at c)) args → Reads (left_head inner cover function true) k x c d
@@ -207,24 +242,74 @@ module _ (In : Goal → Type 0) (inner : Class → Reader Tree) (cover : Reader 
 
   access_more : (calls : Bool) (start : Span) (base property : Tree) (k : Code) (m d : Place) → AccessRule In k property m d → is_supported_property_in k.flags.module property ≡ true
       → (w : Scope) (f : List Fault) (h : Notes) → left_from inner cover calls start base (st m k w f h)
-      ≡ left_from inner cover calls start (tree.member (record { lo = start.lo; hi = d.last.hi }) base property) (st d k w (f ++ walk (env_of k w.labels) property) (h ⊕ notes_of property))
+      ≡ left_from inner cover calls start (linked base (tree.member (record { lo = start.lo; hi = d.last.hi }) base property)) (st d k w (f ++ walk (env_of k w.labels) property) (h ⊕ notes_of property))
   unfolding left_from left_turn accessed
   access_more calls start base property k m d r s w f h =
       let e = access_reads In inner cover given k property m d r s w f h in
-      loop_more (left_turn inner cover calls start) base (tree.member (record { lo = start.lo; hi = d.last.hi }) base property) (st m k w f h)
+      loop_more (left_turn inner cover calls start) base (linked base (tree.member (record { lo = start.lo; hi = d.last.hi }) base property)) (st m k w f h)
       (st d k w (f ++ walk (env_of k w.labels) property) (h ⊕ notes_of property)) (rw ((access_seen In inner cover given k property m d r).0, e) refl)
       (shorter_by (length m.left) (access inner cover (st m k w f h)) property _ e (access_falls inner cover given.falls given.cover_falls (st m k w f h)))
 
   call_more : (start : Span) (what args : Tree) (k : Code) (m d : Place) (r : ArgumentsRule In k true args m d) → supported_in k.flags.module args ≡ true → (w : Scope) (f : List Fault) (h : Notes)
       → left_from inner cover true start what (st m k w f h)
-      ≡ left_from inner cover true start (tree.call (record { lo = start.lo; hi = d.last.hi }) what args) (st d k w (f ++ walk (env_of k w.labels) args) (h ⊕ notes_of args))
+      ≡ left_from inner cover true start (linked what (tree.call (record { lo = start.lo; hi = d.last.hi }) what args)) (st d k w (f ++ walk (env_of k w.labels) args) (h ⊕ notes_of args))
   unfolding left_from left_turn called same_kind
   call_more start what args k m d r s w f h =
       let o = r.opens in
       let e = arguments_read In inner cover given true k args m d w f h r s in
-      loop_more (left_turn inner cover true start) what (tree.call (record { lo = start.lo; hi = d.last.hi }) what args) (st m k w f h)
+      loop_more (left_turn inner cover true start) what (linked what (tree.call (record { lo = start.lo; hi = d.last.hi }) what args)) (st m k w f h)
       (st d k w (f ++ walk (env_of k w.labels) args) (h ⊕ notes_of args)) (rw (o, e, ← r.is) refl)
       (shorter_by (length m.left) (arguments inner cover true (st m k w f h)) r.elements _ e (arguments_fall inner cover given.falls given.cover_falls true (st m k w f h) (λ z. cc)))
+
+  tagged_more : (calls : Bool) (start : Span) (tag : Tree) (es qs : List Tree) (k : Code) (m d : Place) → is_chain tag ≡ false → TemplateRule In true k es qs m d → all_supported_in k.flags.module (trees es) ≡ true
+      → (w : Scope) (f : List Fault) (h : Notes) → left_from inner cover calls start tag (st m k w f h)
+      ≡ left_from inner cover calls start (tree.tagged_tpl (record { lo = start.lo; hi = d.last.hi }) tag (tree.tpl (spanned m d) (listed es) (listed qs)))
+      (st d k w (f ++ walks (env_of k w.labels) false (trees es)) (h ⊕ all_notes_of (trees es)))
+  unfolding left_from left_turn tagged tagged_by spanned same_kind
+  tagged_more calls start tag es qs k m d n r s w f h =
+      let e = pieces_read In inner cover given true es qs k m d w f h r s in
+      let x = tree.tagged_tpl (record { lo = start.lo; hi = d.last.hi }) tag (tree.tpl (spanned m d) (listed es) (listed qs)) in
+      let t = st d k w (f ++ walks (env_of k w.labels) false (trees es)) (h ⊕ all_notes_of (trees es)) in
+      let fewer = shorter_by (length m.left) (template_pieces inner cover true (st m k w f h)) _ t e (pieces_fall inner cover (inside_falls inner cover given.falls given.cover_falls expression) true (st m k w f h)) in
+      elim (template_opens r) [
+        | inl i ↦ loop_more (left_turn inner cover calls start) tag x (st m k w f h) t (rw (i, and_no calls false refl, n, e) refl) fewer
+        | inr i ↦ loop_more (left_turn inner cover calls start) tag x (st m k w f h) t (rw (i, and_no calls false refl, n, e) refl) fewer
+      ]
+
+  -- ---- what stands behind `?.`
+
+  name_behind : (start : Span) (object : Tree) (text : Text) (sp : Span) (k : Code) (c d : Place) (w : Scope) (f : List Fault) (h : Notes) → ReadsWord text sp c d
+      → behind_question inner cover start object (st c k w f h) ≡ Ok (tree.member (record { lo = start.lo; hi = d.last.hi }) object (tree.ident sp text), st d k w f h)
+  unfolding behind_question named_link dotted word_property
+  name_behind start object text sp k c d w f h r = rw ((unlinked text sp c d r).0, (unlinked text sp c d r).1, no_hash text sp c d r, any_word_reads text sp c d k w f h r) refl
+
+  private_behind : (start : Span) (object name : Tree) (k : Code) (c d : Place) (w : Scope) (f : List Fault) (h : Notes) → PrivateRule name c d
+      → behind_question inner cover start object (st c k w f h) ≡ Ok (tree.member (record { lo = start.lo; hi = d.last.hi }) object name, st d k w (f ++ walk (env_of k w.labels) name) (h ⊕ notes_of name))
+  unfolding behind_question named_link dotted same_kind
+  private_behind start object name k c d w f h r = rw (r.hash, private_reads k name c d r w f h) refl
+
+  access_behind : (start : Span) (object property : Tree) (k : Code) (c d : Place) (w : Scope) (f : List Fault) (h : Notes) → sees kind.Dot c ≡ false → AccessRule In k property c d
+      → is_supported_property_in k.flags.module property ≡ true
+      → behind_question inner cover start object (st c k w f h) ≡ Ok (tree.member (record { lo = start.lo; hi = d.last.hi }) object property, st d k w (f ++ walk (env_of k w.labels) property) (h ⊕ notes_of property))
+  unfolding behind_question accessed
+  access_behind start object property k c d w f h u r s =
+      let a = access_seen In inner cover given k property c d r in
+      rw (a.1, other (sees kind.Dot c) (sees kind.LBracket c) a.0 u, access_reads In inner cover given k property c d r s w f h) refl
+
+  arguments_behind : (start : Span) (object args : Tree) (k : Code) (c d : Place) (w : Scope) (f : List Fault) (h : Notes) (r : ArgumentsRule In k true args c d) → supported_in k.flags.module args ≡ true
+      → behind_question inner cover start object (st c k w f h) ≡ Ok (tree.call (record { lo = start.lo; hi = d.last.hi }) object args, st d k w (f ++ walk (env_of k w.labels) args) (h ⊕ notes_of args))
+  unfolding behind_question called
+  arguments_behind start object args k c d w f h r s = rw (seen c kind.LParen r.opens, arguments_read In inner cover given true k args c d w f h r s, ← r.is) refl
+
+  question_more : (start : Span) (object base : Tree) (k : Code) (m d : Place) (w : Scope) (f g : List Fault) (h j : Notes) → kind_at m ≡ kind.QuestionDot
+      → behind_question inner cover start object (st (after m) k w f h) ≡ Ok (base, st d k w g j)
+      → left_from inner cover true start object (st m k w f h) ≡ left_from inner cover true start (chain_of true base) (st d k w g j)
+  unfolding left_from left_turn chained same_kind
+  question_more start object base k m d w f g h j i e =
+      let y = chain_of true base in
+      let t = st d k w g j in
+      loop_more (left_turn inner cover true start) object y (st m k w f h) t (rw (i, e) refl)
+      (shorter_by (length m.left) (chained inner cover start object (st m k w f h)) y t (rw e refl) (chained_falls inner cover given.falls given.cover_falls start object (st m k w f h) (λ z. let n = sym z ∙ i in cc)))
 
   -- a call stands where calls are read
   calls_read : (calls : Bool) (x y : Tree) → x ≡ y → is_callee y ≡ false → (calls || is_callee x) ≡ true → calls ≡ true
@@ -239,18 +324,76 @@ module _ (In : Goal → Type 0) (inner : Class → Reader Tree) (cover : Reader 
   left_reached k calls x c d (sides.import_meta_rule i j v n m e) s g w f h q =
       let b : calls ≡ true = calls_read calls x (tree.meta_prop (spanned c d) meta.ImportMeta) e refl g in
       rw (b, import_meta_reads k x c d i j v n m e w f h) refl
-  left_reached k calls x c d (sides.member_rule y p m r a e) s g w f h q =
+  left_reached k calls x c d (sides.member_rule y p m r u a e) s g w f h q =
       let t = and_yes (supported_in k.flags.module y) _ (supported_as _ x (tree.member (spanned c d) y p) e s) in
       left_reached k calls y c m r t.0 (sym (ap (λ z. calls || is_callee z) e) ∙ g) w f h (inr (access_calm In inner cover given k p m d a))
-      ∙ access_more calls (span_at c) y p k m d a t.1 w (f ++ walk (env_of k w.labels) y) (h ⊕ notes_of y) ∙ rw (e, append_assoc f _ _, append_assoc h.held_back _ _, or_assoc h.found_module_item _ _) refl
+      ∙ access_more calls (span_at c) y p k m d a t.1 w (f ++ walk (env_of k w.labels) y) (h ⊕ notes_of y) ∙ rw (u, e, append_assoc f _ _, append_assoc h.held_back _ _, or_assoc h.found_module_item _ _) refl
+  left_reached k calls x c d (sides.new_target_rule i j v n e) s g w f h q = rw (new_target_reads calls k x c d i j v n e w f h) refl
+  left_reached k calls x c d (sides.tagged_rule y es qs m r u a e) s g w f h q =
+      let b = tree.tagged_tpl (spanned c d) y (tree.tpl (spanned m d) (listed es) (listed qs)) in
+      let t = and_yes (supported_in k.flags.module y) _ (supported_as _ x b e s) in
+      left_reached k calls y c m r t.0 (sym (ap (λ z. calls || is_callee z) e) ∙ g) w f h (inr (template_calm m (template_opens a)))
+      ∙ tagged_more calls (span_at c) y es qs k m d u a t.1 w (f ++ walk (env_of k w.labels) y) (h ⊕ notes_of y) ∙ rw (e, append_assoc f _ _, append_assoc h.held_back _ _, or_assoc h.found_module_item _ _) refl
+  left_reached k calls x c d (sides.chain_rule y b m r i (links.name_link text sp u l j) e) s g w f h q =
+      let t = and_yes (supported_in k.flags.module y) _ (supported_as _ b (tree.member (spanned c d) y (tree.ident sp text)) j (supported_as _ x (tree.opt_chain (spanned c d) true b) e s)) in
+      let o : calls ≡ true = calls_read calls x (tree.opt_chain (spanned c d) true b) e refl g in
+      let f' = f ++ walk (env_of k w.labels) y in
+      let h' = h ⊕ notes_of y in
+      rw o
+      (left_reached k true y c m r t.0 refl w f h (inr (ap is_error i))
+      ∙ question_more (span_at c) y _ k m d w f' f' h' h' i (name_behind (span_at c) y text sp k (after m) d w f' h' l)
+      ∙ rw (e, j, append-nil (walk (env_of k w.labels) y), append-nil (notes y), or_nil (has_meta y)) refl)
+  left_reached k calls x c d (sides.chain_rule y b m r i (links.private_link p u l j) e) s g w f h q =
+      let t = and_yes (supported_in k.flags.module y) _ (supported_as _ b (tree.member (spanned c d) y p) j (supported_as _ x (tree.opt_chain (spanned c d) true b) e s)) in
+      let o : calls ≡ true = calls_read calls x (tree.opt_chain (spanned c d) true b) e refl g in
+      let f' = f ++ walk (env_of k w.labels) y in
+      let h' = h ⊕ notes_of y in
+      rw o
+      (left_reached k true y c m r t.0 refl w f h (inr (ap is_error i))
+      ∙ question_more (span_at c) y _ k m d w f' (f' ++ walk (env_of k w.labels) p) h' (h' ⊕ notes_of p) i (private_behind (span_at c) y p k (after m) d w f' h' l)
+      ∙ rw (e, j, append_assoc f _ _, append_assoc h.held_back _ _, or_assoc h.found_module_item _ _) refl)
+  left_reached k calls x c d (sides.chain_rule y b m r i (links.access_link p u l j) e) s g w f h q =
+      let t = and_yes (supported_in k.flags.module y) _ (supported_as _ b (tree.member (spanned c d) y p) j (supported_as _ x (tree.opt_chain (spanned c d) true b) e s)) in
+      let o : calls ≡ true = calls_read calls x (tree.opt_chain (spanned c d) true b) e refl g in
+      let f' = f ++ walk (env_of k w.labels) y in
+      let h' = h ⊕ notes_of y in
+      rw o
+      (left_reached k true y c m r t.0 refl w f h (inr (ap is_error i))
+      ∙ question_more (span_at c) y _ k m d w f' (f' ++ walk (env_of k w.labels) p) h' (h' ⊕ notes_of p) i (access_behind (span_at c) y p k (after m) d w f' h' u l t.1)
+      ∙ rw (e, j, append_assoc f _ _, append_assoc h.held_back _ _, or_assoc h.found_module_item _ _) refl)
+  left_reached k calls x c d (sides.chain_rule y b m r i (links.arguments_link z l j) e) s g w f h q =
+      let t = and_yes (supported_in k.flags.module y) _ (supported_as _ b (tree.call (spanned c d) y z) j (supported_as _ x (tree.opt_chain (spanned c d) true b) e s)) in
+      let o : calls ≡ true = calls_read calls x (tree.opt_chain (spanned c d) true b) e refl g in
+      let f' = f ++ walk (env_of k w.labels) y in
+      let h' = h ⊕ notes_of y in
+      rw o
+      (left_reached k true y c m r t.0 refl w f h (inr (ap is_error i))
+      ∙ question_more (span_at c) y _ k m d w f' (f' ++ walk (env_of k w.labels) z) h' (h' ⊕ notes_of z) i (arguments_behind (span_at c) y z k (after m) d w f' h' l t.1)
+      ∙ rw (e, j, append_assoc f _ _, append_assoc h.held_back _ _, or_assoc h.found_module_item _ _) refl)
+  left_reached k calls x c d (sides.linked_rule y b m r n (links.name_link text sp u l j) e) s g w f h q = cc
+  left_reached k calls x c d (sides.linked_rule y b m r n (links.private_link p u l j) e) s g w f h q = cc
+  left_reached k calls x c d (sides.linked_rule y b m r n (links.access_link p u l j) e) s g w f h q =
+      let t = and_yes (supported_in k.flags.module y) _ (supported_as _ b (tree.member (spanned c d) y p) j (supported_as _ x (tree.opt_chain (spanned c d) false b) e s)) in
+      let o : calls ≡ true = calls_read calls x (tree.opt_chain (spanned c d) false b) e refl g in
+      rw o
+      (left_reached k true y c m r t.0 refl w f h (inr (access_calm In inner cover given k p m d l))
+      ∙ access_more true (span_at c) y p k m d l t.1 w (f ++ walk (env_of k w.labels) y) (h ⊕ notes_of y)
+      ∙ rw (n, e, j, append_assoc f _ _, append_assoc h.held_back _ _, or_assoc h.found_module_item _ _) refl)
+  left_reached k calls x c d (sides.linked_rule y b m r n (links.arguments_link z l j) e) s g w f h q =
+      let t = and_yes (supported_in k.flags.module y) _ (supported_as _ b (tree.call (spanned c d) y z) j (supported_as _ x (tree.opt_chain (spanned c d) false b) e s)) in
+      let o : calls ≡ true = calls_read calls x (tree.opt_chain (spanned c d) false b) e refl g in
+      rw o
+      (left_reached k true y c m r t.0 refl w f h (inr (ap is_error l.opens))
+      ∙ call_more (span_at c) y z k m d l t.1 w (f ++ walk (env_of k w.labels) y) (h ⊕ notes_of y)
+      ∙ rw (n, e, j, append_assoc f _ _, append_assoc h.held_back _ _, or_assoc h.found_module_item _ _) refl)
   left_reached k calls x c d (sides.super_property_rule p i a j e) s g w f h q =
       rw (super_access_reads calls p k x c d i a j (supported_as _ x (tree.super_prop (spanned c d) (span_at c) p) e s) e w f h) refl
-  left_reached k calls x c d (sides.call_rule y z m r a e) s g w f h q =
+  left_reached k calls x c d (sides.call_rule y z m r u a e) s g w f h q =
       let t = and_yes (supported_in k.flags.module y) _ (supported_as _ x (tree.call (spanned c d) y z) e s) in
       let b : calls ≡ true = calls_read calls x (tree.call (spanned c d) y z) e refl g in
       rw b
       (left_reached k true y c m r t.0 refl w f h (inr (ap is_error a.opens))
-      ∙ call_more (span_at c) y z k m d a t.1 w (f ++ walk (env_of k w.labels) y) (h ⊕ notes_of y) ∙ rw (e, append_assoc f _ _, append_assoc h.held_back _ _, or_assoc h.found_module_item _ _) refl)
+      ∙ call_more (span_at c) y z k m d a t.1 w (f ++ walk (env_of k w.labels) y) (h ⊕ notes_of y) ∙ rw (u, e, append_assoc f _ _, append_assoc h.held_back _ _, or_assoc h.found_module_item _ _) refl)
   left_reached k calls x c d (sides.super_call_rule z i a e) s g w f h q =
       let b : calls ≡ true = calls_read calls x (tree.call (spanned c d) (tree.super_callee (span_at c)) z) e refl g in
       rw (b, super_call_reads z k x c d i a (supported_as _ x (tree.call (spanned c d) (tree.super_callee (span_at c)) z) e s) e w f h) refl
@@ -264,13 +407,14 @@ module _ (In : Goal → Type 0) (inner : Class → Reader Tree) (cover : Reader 
       let t = and_yes (supported_in k.flags.module y) _ (supported_as _ x (tree.new (spanned c d) y tree.absent) e s) in
       rw (bare_new_reads calls y k x c d i r t.0 e w f h q) refl
 
-  -- the loop ends where neither an access nor arguments that are read stand
-  left_stops : (calls : Bool) (start : Span) (x : Tree) (s : State) → (sees kind.Dot s.at || sees kind.LBracket s.at) ≡ false → (calls && sees kind.LParen s.at) ≡ false
-      → left_from inner cover calls start x s ≡ Ok (x, s)
+  -- the loop ends where neither an access, a template nor arguments or a link that are read stand
+  left_stops : (calls : Bool) (start : Span) (x : Tree) (s : State) → (sees kind.Dot s.at || sees kind.LBracket s.at) ≡ false → (calls && sees kind.LParen s.at) ≡ false → begins_template s.at ≡ false
+      → (calls && sees kind.QuestionDot s.at) ≡ false → left_from inner cover calls start x s ≡ Ok (x, s)
   unfolding left_from left_turn
-  left_stops calls start x s e g = loop_done (left_turn inner cover calls start) x x s s (rw (e, g) refl)
+  left_stops calls start x s e g t q = loop_done (left_turn inner cover calls start) x x s s (rw (e, g, t, q) refl)
 
   pub left_reads : (calls : Bool) (k : Code) (x : Tree) (c d : Place) → LeftSideRule In k x c d → supported_in k.flags.module x ≡ true → (calls || is_callee x) ≡ true
-      → (sees kind.Dot d || sees kind.LBracket d) ≡ false → (calls && sees kind.LParen d) ≡ false → ReadsCalm (left inner cover function calls) k x c d
-  left_reads calls k x c d r s g e i w f h q =
-      left_reached k calls x c d r s g w f h q ∙ left_stops calls (span_at c) x (st d k w (f ++ walk (env_of k w.labels) x) (h ⊕ notes_of x)) e i
+      → (sees kind.Dot d || sees kind.LBracket d) ≡ false → (calls && sees kind.LParen d) ≡ false → begins_template d ≡ false → (calls && sees kind.QuestionDot d) ≡ false
+      → ReadsCalm (left inner cover function calls) k x c d
+  left_reads calls k x c d r s g e i t o w f h q =
+      left_reached k calls x c d r s g w f h q ∙ left_stops calls (span_at c) x (st d k w (f ++ walk (env_of k w.labels) x) (h ⊕ notes_of x)) e i t o

@@ -1,8 +1,9 @@
 -- The parts of the language that expressions share are read, with the faults of the walk and the notes held back, and no others:
 -- tokens, accesses, arguments and keys.
-use Rattle.std.proofs.Common.{◌≡◌, ◌<◌, ◌⊎◌, inl, inr, Bool, true, false, List, [], ◌∷◌, ◌++◌, length, Some, None, Ok, refl, sym, ◌∙◌, ap, subst, arith, append_assoc, append-nil}
+use Rattle.std.proofs.Common.{◌≡◌, ◌<◌, ◌⊎◌, inl, inr, Bool, true, false, cond, List, [], ◌∷◌, ◌++◌, length, Some, None, Ok, refl, sym, ◌∙◌, ap, subst, arith, append_assoc, append-nil}
 use Rattle.std.specs.Prelude.{not, ◌&&◌, ◌||◌, codes}
 use Rattle.swc_ecma_parser_common.specs.declared.span.Span.{Span}
+use Rattle.swc_ecma_parser_error.specs.Kind as faults
 use Rattle.swc_ecma_parser_error.specs.Kind.{Kind, Fault}
 use Rattle.swc_ecma_parser_token.specs.declared.kind.TokenKind.{TokenKind}
 use Rattle.swc_ecma_parser_token.specs.declared.kind.TokenKind.TheVariants as kind
@@ -32,14 +33,14 @@ use Rattle.swc_ecma_parser_grammar.specs.language.Goals.{Goal, Class, expression
 use Rattle.swc_ecma_parser_grammar.specs.language.Items.{BlockRule}
 use Rattle.swc_ecma_parser_grammar.specs.language.Lists.{ReadsListed, LastComma, no_comma, last_comma}
 use Rattle.swc_ecma_parser_grammar.specs.language.Parts as parts
-use Rattle.swc_ecma_parser_grammar.specs.language.Parts.{ReadsWord, PrivateRule, AccessRule, is_private, ElementRule, ArgumentsRule, ComputedRule, KeyRule, ReadsToken}
+use Rattle.swc_ecma_parser_grammar.specs.language.Parts.{ReadsWord, PrivateRule, AccessRule, is_private, ElementRule, ArgumentsRule, ComputedRule, KeyRule, ReadsToken, PrivateOperandRule}
 use Rattle.swc_ecma_parser_grammar.proofs.Binding.{ArrowPartRule}
 use Rattle.swc_ecma_parser_grammar.proofs.Arrows.{body_walk}
-use Rattle.swc_ecma_parser_grammar.proofs.Tests.{and_yes, and_no}
+use Rattle.swc_ecma_parser_grammar.proofs.Tests.{and_yes, and_no, and_both}
 use Rattle.swc_ecma_parser_reader.specs.Notes.{Notes, no_notes, ◌⊕◌, notes_of, all_notes_of}
-use Rattle.swc_ecma_parser_reader.specs.State.{and_then, Scope, State, Reader, expect, name, loop, reference, as_name}
+use Rattle.swc_ecma_parser_reader.specs.State.{and_then, Scope, State, Outcome, Reader, moved, wanted, expect, name, loop, reference, as_name}
 use Rattle.swc_ecma_parser_reader.specs.Methods.{MethodForm, getter_form, setter_form, method_form, FunctionForm, expression_form, class_form, property_form, parameter_form, block_form}
-use Rattle.swc_ecma_parser_reader.specs.Expressions.{Cover, literal_of, literal_in, literal, any_word, touching_word, private_name, word_property, token_is_word, literal_key, shorthand_name, shorthand, dotted, super_property, inside, brackets, access, spread_element, plain_element, element, arguments_turn, arguments, computed_key, key, key_or}
+use Rattle.swc_ecma_parser_reader.specs.Expressions.{Cover, literal_of, literal_in, literal, any_word, touching_word, private_name, in_word, word_property, token_is_word, literal_key, shorthand_name, shorthand, dotted, super_property, inside, brackets, access, spread_element, plain_element, element, arguments_turn, arguments, computed_key, key, key_or}
 use Rattle.swc_ecma_parser_reader.proofs.Notes.{or_nil, or_assoc}
 use Rattle.swc_ecma_parser_reader.proofs.Answered.{st, Reads, ReadsCalm, ReadsAs, ReadsAsCalm}
 use Rattle.swc_ecma_parser_reader.proofs.Calm.{calm_same}
@@ -49,9 +50,11 @@ use Rattle.swc_ecma_parser_reader.proofs.Steps.{loop_more, loop_done}
 use Rattle.swc_ecma_parser_reader.proofs.expressions.Falls.{element_falls, FunctionsFall}
 use Rattle.swc_ecma_parser_reader.proofs.expressions.Loops.{shorter_by}
 use Rattle.swc_ecma_parser_reader.proofs.expressions.Groups.{IsTied, ReadsParts}
-use Rattle.swc_ecma_parser_reader.proofs.expressions.CompleteKinds.{NamesStand, supported_as, seen, token_first, touching, no_hash, worded, bracket_here, begin_kind, begin_seen, ends_part}
+use Rattle.swc_ecma_parser_reader.proofs.expressions.CompleteKinds.{NamesStand, supported_as, seen, token_first, touching, no_hash, worded, bracket_here, begin_kind, begin_seen}
+use Rattle.swc_ecma_parser_reader.proofs.expressions.PartEnds.{ends_part}
 use Rattle.swc_ecma_parser_input.specs.declared.context.Context.{Context}
 use Rattle.swc_ecma_parser_grammar.proofs.Ended.{ends_name}
+use Rattle.swc_ecma_parser_grammar.specs.Follows.{begins_template}
 use Rattle.swc_ecma_parser_token.specs.declared.keyword.Keyword.TheVariants as keyword
 use Rattle.swc_ecma_parser_token.specs.declared.token.Word.TheVariants as word
 
@@ -96,14 +99,25 @@ any_word_by : (v : Word) (sp : Span) (c d : Place) (k : Code) (w : Scope) (f : L
 unfolding any_word
 any_word_by v sp c d k w f h r = rw (r.is, r.next) refl
 
-any_word_reads : (text : Text) (sp : Span) (c d : Place) (k : Code) (w : Scope) (f : List Fault) (h : Notes) → ReadsWord text sp c d
+pub any_word_reads : (text : Text) (sp : Span) (c d : Place) (k : Code) (w : Scope) (f : List Fault) (h : Notes) → ReadsWord text sp c d
     → any_word (st c k w f h) ≡ Ok (record { span = sp; sym = text }, st d k w f h)
 any_word_reads text sp c d k w f h r = rw (any_word_by r.word sp c d k w f h r.reads_word, ← r.is_text) refl
 
 pub private_reads : (k : Code) (x : Tree) (c d : Place) → PrivateRule x c d → Reads private_name k x c d
 unfolding private_name touching_word spanned
 private_reads k x c d r w f h =
-    rw (touching r.text r.span c d r.hash r.reads_word r.touches, any_word_reads r.text r.span (after c) d k w f h r.reads_word, r.is, append-nil f, append-nil h.held_back, or_nil h.found_module_item) refl
+    rw (touching r.text r.span c d r.reads_word r.touches, any_word_reads r.text r.span (after c) d k w f h r.reads_word, r.is, append-nil f, append-nil h.held_back, or_nil h.found_module_item) refl
+
+pub private_operand_reads : (k : Code) (x : Tree) (c d : Place) → PrivateOperandRule x c d → Reads private_name k x c d
+unfolding private_name touching_word spanned
+private_operand_reads k x c d r w f h =
+    rw (touching r.text r.span c d r.reads_word r.touches, any_word_reads r.text r.span (after c) d k w f h r.reads_word, r.is, append-nil f, append-nil h.held_back, or_nil h.found_module_item) refl
+
+-- `in` behind it, where that is an operator
+pub in_reads : (c : Place) (k : Code) (w : Scope) (f : List Fault) (h : Notes) → kind_at c ≡ kind.In → k.flags.include_in_expr ≡ true → in_word (st c k w f h) ≡ Ok (tt, st (after c) k w f h)
+unfolding in_word
+in_reads c k w f h e g =
+    ap (λ b. cond {A = Outcome (Unit {0})} b (Ok (tt, moved (st c k w f h))) (wanted {A = Unit {0}} faults.Unexpected (st c k w f h))) (and_both (sees kind.In c) _ (seen c kind.In e) g)
 
 -- ---- literals
 
@@ -150,9 +164,12 @@ AsTarget p d v = (as_target v.x ≡ Some p) × (v.comma ≡ false) × ((span_of 
 -- what these goals ask for is read, and takes a token
 pub record IsRead (In : Goal → Type 0) (inner : Class → Reader Tree) (cover : Reader Cover) : Type 0 where
   pub reads : (class : Class) (k : Code) (x : Tree) (c d : Place) → In (expr_goal class k x c d) → supported_in k.flags.module x ≡ true → ReadsCalm (inner class) k x c d
-  pub calls : (k : Code) (x : Tree) (c d : Place) → In (callee_goal k x c d) → (sees kind.Dot d || sees kind.LBracket d) ≡ false → supported_in k.flags.module x ≡ true → ReadsCalm (inner callee) k x c d
-  -- behind what `new` calls without arguments none stand
-  pub bare : (k : Code) (x : Tree) (c d : Place) → In (expr_goal callee k x c d) → sees kind.LParen d ≡ false
+  pub calls : (k : Code) (x : Tree) (c d : Place) → In (callee_goal k x c d) → (sees kind.Dot d || (sees kind.LBracket d || begins_template d)) ≡ false → supported_in k.flags.module x ≡ true → ReadsCalm (inner callee) k x c d
+  -- behind what `new` calls without arguments none stand, and no link of a chain
+  pub bare : (k : Code) (x : Tree) (c d : Place) → In (expr_goal callee k x c d) → (sees kind.LParen d ≡ false) × (sees kind.QuestionDot d ≡ false)
+  -- what it calls does not begin with the `.` of `new.target`
+  pub undotted : (k : Code) (x : Tree) (c d : Place) → In (callee_goal k x c d) → supported_in k.flags.module x ≡ true → sees kind.NewDot c ≡ false
+  pub bare_undotted : (k : Code) (x : Tree) (c d : Place) → In (expr_goal callee k x c d) → supported_in k.flags.module x ≡ true → sees kind.NewDot c ≡ false
   pub begins : (k : Code) (x : Tree) (c d : Place) → In (expr_goal assignment k x c d) → supported_in k.flags.module x ≡ true → begin_kind (kind_at c) ≡ true
   -- the other body of an arrow function is no block
   pub no_blocks : (k : Code) (x : Tree) (c d : Place) → In (expr_goal assignment k x c d) → is_block x ≡ false

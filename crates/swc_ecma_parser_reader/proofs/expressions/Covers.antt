@@ -29,7 +29,7 @@ use Rattle.swc_ecma_parser_reader.specs.Methods.{FunctionForm}
 use Rattle.swc_ecma_parser_reader.specs.Arrows.{begins_named_arrow, named_arrow, grouped}
 use Rattle.swc_ecma_parser_reader.specs.AsyncArrows.{begins_async_arrow}
 use Rattle.swc_ecma_parser_reader.proofs.expressions.Awaits.{other_awaits}
-use Rattle.swc_ecma_parser_reader.specs.Expressions.{Cover, done, literal, begins_async_call, heads_arrow, operator_at, unheaded, close, unmarked, target, target_or, goes_on, elements, array, properties, object, paren, marked_primary, primary, left_turn, left_from, left_head, left, postfix, unary_expr, binary_turn, binary_from, binary_expr, assigned_to, assigned, behind_operators, operators_expr, postfixed, continued, closed, assigned_pattern, behind_literal, open_literal, done_expr, cover_expr, assignment_expr, is_literal, plain_expr}
+use Rattle.swc_ecma_parser_reader.specs.Expressions.{first_operand, Cover, done, literal, begins_async_call, heads_arrow, operator_at, unheaded, close, unmarked, target, target_or, goes_on, elements, array, properties, object, paren, marked_primary, primary, left_turn, left_from, left_head, left, postfix, unary_expr, binary_turn, binary_from, binary_expr, assigned_to, assigned, behind_operators, operators_expr, postfixed, continued, closed, assigned_pattern, behind_literal, open_literal, done_expr, cover_expr, assignment_expr, is_literal, plain_expr}
 use Rattle.swc_ecma_parser_reader.specs.Yields.{begins_yield}
 use Rattle.swc_ecma_parser_reader.proofs.Steps.{then_ok, chosen, loop_done}
 use Rattle.swc_ecma_parser_reader.proofs.Meets.{Meets, meets_then, meets_if, saw}
@@ -171,7 +171,7 @@ module _ (inner : Class → Reader Tree) (cover : Reader Cover) where
   stays_by start x s h e =
       let t = stopped s.at h in
       rw (
-        loop_done (left_turn inner cover true start) x x s s (rw (t.dot, t.bracket, t.paren) refl),
+        loop_done (left_turn inner cover true start) x x s s (rw (t.dot, t.bracket, t.paren, t.template, t.question) refl),
         t.postfix,
         loop_done (binary_turn inner cover 1 start) x x s s (rw e refl),
       ) refl
@@ -271,23 +271,23 @@ module _ (inner : Class → Reader Tree) (cover : Reader Cover) where
 
     -- with an operand that is read first
     operators_from : (s : State) (o : Outcome Tree) → unary_operator (kind_at s.at) ≡ None → awaits s.code.flags s.at ≡ false → update_operator (kind_at s.at) ≡ None → sees kind.Super s.at ≡ false → sees kind.New s.at ≡ false
-        → sees kind.Import s.at ≡ false → begins_async_call s.at ≡ false → primary inner cover function s ≡ o → operators_expr inner cover function s ≡ and_then o (continued inner cover (span_at s.at))
-    unfolding operators_expr binary_expr unary_expr postfix left left_head continued postfixed
-    operators_from s o plain awaited update super new imports call h = rw (plain, awaited, update, super, new, imports, call, h)
+        → sees kind.Import s.at ≡ false → sees kind.HashIn s.at ≡ false → begins_async_call s.at ≡ false → primary inner cover function s ≡ o → operators_expr inner cover function s ≡ and_then o (continued inner cover (span_at s.at))
+    unfolding operators_expr binary_expr first_operand unary_expr postfix left left_head continued postfixed
+    operators_from s o plain awaited update super new imports hash call h = rw (hash, plain, awaited, update, super, new, imports, call, h)
         (four_steps o (left_from inner cover true (span_at s.at)) (postfixed inner cover (span_at s.at)) (binary_from inner cover 1 (span_at s.at)) (behind_operators inner cover false (span_at s.at)))
 
     -- where a mark stands first that is no operator
     pub operators_at : (s : State) (k : TokenKind) (o : Outcome Tree) → kind_at s.at ≡ k → unary_operator k ≡ None → same_kind k kind.Await ≡ false → update_operator k ≡ None → same_kind k kind.Super ≡ false
-        → same_kind k kind.New ≡ false → same_kind k kind.Import ≡ false → is_mark k ≡ true → primary inner cover function s ≡ o → operators_expr inner cover function s ≡ and_then o (continued inner cover (span_at s.at))
-    operators_at s k o e plain awaited update super new imports mark h =
+        → same_kind k kind.New ≡ false → same_kind k kind.Import ≡ false → same_kind k kind.HashIn ≡ false → is_mark k ≡ true → primary inner cover function s ≡ o → operators_expr inner cover function s ≡ and_then o (continued inner cover (span_at s.at))
+    operators_at s k o e plain awaited update super new imports hash mark h =
         operators_from s o (ap unary_operator e ∙ plain) (other_awaits s.code.flags s.at e awaited) (ap update_operator e ∙ update) (ap (λ j. same_kind j kind.Super) e ∙ super) (ap (λ j. same_kind j kind.New) e ∙ new)
-        (ap (λ j. same_kind j kind.Import) e ∙ imports) (calls_nothing s.at (ap is_mark e ∙ mark)) h
+        (ap (λ j. same_kind j kind.Import) e ∙ imports) (ap (λ j. same_kind j kind.HashIn) e ∙ hash) (calls_nothing s.at (ap is_mark e ∙ mark)) h
 
     pub operators_literal : (s : State) → begins_literal s.at ≡ true → operators_expr inner cover function s ≡ and_then (and_then (opened s) close) (continued inner cover (span_at s.at))
     unfolding same_kind
     operators_literal s h = elim (literal_kind s.at h) [
-      | inl e ↦ operators_at s kind.LBracket _ e refl refl refl refl refl refl refl (primary_literal s h)
-      | inr e ↦ operators_at s kind.LBrace _ e refl refl refl refl refl refl refl (primary_literal s h)
+      | inl e ↦ operators_at s kind.LBracket _ e refl refl refl refl refl refl refl refl (primary_literal s h)
+      | inr e ↦ operators_at s kind.LBrace _ e refl refl refl refl refl refl refl refl (primary_literal s h)
     ]
 
     -- what stands in parentheses, with what goes on with it
@@ -297,7 +297,7 @@ module _ (inner : Class → Reader Tree) (cover : Reader Cover) where
 
     pub operators_paren : (s : State) → kind_at s.at ≡ kind.LParen → operators_expr inner cover function s ≡ and_then (paren inner cover s) (continued inner cover (span_at s.at))
     unfolding same_kind
-    operators_paren s e = operators_at s kind.LParen _ e refl refl refl refl refl refl refl (primary_paren s e)
+    operators_paren s e = operators_at s kind.LParen _ e refl refl refl refl refl refl refl refl (primary_paren s e)
 
     -- ---- an assignment expression, by what stands first
 

@@ -3,7 +3,7 @@ use Rattle.swc_ecma_parser_reader.proofs.Words.{async_begins, function_begins, b
 use Rattle.swc_ecma_parser_grammar.specs.language.Begins.{begins_expression, awaits}
 use Rattle.swc_ecma_parser_grammar.specs.language.Contexts.{may_await, in_arrow, with_in}
 use Rattle.std.proofs.Common.{◌≡◌, ◌≢◌, ℕ, ◌+◌, ◌≤◌, Bool, true, false, cond, List, [], ◌∷◌, ◌++◌, length, Option, Some, None, refl, sym, ◌∙◌, arith}
-use Rattle.std.specs.Prelude.{not, ◌&&◌, ◌||◌, codes}
+use Rattle.std.specs.Prelude.{not, ◌&&◌, ◌||◌, codes, nat_le}
 use Rattle.std.proofs.lemmas.Bool.{and_parts}
 use Rattle.swc_ecma_parser_common.specs.declared.span.Span.{Span}
 use Rattle.swc_ecma_parser_error.specs.Kind as faults
@@ -16,6 +16,7 @@ use Rattle.swc_ecma_parser_token.specs.declared.token.TokenAndSpan.{TokenAndSpan
 use Rattle.swc_ecma_parser_input.specs.TokenSource.{means_out_of_memory}
 use Rattle.swc_ecma_parser_input.specs.Place.{after}
 use Rattle.swc_ecma_parser_model.specs.declared.leaves.Ident.{Ident}
+use Rattle.swc_ecma_parser_model.specs.declared.operators.BinaryOp.TheVariants as binary
 use Rattle.swc_ecma_parser_model.specs.declared.operators.UnaryOp.{UnaryOp}
 use Rattle.swc_ecma_parser_model.specs.declared.operators.UpdateOp.{UpdateOp}
 use Rattle.swc_ecma_parser_model.specs.declared.operators.BinaryOp.{BinaryOp}
@@ -23,39 +24,28 @@ use Rattle.swc_ecma_parser_model.specs.declared.operators.AssignOp.{AssignOp}
 use Rattle.swc_ecma_parser_model.specs.declared.operators.AssignOp.TheVariants as assign
 use Rattle.swc_ecma_parser_model.specs.Tree as tree
 use Rattle.swc_ecma_parser_model.specs.Tree.{Tree, Text}
-use Rattle.swc_ecma_parser_model.specs.Forms.{is_simple_target}
+use Rattle.swc_ecma_parser_model.specs.Forms.{is_simple_target, is_chain}
 use Rattle.swc_ecma_parser_model.specs.Targets.{as_target, as_parameter}
 use Rattle.swc_ecma_parser_grammar.specs.Looks.{kind_at, sees, span_at, breaks_at}
 use Rattle.swc_ecma_parser_grammar.specs.Names.{is_name, name_at, is_identifier, may_refer_to_await}
-use Rattle.swc_ecma_parser_grammar.specs.Follows.{word_at, is_async_function, continues_left_side}
+use Rattle.swc_ecma_parser_grammar.specs.Follows.{word_at, is_async_function, continues_left_side, begins_template}
 use Rattle.swc_ecma_parser_grammar.specs.language.Goals.{Class, expression, assignment, operator, unary, left_side, callee}
-use Rattle.swc_ecma_parser_grammar.specs.language.Operators.{unary_operator, update_operator, assign_operator, groups_left, mixes, is_unary}
+use Rattle.swc_ecma_parser_grammar.specs.language.Operators.{unary_operator, update_operator, assign_operator, groups_left, mixes, is_unary, precedence}
 use Rattle.swc_ecma_parser_grammar.specs.language.Continues.{continues_conditional}
 use Rattle.swc_ecma_parser_reader.specs.State.{State, Outcome, Reader, and_then, moved, module_found, coded, within, enclosed, unlabelled, reject, reject_in, reject_at, fault, fault_at, expect, loop, as_name, reference}
 use Rattle.swc_ecma_parser_reader.specs.Methods.{MethodForm, FunctionForm, expression_form, class_form, property_form, parameter_form, block_form, modifies, begins_async_method, star, starred, method_words, is_bare}
-use Rattle.swc_ecma_parser_reader.specs.Expressions.{Cover, Covers, no_covers, with_cover, unmarked, close, target_or, target, goes_on, literal, literal_in, taken, any_word, word_in, word_by, touching_word, private_name, word_property, is_word_at, key_or, literal_key, shorthand_name, shorthand, dotted, ident_expr, this, bare_new, closed_left, simple, update_behind, behind_operand, postfix_at, right_class, operator_at, left_operand, unmixed, unassigned, unheaded, heads_arrow, begins_async_call, inside, brackets, access, spread_element, plain_element, element, behind_comma, behind_argument, arguments_turn, arguments, covered, spread_item, plain_item, item, behind_item, array_turn, elements, array, computed_key, key, key_value, initialized, initialized_name, initialized_key, bare_key, behind_key, method, behind_words, keyed_property, spread_property, property, behind_property, object_turn, properties, object, paren, marked_primary, literal_or, primary, accessed, called, left_turn, left_from, super_call, super_property, super_access, behind_super, super_head, constructed, new_head, import_call, meta_fault, import_meta, import_head, left_head, left, left_expr, prefixed, update_before, await_allowed, await_expr, postfix, updated, unary_by, unary_expr, operated, binary_by, binary_turn, binary_from, binary_expr, conditional, assigned_to, assigned, assigned_or, behind_operators, operators_expr, plain_expr, postfixed, continued, closed, assigned_pattern, behind_literal, open_literal, done_expr, cover_expr, assignment_expr, sequence_turn, sequence_from, expression_expr, expr_level, named_expr, filled_paren, empty_paren}
+use Rattle.swc_ecma_parser_reader.specs.Expressions.{Cover, Covers, no_covers, with_cover, unmarked, close, target_or, target, goes_on, literal, literal_in, taken, any_word, word_in, word_by, touching_word, private_name, word_property, is_word_at, key_or, literal_key, shorthand_name, shorthand, dotted, ident_expr, this, bare_new, closed_left, simple, update_behind, behind_operand, postfix_at, right_class, operator_at, left_operand, unmixed, unassigned, unheaded, heads_arrow, begins_async_call, inside, brackets, access, spread_element, plain_element, element, behind_comma, behind_argument, arguments_turn, arguments, covered, spread_item, plain_item, item, behind_item, array_turn, elements, array, computed_key, key, key_value, initialized, initialized_name, initialized_key, bare_key, behind_key, method, behind_words, keyed_property, spread_property, property, behind_property, object_turn, properties, object, paren, marked_primary, literal_or, primary, new_target, new_called, behind_called, in_word, private_in, first_operand, tagged, tagged_by, template_pieces, named_link, behind_question, chained, accessed, called, left_turn, left_from, super_call, super_property, super_access, behind_super, super_head, constructed, new_head, import_call, meta_fault, import_meta, import_head, left_head, left, left_expr, prefixed, update_before, await_allowed, await_expr, postfix, updated, unary_by, unary_expr, operated, binary_by, binary_turn, binary_from, binary_expr, conditional, assigned_to, assigned, assigned_or, behind_operators, operators_expr, plain_expr, postfixed, continued, closed, assigned_pattern, behind_literal, open_literal, done_expr, cover_expr, assignment_expr, sequence_turn, sequence_from, expression_expr, expr_level, named_expr, filled_paren, empty_paren}
 use Rattle.swc_ecma_parser_reader.specs.Jumps.{told}
 use Rattle.swc_ecma_parser_reader.specs.Arrows.{begins_named_arrow, Group, behind_part, closed_parts, may_stand_alone, closed_group, parameter_or, parameter, parameters_of, arrow_body, arrow_from, named_arrow, rest_part, part_turn, group_parts, group, behind_group, grouped}
 use Rattle.swc_ecma_parser_reader.specs.AsyncArrows.{Argument, closed_arguments, closed_argument, argument_pattern, argument_parameter, argument_parameters, async_called, spread_argument, plain_argument, argument, either_turn, either_arguments, begins_async_arrow, async_named_arrow, behind_async, async_grouped}
 use Rattle.swc_ecma_parser_reader.specs.Yields.{begins_yield, bare_yield, yielded, behind_yield, yield_expr}
 use Rattle.swc_ecma_parser_reader.specs.Heads.{sequenced, head_expr}
-use Rattle.swc_ecma_parser_reader.proofs.Takes.{Falls, falls_then, falls_last, falls_coded, falls_found, falls_if, less, falls_next, moves, takes, takes_one, falls_past, falls_moved, wanted_falls, refuse_falls, refused_falls, fault_falls, expect_falls, loop_falls, reference_falls}
+use Rattle.swc_ecma_parser_reader.proofs.Takes.{Falls, falls_then, falls_last, falls_coded, falls_found, falls_if, less, falls_next, moves, takes, takes_one, falls_past, falls_moved, wanted_falls, refuse_falls, refused_falls, fault_falls, expect_falls, loop_falls, reference_falls, reject_falls}
 use Rattle.swc_ecma_parser_reader.proofs.Meets.{saw}
+use Rattle.swc_ecma_parser_reader.proofs.expressions.FallsTemplates.{new_target_falls, in_word_falls, regex_falls, pieces_fall, template_falls}
 use Rattle.swc_ecma_parser_input.specs.declared.context.Context.{Context}
 
--- ---- refusals of what was read answer nothing
-
-reject_by : (A : Type 0) (j n : ℕ) (f : Fault) (s : State) (t : Token) → Falls j n (reject_at {A = A} f s t)
-reject_by A j n f s (token.Error e) = falls_if j n (means_out_of_memory e.kind) _ _ tt (refused_falls A j n _ (fault (fault_of e) (moved s)))
-reject_by A j n f s _ = tt
-
-reject_from : (A : Type 0) (j n : ℕ) (f : Fault) (s : State) (ts : List TokenAndSpan) → Falls j n (reject_in {A = A} f s ts)
-reject_from A j n f s [] = tt
-reject_from A j n f s (t ∷ ts) = reject_by A j n f s t.token
-
-pub reject_falls : (A : Type 0) (j n : ℕ) (f : Fault) (s : State) → Falls j n (reject {A = A} f s)
-unfolding reject
-reject_falls A j n f s = reject_from A j n f s s.at.left
+-- ---- a name as a reference
 
 pub as_name_falls : (may_await : Context → Bool) (span : Span) (text : Text) (s : State) → Falls 0 (length s.at.left) (as_name may_await span text s)
 unfolding as_name
@@ -426,12 +416,36 @@ module _ (inner : Class → Reader Tree) (cover : Reader Cover) (h : (class : Cl
   unfolding arguments
   arguments_any commas s = falls_moved 0 s _ (loop_falls (arguments_turn inner cover commas) (arguments_turn_falls commas) [] (moved s))
 
+  -- a template behind a tag, and a link behind `?.`
+  pub tagged_falls : (start : Span) (x : Tree) (s : State) → Falls 1 (length s.at.left) (tagged inner cover start x s)
+  unfolding tagged tagged_by
+  tagged_falls start x s = falls_if 1 (length s.at.left) (is_chain x) _ _ (wanted_falls Tree 1 (length s.at.left) faults.Unexpected s)
+      (falls_last 1 (length s.at.left) (template_pieces inner cover true s) _ (pieces_fall inner cover (inside_falls expression) true s))
+
+  behind_question_falls : (start : Span) (x : Tree) (s : State) → Falls 0 (length s.at.left) (behind_question inner cover start x s)
+  unfolding behind_question called named_link
+  behind_question_falls start x s = falls_if 0 (length s.at.left) (sees kind.LParen s.at) _ _ (falls_last 0 (length s.at.left) (arguments inner cover true s) _ (arguments_any true s))
+      (falls_if 0 (length s.at.left) (sees kind.LBracket s.at) _ _ (less (length s.at.left) (accessed inner cover start x s) (accessed_falls start x s))
+      (falls_last 0 (length s.at.left) (dotted s) _ (less (length s.at.left) (dotted s) (dotted_falls s))))
+
+  pub chained_falls : (start : Span) (x : Tree) (s : State) → kind_at s.at ≢ kind.End → Falls 1 (length s.at.left) (chained inner cover start x s)
+  unfolding chained
+  chained_falls start x s e = falls_past s _ e (falls_last 0 (length (after s.at).left) (behind_question inner cover start x (moved s)) _ (behind_question_falls start x (moved s)))
+
+  chained_any : (start : Span) (x : Tree) (s : State) → Falls 0 (length s.at.left) (chained inner cover start x s)
+  unfolding chained
+  chained_any start x s = falls_moved 0 s _ (falls_last 0 (length (after s.at).left) (behind_question inner cover start x (moved s)) _ (behind_question_falls start x (moved s)))
+
   left_turn_falls : (calls : Bool) (start : Span) (x : Tree) (s : State) → Falls 0 (length s.at.left) (left_turn inner cover calls start x s)
   unfolding left_turn called
   left_turn_falls calls start x s = falls_if 0 (length s.at.left) (sees kind.Dot s.at || sees kind.LBracket s.at) _ _
       (falls_last 0 (length s.at.left) (accessed inner cover start x s) _ (less (length s.at.left) (accessed inner cover start x s) (accessed_falls start x s)))
       (falls_if 0 (length s.at.left) (calls && sees kind.LParen s.at) _ _
-      (falls_last 0 (length s.at.left) (called inner cover start x s) _ (falls_last 0 (length s.at.left) (arguments inner cover true s) _ (arguments_any true s))) (omega arith))
+      (falls_last 0 (length s.at.left) (called inner cover start x s) _ (falls_last 0 (length s.at.left) (arguments inner cover true s) _ (arguments_any true s)))
+      (falls_if 0 (length s.at.left) (begins_template s.at) _ _
+      (falls_last 0 (length s.at.left) (tagged inner cover start x s) _ (less (length s.at.left) (tagged inner cover start x s) (tagged_falls start x s)))
+      (falls_if 0 (length s.at.left) (calls && sees kind.QuestionDot s.at) _ _
+      (falls_last 0 (length s.at.left) (chained inner cover start x s) _ (chained_any start x s)) (omega arith))))
 
   pub left_from_falls : (calls : Bool) (start : Span) (x : Tree) (s : State) → Falls 0 (length s.at.left) (left_from inner cover calls start x s)
   unfolding left_from
@@ -453,10 +467,20 @@ module _ (inner : Class → Reader Tree) (cover : Reader Cover) (h : (class : Cl
   unfolding constructed
   constructed_falls start x s = falls_last 0 (length s.at.left) (arguments inner cover true s) _ (arguments_any true s)
 
+  -- nothing stands behind what is called
+  behind_called_falls : (start : Span) (x : Tree) (s : State) → Falls 0 (length s.at.left) (behind_called inner cover start x s)
+  unfolding behind_called bare_new
+  behind_called_falls start x s = falls_if 0 (length s.at.left) (sees kind.LParen s.at) _ _ (constructed_falls start x s)
+      (falls_if 0 (length s.at.left) (sees kind.QuestionDot s.at) _ _ (wanted_falls Tree 0 (length s.at.left) faults.Unexpected s) (omega arith))
+
+  new_called_falls : (start : Span) (s : State) → Falls 1 (length s.at.left) (new_called inner cover start s)
+  unfolding new_called
+  new_called_falls start s = falls_next (length s.at.left) (inner callee s) _ (h callee s) (λ x t. behind_called_falls start x t)
+
   new_falls : (s : State) → Falls 1 (length s.at.left) (new_head inner cover s)
-  unfolding new_head bare_new
-  new_falls s = falls_moved 1 s _ (falls_next (length (after s.at).left) (inner callee (moved s)) _ (h callee (moved s)) (λ x t.
-      falls_if 0 (length t.at.left) (sees kind.LParen t.at) _ _ (constructed_falls (span_at s.at) x t) (omega arith)))
+  unfolding new_head
+  new_falls s = falls_moved 1 s _ (falls_when 1 (length (after s.at).left) (sees kind.NewDot (after s.at)) _ _
+      (λ e. falls_past (moved s) _ (no_end (moved s) kind.NewDot (λ z. cc) e) (new_target_falls (span_at s.at) (moved (moved s)))) (λ _. new_called_falls (span_at s.at) (moved s)))
 
   import_call_falls : (start : Span) (s : State) → Falls 0 (length s.at.left) (import_call inner cover start s)
   unfolding import_call
@@ -502,6 +526,13 @@ module _ (inner : Class → Reader Tree) (cover : Reader Cover) (h : (class : Cl
   unfolding operated
   operated_falls start x op s = falls_then 0 1 (length s.at.left) (left_operand op x s) _ (left_operand_falls op x s) (λ _ t.
       falls_moved 1 t _ (falls_next (length (after t.at).left) (inner (right_class op) (moved t)) _ (h (right_class op) (moved t)) (λ y u. unmixed_falls start op x y u)))
+
+  -- a private name and `in`
+  private_in_falls : (s : State) → Falls 1 (length s.at.left) (private_in inner cover s)
+  unfolding private_in
+  private_in_falls s = falls_next (length s.at.left) (private_name s) _ (private_falls s) (λ x t.
+      falls_then 0 0 (length t.at.left) (in_word t) _ (in_word_falls t) (λ _ u.
+      falls_last 0 (length u.at.left) (inner (right_class binary.In) u) _ (less (length u.at.left) (inner (right_class binary.In) u) (h (right_class binary.In) u))))
 
   binary_by_falls : (start : Span) (x : Tree) (o : Option BinaryOp) (s : State) → Falls 0 (length s.at.left) (binary_by inner cover start x o s)
   binary_by_falls start x None s = omega arith
@@ -590,7 +621,9 @@ module _ (inner : Class → Reader Tree) (cover : Reader Cover) (h : (class : Cl
         (λ e. falls_next (length s.at.left) (object inner cover function s) _ (object_falls function i s (no_end s kind.LBrace (λ z. cc) e)) close_falls) (λ _.
         falls_when 1 (length s.at.left) (sees kind.This s.at) _ _ (λ e. this_falls s (no_end s kind.This (λ z. cc) e)) (λ _.
         falls_when 1 (length s.at.left) (sees kind.Function s.at) _ _ (λ e. i.expressions s (function_begins s.at (saw s.at kind.Function e))) (λ _.
-        falls_when 1 (length s.at.left) (sees kind.Class s.at) _ _ (λ e. i.classes s (saw s.at kind.Class e)) (λ _. wanted_falls Tree 1 (length s.at.left) faults.Unexpected s))))))
+        falls_when 1 (length s.at.left) (sees kind.Class s.at) _ _ (λ e. i.classes s (saw s.at kind.Class e)) (λ _.
+        falls_if 1 (length s.at.left) (sees kind.Regex s.at) _ _ (regex_falls s)
+        (falls_if 1 (length s.at.left) (begins_template s.at) _ _ (template_falls inner cover (inside_falls expression) s) (wanted_falls Tree 1 (length s.at.left) faults.Unexpected s))))))))
 
     literal_or_falls : (s : State) (o : Option Tree) → literal_in s.at.left ≡ o → Falls 1 (length s.at.left) (and_then (taken o s) (literal_or inner cover function))
     literal_or_falls s None e = marked_falls s
@@ -636,9 +669,13 @@ module _ (inner : Class → Reader Tree) (cover : Reader Cover) (h : (class : Cl
     unfolding unary_expr
     unary_falls s = unary_by_falls (unary_operator (kind_at s.at)) s
 
+    first_operand_falls : (n : ℕ) (s : State) → Falls 1 (length s.at.left) (first_operand inner cover function n s)
+    unfolding first_operand
+    first_operand_falls n s = falls_if 1 (length s.at.left) (nat_le n (precedence binary.In) && sees kind.HashIn s.at) _ _ (private_in_falls s) (unary_falls s)
+
     pub binary_falls : (n : ℕ) (s : State) → Falls 1 (length s.at.left) (binary_expr inner cover function n s)
     unfolding binary_expr binary_from
-    binary_falls n s = falls_next (length s.at.left) (unary_expr inner cover function s) _ (unary_falls s) (λ x t. loop_falls (binary_turn inner cover n (span_at s.at)) (binary_turn_falls n (span_at s.at)) x t)
+    binary_falls n s = falls_next (length s.at.left) (first_operand inner cover function n s) _ (first_operand_falls n s) (λ x t. loop_falls (binary_turn inner cover n (span_at s.at)) (binary_turn_falls n (span_at s.at)) x t)
 
     pub operators_falls : (s : State) → Falls 1 (length s.at.left) (operators_expr inner cover function s)
     unfolding operators_expr

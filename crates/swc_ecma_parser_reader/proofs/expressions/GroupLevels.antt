@@ -68,8 +68,8 @@ module _ (inner : Class → Reader Tree) (covers : Reader Cover) (function : Fun
 
   operators_none : begins_none (kind_at s.at) → operators_expr inner covers function s ≡ and_then (wanted faults.Unexpected s) (continued inner covers (span_at s.at))
   unfolding same_kind
-  operators_none (inl e) = operators_at inner covers function s kind.RParen _ e refl refl refl refl refl refl refl (primary_none (inl e))
-  operators_none (inr e) = operators_at inner covers function s kind.DotDotDot _ e refl refl refl refl refl refl refl (primary_none (inr e))
+  operators_none (inl e) = operators_at inner covers function s kind.RParen _ e refl refl refl refl refl refl refl refl (primary_none (inl e))
+  operators_none (inr e) = operators_at inner covers function s kind.DotDotDot _ e refl refl refl refl refl refl refl refl (primary_none (inr e))
 
   plain_none : begins_none (kind_at s.at) → plain_expr inner covers function s ≡ and_then (wanted faults.Unexpected s) (continued inner covers (span_at s.at))
   unfolding begins_yield begins_named_arrow same_kind

@@ -83,7 +83,7 @@ pub record Passed (k : Code) (d : Place) : Type 0 where
 pub passed_in : (k : Code) (d : Place) → kind_at d ≡ kind.In → k.flags.include_in_expr ≡ false → Passed k d
 unfolding same_kind
 passed_in k d e i = record {
-  stops = quiet_stops d (rw e (refl, refl, refl, refl, refl));
+  stops = quiet_stops d (rw e (refl, refl, refl, refl, refl, refl, refl, refl));
   comma = rw e refl;
   assign = rw e refl;
   question = rw e refl;
@@ -96,7 +96,7 @@ passed_in k d e i = record {
 pub passed_of : (k : Code) (d : Place) → kind_at d ≡ kind.Ident → Passed k d
 unfolding same_kind
 passed_of k d e = record {
-  stops = quiet_stops d (rw e (refl, refl, refl, refl, refl));
+  stops = quiet_stops d (rw e (refl, refl, refl, refl, refl, refl, refl, refl));
   comma = rw e refl;
   assign = rw e refl;
   question = rw e refl;

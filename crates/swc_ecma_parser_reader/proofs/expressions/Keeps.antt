@@ -3,242 +3,54 @@
 use Rattle.swc_ecma_parser_grammar.specs.language.Begins.{begins_expression, awaits}
 use Rattle.swc_ecma_parser_grammar.specs.language.Contexts.{in_arrow, with_in}
 use Rattle.std.proofs.Common.{◌≡◌, ℕ, Bool, true, false, cond, List, [], ◌∷◌, ◌++◌, Option, Some, None, refl, ◌∙◌, ap, Ok}
-use Rattle.std.specs.Prelude.{nat_eq, not, ◌&&◌, ◌||◌, codes}
+use Rattle.std.specs.Prelude.{not, ◌&&◌, ◌||◌, codes, nat_le}
 use Rattle.std.proofs.lemmas.Bool.{and_parts}
 use Rattle.swc_ecma_parser_common.specs.declared.span.Span.{Span}
 use Rattle.swc_ecma_parser_error.specs.Kind as faults
-use Rattle.swc_ecma_parser_error.specs.Kind.{Fault}
 use Rattle.swc_ecma_parser_token.specs.declared.kind.TokenKind.TheVariants as kind
-use Rattle.swc_ecma_parser_token.specs.declared.token.Token.{Token}
-use Rattle.swc_ecma_parser_token.specs.declared.token.Token.TheVariants as token
-use Rattle.swc_ecma_parser_token.specs.declared.token.TokenAndSpan.{TokenAndSpan}
 use Rattle.swc_ecma_parser_input.specs.Place.{after}
 use Rattle.swc_ecma_parser_model.specs.declared.operators.UnaryOp.{UnaryOp}
+use Rattle.swc_ecma_parser_model.specs.declared.operators.BinaryOp.TheVariants as binary
 use Rattle.swc_ecma_parser_model.specs.declared.operators.UpdateOp.{UpdateOp}
 use Rattle.swc_ecma_parser_model.specs.declared.operators.BinaryOp.{BinaryOp}
 use Rattle.swc_ecma_parser_model.specs.declared.operators.AssignOp.{AssignOp}
 use Rattle.swc_ecma_parser_model.specs.declared.operators.AssignOp.TheVariants as assign
 use Rattle.swc_ecma_parser_model.specs.Tree as tree
-use Rattle.swc_ecma_parser_model.specs.Tree.{Tree, Text, listed}
-use Rattle.swc_ecma_parser_model.specs.Forms.{is_simple_target, span_of, has_plain_params}
-use Rattle.swc_ecma_parser_model.specs.Targets.{as_target, as_parameter}
+use Rattle.swc_ecma_parser_model.specs.Tree.{Tree, listed}
+use Rattle.swc_ecma_parser_model.specs.Forms.{is_simple_target, span_of, has_plain_params, is_chain}
 use Rattle.swc_ecma_parser_grammar.specs.Looks.{kind_at, sees, span_at, breaks_at}
 use Rattle.swc_ecma_parser_grammar.specs.Names.{name_at, may_refer_to_await}
-use Rattle.swc_ecma_parser_grammar.specs.Follows.{word_at, is_async_function, continues_left_side}
+use Rattle.swc_ecma_parser_grammar.specs.Follows.{word_at, is_async_function, begins_template}
 use Rattle.swc_ecma_parser_grammar.specs.Own.{misplaced_directive}
 use Rattle.swc_ecma_parser_grammar.specs.language.Goals.{Class, expression, assignment, operator, unary, left_side, callee}
-use Rattle.swc_ecma_parser_grammar.specs.language.Operators.{unary_operator, update_operator, binary_operator, assign_operator, groups_left, mixes, is_unary}
-use Rattle.swc_ecma_parser_grammar.specs.language.Continues.{continues_conditional}
-use Rattle.swc_ecma_parser_reader.specs.State.{State, Reader, and_then, ◌>>=◌, moved, noted, module_found, coded, within, enclosed, unlabelled, wanted, fault_at, fault, expect, loop, as_name, reference}
+use Rattle.swc_ecma_parser_grammar.specs.language.Operators.{unary_operator, update_operator, binary_operator, assign_operator, precedence}
+use Rattle.swc_ecma_parser_reader.specs.State.{State, Reader, and_then, ◌>>=◌, moved, noted, module_found, coded, within, enclosed, unlabelled, fault_at, fault, expect, loop, as_name}
 use Rattle.swc_ecma_parser_reader.specs.Methods.{MethodForm, FunctionForm, expression_form, class_form, property_form, parameter_form, block_form, modifies, begins_async_method, star, starred, method_words, is_bare}
-use Rattle.swc_ecma_parser_reader.specs.Expressions.{Cover, no_covers, unmarked, close, target_or, target, goes_on, literal, literal_in, taken, any_word, word_in, word_by, touching_word, private_name, word_property, is_word_at, key_or, literal_key, shorthand_name, shorthand, dotted, ident_expr, this, bare_new, closed_left, simple, update_behind, behind_operand, postfix_at, right_class, read_operator, operator_at, left_operand, unmixed, unassigned, unassignable, unheaded, heads_arrow, begins_async_call, inside, brackets, access, spread_element, plain_element, element, arguments_turn, arguments, covered, spread_item, plain_item, item, array_turn, elements, array, computed_key, key, key_value, initialized, initialized_name, initialized_key, bare_key, behind_key, method, behind_words, keyed_property, spread_property, property, object_turn, properties, object, paren, marked_primary, literal_or, primary, accessed, called, left_turn, left_from, super_call, super_property, super_access, behind_super, super_head, constructed, new_head, import_call, meta_fault, import_meta, import_head, left_head, left, left_expr, prefixed, update_before, await_expr, postfix, updated, unary_by, unary_expr, operated, binary_by, binary_turn, binary_from, binary_expr, conditional, assigned_to, assigned, assigned_or, behind_operators, operators_expr, plain_expr, postfixed, continued, closed, assigned_pattern, behind_literal, open_literal, done_expr, cover_expr, assignment_expr, sequence_turn, sequence_from, expression_expr, expr_level, named_expr, filled_paren, empty_paren}
+use Rattle.swc_ecma_parser_reader.specs.Expressions.{Cover, Pieces, template_text, is_tail, first_piece, template_turn, template_from, template_pieces, template, tagged, tagged_by, named_link, behind_question, chained, behind_called, new_called, in_word, private_in, first_operand, no_covers, close, target, goes_on, literal, any_word, private_name, word_property, is_word_at, shorthand, dotted, bare_new, simple, behind_operand, postfix_at, right_class, read_operator, operator_at, left_operand, unmixed, unassignable, begins_async_call, inside, brackets, access, spread_element, plain_element, element, arguments_turn, arguments, covered, spread_item, plain_item, item, array_turn, elements, array, computed_key, key, key_value, initialized, initialized_name, initialized_key, bare_key, behind_key, method, behind_words, keyed_property, spread_property, property, object_turn, properties, object, paren, marked_primary, literal_or, primary, accessed, called, left_turn, left_from, super_call, super_property, super_access, behind_super, super_head, constructed, new_head, import_call, meta_fault, import_meta, import_head, left_head, left, left_expr, prefixed, update_before, await_expr, postfix, updated, unary_by, unary_expr, operated, binary_by, binary_turn, binary_from, binary_expr, conditional, assigned_to, assigned, assigned_or, behind_operators, operators_expr, plain_expr, postfixed, continued, closed, assigned_pattern, behind_literal, open_literal, done_expr, cover_expr, assignment_expr, sequence_turn, sequence_from, expression_expr, expr_level, named_expr, filled_paren, empty_paren}
 use Rattle.swc_ecma_parser_reader.specs.Jumps.{told}
-use Rattle.swc_ecma_parser_reader.specs.Arrows.{begins_named_arrow, Group, behind_part, closed_parts, may_stand_alone, closed_group, parameter, parameter_or, parameters_of, arrow_body, arrow_from, named_arrow, rest_part, part_turn, group_parts, group, behind_group, grouped}
-use Rattle.swc_ecma_parser_reader.specs.AsyncArrows.{Argument, closed_arguments, closed_argument, argument_pattern, argument_parameter, argument_parameters, async_called, spread_argument, plain_argument, argument, either_turn, either_arguments, begins_async_arrow, async_named_arrow, behind_async, async_grouped}
+use Rattle.swc_ecma_parser_reader.specs.Arrows.{begins_named_arrow, Group, closed_group, parameter, parameters_of, arrow_body, arrow_from, named_arrow, rest_part, part_turn, group_parts, group, behind_group, grouped}
+use Rattle.swc_ecma_parser_reader.specs.AsyncArrows.{Argument, closed_arguments, argument_parameters, async_called, spread_argument, plain_argument, argument, either_turn, either_arguments, begins_async_arrow, async_named_arrow, behind_async, async_grouped}
 use Rattle.swc_ecma_parser_reader.specs.Yields.{begins_yield, bare_yield, yielded, behind_yield, yield_expr}
 use Rattle.swc_ecma_parser_reader.specs.Heads.{sequenced, head_expr}
 use Rattle.swc_ecma_parser_reader.proofs.Meets.{Answers, answers_then, answers_if, saw}
 use Rattle.swc_ecma_parser_reader.proofs.Errors.{is_error}
-use Rattle.swc_ecma_parser_reader.proofs.Words.{async_begins, function_begins}
+use Rattle.swc_ecma_parser_reader.proofs.Words.{async_begins, function_begins, or_later}
 use Rattle.swc_ecma_parser_reader.proofs.expressions.Awaits.{await_fault, await_either}
 use Rattle.swc_ecma_parser_reader.proofs.expressions.AsyncHeads.{async_call_parts, async_name}
-use Rattle.swc_ecma_parser_reader.proofs.expressions.Stands.{no_error_by, postfix_stands, literal_stands, modified, async_modified, async_arrow_kind, yield_kind, Begins}
+use Rattle.swc_ecma_parser_reader.proofs.expressions.Stands.{no_error_by, modified, async_modified, async_arrow_kind, yield_kind, Begins}
 use Rattle.swc_ecma_parser_grammar.proofs.ExpressionBegins.{await_stands}
 use Rattle.swc_ecma_parser_grammar.proofs.StatementBegins.{word_place}
 use Rattle.swc_ecma_parser_grammar.proofs.Tests.{and_yes}
-use Rattle.swc_ecma_parser_reader.proofs.Behind.{NothingLost, Kept, Lost, Passes, SaysMemory, flagged_kept, kept_here, answers_as, fault_says, fault_stays, behind_after, behind_seen, behind_taken, behind_noted, fault_keeps, wanted_keeps, refuse_keeps, reject_keeps, expect_keeps, held_loop_keeps, loop_keeps, reference_keeps, as_name_keeps, as_name_stays}
+use Rattle.swc_ecma_parser_reader.proofs.Behind.{NothingLost, Kept, Lost, Passes, flagged_kept, behind_after, behind_seen, behind_noted, fault_keeps, refuse_keeps, reject_keeps, expect_keeps, held_loop_keeps, loop_keeps, as_name_stays}
+use Rattle.swc_ecma_parser_reader.proofs.expressions.KeepSteps.{other_test, unexpected_keeps, literal_keeps, regex_keeps, new_target_keeps, in_word_keeps, any_word_keeps, ident_keeps, this_keeps, simple_keeps, closed_keeps, unmixed_keeps, unassigned_keeps, unheaded_keeps, shorthand_keeps, left_operand_keeps, close_stays, close_keeps, target_keeps, text_keeps, told_keeps, closed_group_keeps, parameters_of_keep, behind_part_keeps, closed_arguments_keep, argument_parameters_keep, literal_key_keeps, private_behind, dotted_keeps, behind_operand_keeps}
 
--- ---- what is known of the first token
-
--- the second of two tests
-pub other_test : (a b : Bool) → (a || b) ≡ true → a ≡ false → b ≡ true
-other_test true b h e = cc
-other_test false b h e = h
+-- ---- functions
 
 -- functions keep them, and a parameter that is a name takes it alone
 pub record FunctionsPass (function : FunctionForm → Reader Tree) : Type 0 where
   pub passes : (form : FunctionForm) (b s : State) → Begins form s.at → NothingLost b s → Answers (Kept b) (Lost b) (function form s)
   pub names : (b s : State) → name_at s.code.flags s.at ≡ true → is_error (kind_at (after s.at)) ≡ false → NothingLost b s
       → Answers (λ _ t. NothingLost b t × (t.at ≡ after s.at)) (Lost b) (function parameter_form s)
-
--- ---- steps that read nothing further in
-
-module _ (b : State) (s : State) (f : NothingLost b s) where
-  pub unexpected_keeps : {A : Type 0} (P : A → State → Type 0) → Answers P (Lost b) (wanted faults.Unexpected s)
-  unexpected_keeps P = wanted_keeps P faults.Unexpected b s f
-
-  pub taken_keeps : (ts : List TokenAndSpan) → s.at.left ≡ ts → (o : Option Tree) → literal_in ts ≡ o → Answers (Kept b) (Lost b) (taken o s)
-  taken_keeps ts is None e = f
-  taken_keeps [] is (Some x) e = cc
-  taken_keeps (u ∷ ts) is (Some x) e = behind_taken b s u ts is (literal_stands u.span u.token x e) f
-
-  literal_keeps : Answers (Kept b) (Lost b) (literal s)
-  unfolding literal
-  literal_keeps = taken_keeps s.at.left refl (literal_in s.at.left) refl
-
-  word_by_keeps : (u : TokenAndSpan) (ts : List TokenAndSpan) → s.at.left ≡ u ∷ ts → (v : Token) (span : Span) → u.token ≡ v → Answers (Kept b) (Lost b) (word_by s v span)
-  word_by_keeps u ts is (token.Word w) span g = behind_taken b s u ts is (rw g refl) f
-  word_by_keeps u ts is _ span g = wanted_keeps _ faults.ExpectedIdent b s f
-
-  word_in_keeps : (ts : List TokenAndSpan) → s.at.left ≡ ts → Answers (Kept b) (Lost b) (word_in s ts)
-  word_in_keeps [] is = wanted_keeps _ faults.ExpectedIdent b s f
-  word_in_keeps (u ∷ ts) is = word_by_keeps u ts is u.token u.span refl
-
-  pub any_word_keeps : Answers (Kept b) (Lost b) (any_word s)
-  unfolding any_word
-  any_word_keeps = word_in_keeps s.at.left refl
-
-  touching_keeps : Answers (Kept b) (Lost b) (touching_word s)
-  unfolding touching_word
-  touching_keeps = answers_if _ _ (nat_eq s.at.last.hi.0 (span_at s.at).lo.0) _ _ (λ _. any_word_keeps) (λ _. wanted_keeps _ faults.ExpectedIdent b s f)
-
-  ident_keeps : Answers (Kept b) (Lost b) (ident_expr s)
-  unfolding ident_expr
-  ident_keeps = answers_then _ _ (reference faults.Unexpected s) _ (reference_keeps b s f faults.Unexpected) (λ i t g. g)
-
-  this_keeps : sees kind.This s.at ≡ true → Answers (Kept b) (Lost b) (this s)
-  unfolding this
-  this_keeps e = behind_seen b s kind.This e refl f
-
-  -- what is no simple target is refused, or the state is as it is
-  simple_keeps : (x : Tree) → Answers (λ _ t. t ≡ s) (Lost b) (simple x s)
-  unfolding simple
-  simple_keeps x = answers_if _ _ (is_simple_target x) _ _ (λ _. refl) (λ _. reject_keeps _ faults.NotSimpleAssign (span_of x) b s f)
-
-  closed_keeps : (x : Tree) → Answers (Kept b) (Lost b) (closed_left x s)
-  unfolding closed_left
-  closed_keeps x = answers_if _ _ (continues_left_side s.at) _ _ (λ _. unexpected_keeps _) (λ _. f)
-
-  unmixed_keeps : (start : Span) (op : BinaryOp) (x y : Tree) → Answers (Kept b) (Lost b) (unmixed start op x y s)
-  unfolding unmixed
-  unmixed_keeps start op x y = answers_if _ _ (mixes op x || mixes op y) _ _ (λ _. reject_keeps _ faults.NullishCoalescingWithLogicalOp _ b s f) (λ _. f)
-
-  unassigned_keeps : (x : Tree) → Answers (Kept b) (Lost b) (unassigned x s)
-  unfolding unassigned
-  unassigned_keeps x = answers_if _ _ (continues_conditional s.at) _ _ (λ _. unexpected_keeps _) (λ _. f)
-
-  unheaded_keeps : (is_async : Bool) (x : Tree) → Answers (Kept b) (Lost b) (unheaded is_async x s)
-  unfolding unheaded
-  unheaded_keeps is_async x = answers_if _ _ (heads_arrow is_async x s) _ _ (λ _. unexpected_keeps _) (λ _. f)
-
-  shorthand_name_keeps : (span : Span) (text : Text) → Answers (Kept b) (Lost b) (shorthand_name span text s)
-  unfolding shorthand_name
-  shorthand_name_keeps span text = answers_then _ _ (as_name may_refer_to_await span text s) _ (as_name_keeps b s f may_refer_to_await span text) (λ _ t g. g)
-
-  shorthand_keeps : (x : Tree) → Answers (Kept b) (Lost b) (shorthand x s)
-  shorthand_keeps (tree.ident span text) = shorthand_name_keeps span text
-  shorthand_keeps _ = unexpected_keeps _
-
-  -- a refusal of the left operand, or the state as it is
-  left_operand_keeps : (op : BinaryOp) (x : Tree) → Answers (λ _ t. t ≡ s) (Lost b) (left_operand op x s)
-  unfolding left_operand
-  left_operand_keeps op x = answers_if _ _ (not (groups_left op) && is_unary x) _ _ (λ _. reject_keeps _ faults.UnaryInExp (span_of x) b s f) (λ _. refl)
-
-  -- ---- what is closed, and what is a target
-
-  unmarked_keeps : (x : Tree) (o : Option Span) → Answers (λ _ t. NothingLost b t × (t.at ≡ s.at)) (Lost b) (unmarked x o s)
-  unmarked_keeps x None = (f, refl)
-  unmarked_keeps x (Some k) = reject_keeps _ faults.AssignProperty k b s f
-
-  close_stays : (v : Cover) → Answers (λ _ t. NothingLost b t × (t.at ≡ s.at)) (Lost b) (close v s)
-  unfolding close
-  close_stays v = unmarked_keeps v.x v.mark
-
-  pub close_keeps : (v : Cover) → Answers (Kept b) (Lost b) (close v s)
-  close_keeps v = kept_here b s (close v s) (close_stays v)
-
-  -- a target is refused, or the state is as it is
-  target_or_keeps : (x : Tree) (o : Option Tree) → Answers (λ _ t. t ≡ s) (Lost b) (target_or x o s)
-  target_or_keeps x (Some p) = refl
-  target_or_keeps x None = reject_keeps _ faults.InvalidPat (span_of x) b s f
-
-  target_keeps : (v : Cover) → Answers (λ _ t. t ≡ s) (Lost b) (target v s)
-  unfolding target
-  target_keeps v = target_or_keeps v.x (cond v.comma None (as_target v.x))
-
--- ---- what is told, and what stands in parentheses as an expression and as parameters
-
-pub told_keeps : (b : State) (fs : List Fault) (s : State) → NothingLost b s → Answers (Kept b) (Lost b) (told fs s)
-told_keeps b [] s g = g
-told_keeps b (f ∷ fs) s g = answers_then (Kept b) _ (fault f s) _ (fault_keeps b s g f) (λ _ t k. told_keeps b fs t k)
-
--- before what is no error token
-pub told_stays : (b : State) (fs : List Fault) (s : State) → is_error (kind_at s.at) ≡ false → NothingLost b s → Answers (λ _ t. NothingLost b t × (t.at ≡ s.at)) (Lost b) (told fs s)
-told_stays b [] s e g = (g, refl)
-told_stays b (f ∷ fs) s e g = answers_then _ _ (fault f s) _ (fault_stays b s g f e) (λ _ t (k, o).
-    answers_as (Lost b) (told fs t) (told_stays b fs t (ap (λ c. is_error (kind_at c)) o ∙ e) k) (λ _ u (j, p). (j, p ∙ o)))
-
--- a refusal of it says that memory ran out
-pub told_says : (fs : List Fault) (s : State) → Answers (λ _ _. Unit {0}) SaysMemory (told fs s)
-told_says [] s = tt
-told_says (f ∷ fs) s = answers_then _ _ (fault f s) _ (fault_says f s) (λ _ t _. told_says fs t)
-
-closed_parts_keep : (b : State) (vs : List Cover) (s : State) → NothingLost b s → Answers (Kept b) (Lost b) (closed_parts vs s)
-closed_parts_keep b [] s f = f
-closed_parts_keep b (v ∷ vs) s f = answers_then _ _ (close v s) _ (close_keeps b s f v) (λ x t g. answers_then _ _ (closed_parts vs t) _ (closed_parts_keep b vs t g) (λ xs u k. k))
-
-closed_group_keeps : (b : State) (start : Span) (g : Group) (s : State) → NothingLost b s → Answers (Kept b) (Lost b) (closed_group start g s)
-unfolding closed_group
-closed_group_keeps b start g s f = answers_if _ _ (may_stand_alone g) _ _ (λ _. answers_then _ _ (closed_parts g.parts s) _ (closed_parts_keep b g.parts s f) (λ xs t k. k))
-    (λ _. unexpected_keeps b s f _)
-
--- parameters are refused, or the state is as it is
-parameter_or_keeps : (b : State) (x : Tree) (o : Option Tree) (s : State) → NothingLost b s → Answers (λ _ t. t ≡ s) (Lost b) (parameter_or x o s)
-parameter_or_keeps b x (Some p) s f = refl
-parameter_or_keeps b x None s f = reject_keeps _ faults.InvalidPat (span_of x) b s f
-
-parameter_keeps : (b : State) (v : Cover) (s : State) → NothingLost b s → Answers (λ _ t. t ≡ s) (Lost b) (parameter v s)
-unfolding parameter
-parameter_keeps b v s f = parameter_or_keeps b v.x (cond v.comma None (as_parameter v.x)) s f
-
-parameters_of_keep : (b : State) (vs : List Cover) (rest : Option Tree) (s : State) → NothingLost b s → Answers (λ _ t. t ≡ s) (Lost b) (parameters_of vs rest s)
-parameters_of_keep b [] rest s f = refl
-parameters_of_keep b (v ∷ vs) rest s f = answers_then _ _ (parameter v s) _ (parameter_keeps b v s f) (λ p t g.
-    answers_then _ _ (parameters_of vs rest t) _ (parameters_of_keep b vs rest t (rw g f)) (λ ps u k. k ∙ g))
-
-behind_part_keeps : (b : State) (found : List Cover) (s : State) → NothingLost b s → Answers (Kept b) (Lost b) (behind_part found s)
-behind_part_keeps b found s f = answers_if _ _ (sees kind.RParen s.at) _ _ (λ _. f) (λ _. answers_then _ _ (expect kind.Comma s) _ (expect_keeps b s f kind.Comma refl) (λ _ t g.
-    answers_if _ _ (sees kind.RParen t.at) _ _ (λ _. g) (λ _. g)))
-
-closed_arguments_keep : (b : State) (found : List Argument) (s : State) → NothingLost b s → Answers (Kept b) (Lost b) (closed_arguments found s)
-closed_arguments_keep b [] s f = f
-closed_arguments_keep b (a ∷ rest) s f = answers_then _ _ (closed_argument a s) _ (answers_then _ _ (close a.cover s) _ (close_keeps b s f a.cover) (λ x t g. g)) (λ x t g.
-    answers_then _ _ (closed_arguments rest t) _ (closed_arguments_keep b rest t g) (λ xs u k. k))
-
-argument_parameter_keeps : (b : State) (a : Argument) (s : State) → NothingLost b s → Answers (λ _ t. t ≡ s) (Lost b) (argument_parameter a s)
-unfolding argument_parameter
-argument_parameter_keeps b a s f = parameter_or_keeps b a.cover.x (cond a.cover.comma None (argument_pattern a.dots a.cover.x)) s f
-
-argument_parameters_keep : (b : State) (found : List Argument) (s : State) → NothingLost b s → Answers (λ _ t. t ≡ s) (Lost b) (argument_parameters found s)
-argument_parameters_keep b [] s f = refl
-argument_parameters_keep b (a ∷ rest) s f = answers_then _ _ (argument_parameter a s) _ (argument_parameter_keeps b a s f) (λ p t g.
-    answers_then _ _ (argument_parameters rest t) _ (argument_parameters_keep b rest t (rw g f)) (λ ps u k. k ∙ g))
-
-literal_key_keeps : (b : State) (s : State) → NothingLost b s → Answers (Kept b) (Lost b) (literal_key s)
-unfolding literal_key
-literal_key_keeps b s f = answers_then _ _ (literal s) _ (literal_keeps b s f) by_key
-  where
-    by_key : (o : Option Tree) (t : State) → NothingLost b t → Answers (Kept b) (Lost b) (key_or o t)
-    by_key (Some (tree.str span value raw)) t g = g
-    by_key (Some (tree.num span raw)) t g = g
-    by_key (Some (tree.big_int span raw)) t g = g
-    by_key _ t g = wanted_keeps _ faults.ExpectedIdent b t g
-
-pub private_keeps : (b : State) (s : State) → sees kind.Hash s.at ≡ true → NothingLost b s → Answers (Kept b) (Lost b) (private_name s)
-unfolding private_name
-private_keeps b s e f = answers_then _ _ (touching_word (moved s)) _ (touching_keeps b (moved s) (behind_seen b s kind.Hash e refl f)) (λ i t g. g)
-
-dotted_keeps : (b : State) (s : State) → NothingLost b s → Answers (Kept b) (Lost b) (dotted s)
-unfolding dotted word_property
-dotted_keeps b s f = answers_if _ _ (sees kind.Hash s.at) _ _ (λ e. private_keeps b s e f) (λ _. answers_then _ _ (any_word s) _ (any_word_keeps b s f) (λ i t g. g))
-
-update_behind_keeps : (b : State) (start : Span) (x : Tree) (op : UpdateOp) (s : State) → is_error (kind_at s.at) ≡ false → NothingLost b s → Answers (Kept b) (Lost b) (update_behind start x op s)
-unfolding update_behind
-update_behind_keeps b start x op s e f = answers_then _ _ (simple x s) _ (simple_keeps b s f x) (λ _ t g. behind_after b t refl (rw g e) (rw g f))
-
-behind_operand_keeps : (b : State) (start : Span) (x : Tree) (o : Option UpdateOp) (s : State) → postfix_at s.at ≡ o → NothingLost b s → Answers (Kept b) (Lost b) (behind_operand start x o s)
-behind_operand_keeps b start x None s e f = f
-behind_operand_keeps b start x (Some op) s e f = update_behind_keeps b start x op s (postfix_stands s.at op e) f
 
 -- ---- what stands before the key of a method
 
@@ -309,6 +121,27 @@ module _ (inner : Class → Reader Tree) (cover : Reader Cover) (below : (class 
       (λ found t g. answers_if _ _ (sees kind.RParen t.at) _ _ (λ seen. behind_seen b t kind.RParen seen refl g) (λ _.
       answers_then _ _ (argument inner cover t) _ (argument_keeps b t g) (λ a u k.
       answers_if _ _ (sees kind.RParen u.at) _ _ (λ _. k) (λ _. answers_then _ _ (expect kind.Comma u) _ (expect_keeps b u k kind.Comma refl) (λ _ w j. j))))) [] (moved s) (behind_after b s e refl f)
+
+  -- ---- templates
+
+  many_pieces_keep : (is_tagged : Bool) (found : Pieces) (b s : State) → NothingLost b s → Answers (Kept b) (Lost b) (loop (template_turn inner cover is_tagged) found s)
+  unfolding template_turn
+  many_pieces_keep is_tagged found b s f = loop_keeps (template_turn inner cover is_tagged) b
+      (λ ps t g. answers_then _ _ (inside inner cover expression t) _ (inside_keeps expression b t g) (λ e u k.
+      answers_if _ _ (sees kind.TemplateMiddle u.at || sees kind.TemplateTail u.at) _ _
+      (λ _. answers_then _ _ (template_text is_tagged u) _ (text_keeps is_tagged b u k) (λ q v j. j)) (λ _. refuse_keeps _ faults.Expected b u k))) found s f
+
+  template_from_keeps : (is_tagged : Bool) (q : Tree) (z : Bool) (b s : State) → is_tail q ≡ z → NothingLost b s → Answers (Kept b) (Lost b) (template_from inner cover is_tagged q s)
+  template_from_keeps is_tagged q true b s e f = rw e f
+  template_from_keeps is_tagged q false b s e f = rw e (many_pieces_keep is_tagged (first_piece q) b s f)
+
+  pieces_keep : (is_tagged : Bool) (b s : State) → NothingLost b s → Answers (Kept b) (Lost b) (template_pieces inner cover is_tagged s)
+  unfolding template_pieces
+  pieces_keep is_tagged b s f = answers_then _ _ (template_text is_tagged s) _ (text_keeps is_tagged b s f) (λ q t g. template_from_keeps is_tagged q (is_tail q) b t refl g)
+
+  template_keeps : (b s : State) → NothingLost b s → Answers (Kept b) (Lost b) (template inner cover s)
+  unfolding template
+  template_keeps b s f = answers_then _ _ (template_pieces inner cover false s) _ (pieces_keep false b s f) (λ found t g. g)
 
   -- ---- properties
 
@@ -433,13 +266,31 @@ module _ (inner : Class → Reader Tree) (cover : Reader Cover) (below : (class 
     unfolding called
     called_keeps start x s e f = answers_then _ _ (arguments inner cover true s) _ (arguments_keeps true s e f) (λ xs t g. g)
 
+    pub tagged_keeps : (start : Span) (x : Tree) (s : State) → NothingLost b s → Answers (Kept b) (Lost b) (tagged inner cover start x s)
+    unfolding tagged tagged_by
+    tagged_keeps start x s f = answers_if _ _ (is_chain x) _ _ (λ _. unexpected_keeps b s f _)
+        (λ _. answers_then _ _ (template_pieces inner cover true s) _ (pieces_keep true b s f) (λ found t g. g))
+
+    behind_question_keeps : (start : Span) (x : Tree) (s : State) → NothingLost b s → Answers (Kept b) (Lost b) (behind_question inner cover start x s)
+    unfolding behind_question named_link
+    behind_question_keeps start x s f = answers_if _ _ (sees kind.LParen s.at) _ _ (λ e. called_keeps start x s (saw s.at kind.LParen e) f)
+        (λ _. answers_if _ _ (sees kind.LBracket s.at) _ _ (λ e. accessed_keeps start x s (or_later (sees kind.Dot s.at) (sees kind.LBracket s.at) e) f)
+        (λ _. answers_then _ _ (dotted s) _ (dotted_keeps b s f) (λ p t g. g)))
+
+    pub chained_keeps : (start : Span) (x : Tree) (s : State) → sees kind.QuestionDot s.at ≡ true → NothingLost b s → Answers (Kept b) (Lost b) (chained inner cover start x s)
+    unfolding chained
+    chained_keeps start x s e f = answers_then _ _ (behind_question inner cover start x (moved s)) _ (behind_question_keeps start x (moved s) (behind_seen b s kind.QuestionDot e refl f)) (λ y t g. g)
+
     left_from_keeps : (calls : Bool) (start : Span) (x : Tree) (s : State) → NothingLost b s → Answers (Kept b) (Lost b) (left_from inner cover calls start x s)
     unfolding left_from left_turn
     left_from_keeps calls start x s f = loop_keeps (left_turn inner cover calls start) b
         (λ y t g. answers_if _ _ (sees kind.Dot t.at || sees kind.LBracket t.at) _ _
         (λ h. answers_then _ _ (accessed inner cover start y t) _ (accessed_keeps start y t h g) (λ z u k. k))
         (λ _. answers_if _ _ (calls && sees kind.LParen t.at) _ _
-        (λ h. answers_then _ _ (called inner cover start y t) _ (called_keeps start y t (saw t.at kind.LParen (and_parts calls (sees kind.LParen t.at) h).1) g) (λ z u k. k)) (λ _. g))) x s f
+        (λ h. answers_then _ _ (called inner cover start y t) _ (called_keeps start y t (saw t.at kind.LParen (and_parts calls (sees kind.LParen t.at) h).1) g) (λ z u k. k))
+        (λ _. answers_if _ _ (begins_template t.at) _ _ (λ _. answers_then _ _ (tagged inner cover start y t) _ (tagged_keeps start y t g) (λ z u k. k))
+        (λ _. answers_if _ _ (calls && sees kind.QuestionDot t.at) _ _
+        (λ h. answers_then _ _ (chained inner cover start y t) _ (chained_keeps start y t (and_parts calls (sees kind.QuestionDot t.at) h).1 g) (λ z u k. k)) (λ _. g))))) x s f
 
     behind_super_keeps : (calls : Bool) (start : Span) (s : State) → NothingLost b s → Answers (Kept b) (Lost b) (behind_super inner cover calls start s)
     unfolding behind_super super_call super_access
@@ -456,13 +307,17 @@ module _ (inner : Class → Reader Tree) (cover : Reader Cover) (below : (class 
     unfolding constructed
     constructed_keeps start x s e f = answers_then _ _ (arguments inner cover true s) _ (arguments_keeps true s e f) (λ xs t g. g)
 
+    behind_called_keeps : (start : Span) (x : Tree) (s : State) → NothingLost b s → Answers (Kept b) (Lost b) (behind_called inner cover start x s)
+    unfolding behind_called bare_new
+    behind_called_keeps start x s f = answers_if _ _ (sees kind.LParen s.at) _ _ (λ e. constructed_keeps start x s (saw s.at kind.LParen e) f)
+        (λ _. answers_if _ _ (sees kind.QuestionDot s.at) _ _ (λ _. unexpected_keeps b s f _) (λ _. f))
+
     new_keeps : (s : State) → kind_at s.at ≡ kind.New → NothingLost b s → Answers (Kept b) (Lost b) (new_head inner cover s)
-    unfolding new_head bare_new
+    unfolding new_head new_called
     new_keeps s e f =
         let g = behind_after b s e refl f in
-        answers_then _ _ (inner callee (moved s)) _ (below callee b (moved s) g) (λ x t k.
-        let j : NothingLost b t = k in
-        answers_if _ _ (sees kind.LParen t.at) _ _ (λ o. constructed_keeps (span_at s.at) x t (saw t.at kind.LParen o) j) (λ _. j))
+        answers_if _ _ (sees kind.NewDot (after s.at)) _ _ (λ seen. new_target_keeps b (moved (moved s)) (behind_seen b (moved s) kind.NewDot seen refl g) (span_at s.at))
+        (λ _. answers_then _ _ (inner callee (moved s)) _ (below callee b (moved s) g) (λ x t k. behind_called_keeps (span_at s.at) x t k))
 
     import_call_keeps : (start : Span) (s : State) → kind_at s.at ≡ kind.LParen → NothingLost b s → Answers (Kept b) (Lost b) (import_call inner cover start s)
     unfolding import_call
@@ -533,6 +388,13 @@ module _ (inner : Class → Reader Tree) (cover : Reader Cover) (below : (class 
     unfolding binary_from binary_turn
     binary_from_keeps least start x s f = loop_keeps (binary_turn inner cover least start) b
         (λ y u k. binary_by_keeps least start y (operator_at least u) u refl k) x s f
+
+    -- a private name and `in`
+    private_in_keeps : (s : State) → sees kind.HashIn s.at ≡ true → NothingLost b s → Answers (Kept b) (Lost b) (private_in inner cover s)
+    unfolding private_in
+    private_in_keeps s e f = answers_then _ _ (private_name s) _ (private_behind b s (behind_seen b s kind.HashIn e refl f)) (λ x t g.
+        answers_then _ _ (in_word t) _ (in_word_keeps b t g) (λ _ u k.
+        answers_then _ _ (inner (right_class binary.In) u) _ (below (right_class binary.In) b u k) (λ y v j. j)))
 
     -- ---- conditionals, assignments and sequences
 
@@ -617,7 +479,9 @@ module _ (inner : Class → Reader Tree) (cover : Reader Cover) (below : (class 
           (λ _. answers_if _ _ (sees kind.LBrace s.at) _ _ (λ e. answers_then _ _ (object inner cover function s) _ (object_keeps function below_function s (saw s.at kind.LBrace e) f) (λ v t g. close_keeps b t g v))
           (λ _. answers_if _ _ (sees kind.This s.at) _ _ (λ e. this_keeps b s f e)
           (λ _. answers_if _ _ (sees kind.Function s.at) _ _ (λ e. below_function.passes expression_form b s (function_begins s.at (saw s.at kind.Function e)) f)
-          (λ _. answers_if _ _ (sees kind.Class s.at) _ _ (λ e. below_function.passes class_form b s (saw s.at kind.Class e) f) (λ _. unexpected_keeps b s f _))))))
+          (λ _. answers_if _ _ (sees kind.Class s.at) _ _ (λ e. below_function.passes class_form b s (saw s.at kind.Class e) f)
+          (λ _. answers_if _ _ (sees kind.Regex s.at) _ _ (λ _. regex_keeps b s f)
+          (λ _. answers_if _ _ (begins_template s.at) _ _ (λ _. template_keeps b s f) (λ _. unexpected_keeps b s f _))))))))
 
       literal_or_keeps : (o : Option Tree) (s : State) → NothingLost b s → Answers (Kept b) (Lost b) (literal_or inner cover function o s)
       literal_or_keeps (Some x) s f = f
@@ -661,9 +525,14 @@ module _ (inner : Class → Reader Tree) (cover : Reader Cover) (below : (class 
       unfolding unary_expr
       unary_keeps s f = unary_by_keeps (unary_operator (kind_at s.at)) s refl f
 
+      first_operand_keeps : (least : ℕ) (s : State) → NothingLost b s → Answers (Kept b) (Lost b) (first_operand inner cover function least s)
+      unfolding first_operand
+      first_operand_keeps least s f = answers_if _ _ (nat_le least (precedence binary.In) && sees kind.HashIn s.at) _ _
+          (λ e. private_in_keeps s (and_parts (nat_le least (precedence binary.In)) (sees kind.HashIn s.at) e).1 f) (λ _. unary_keeps s f)
+
       binary_keeps : (least : ℕ) (s : State) → NothingLost b s → Answers (Kept b) (Lost b) (binary_expr inner cover function least s)
       unfolding binary_expr
-      binary_keeps least s f = answers_then _ _ (unary_expr inner cover function s) _ (unary_keeps s f) (λ x t g. binary_from_keeps least (span_at s.at) x t g)
+      binary_keeps least s f = answers_then _ _ (first_operand inner cover function least s) _ (first_operand_keeps least s f) (λ x t g. binary_from_keeps least (span_at s.at) x t g)
 
       operators_keeps : (s : State) → NothingLost b s → Answers (Kept b) (Lost b) (operators_expr inner cover function s)
       unfolding operators_expr

@@ -1,6 +1,6 @@
 -- The steps of expressions that read nothing further in say nowhere that something is too deep, and leave no more tokens.
 use Rattle.std.proofs.Common.{◌≡◌, ◌≢◌, ℕ, ◌≤◌, Bool, true, false, cond, List, [], ◌∷◌, Option, Some, None, Ok, Err, refl, sym, ◌∙◌, ap}
-use Rattle.std.specs.Prelude.{nat_eq, not, ◌&&◌, ◌||◌}
+use Rattle.std.specs.Prelude.{nat_eq, not, ◌&&◌, ◌||◌, codes}
 use Rattle.swc_ecma_parser_common.specs.declared.span.Span.{Span}
 use Rattle.swc_ecma_parser_error.specs.Kind as faults
 use Rattle.swc_ecma_parser_error.specs.Kind.{Kind, Fault, fault_of}
@@ -10,6 +10,7 @@ use Rattle.swc_ecma_parser_token.specs.declared.token.Token.{Token}
 use Rattle.swc_ecma_parser_token.specs.declared.token.Token.TheVariants as token
 use Rattle.swc_ecma_parser_token.specs.declared.token.TokenAndSpan.{TokenAndSpan}
 use Rattle.swc_ecma_parser_input.specs.TokenSource.{means_out_of_memory}
+use Rattle.swc_ecma_parser_input.specs.Place.{after}
 use Rattle.swc_ecma_parser_model.specs.declared.operators.UpdateOp.{UpdateOp}
 use Rattle.swc_ecma_parser_model.specs.declared.operators.BinaryOp.{BinaryOp}
 use Rattle.swc_ecma_parser_model.specs.declared.operators.AssignOp.{AssignOp}
@@ -20,16 +21,16 @@ use Rattle.swc_ecma_parser_model.specs.Forms.{is_simple_target, span_of}
 use Rattle.swc_ecma_parser_model.specs.Targets.{as_target, as_parameter}
 use Rattle.swc_ecma_parser_grammar.specs.Looks.{sees, span_at}
 use Rattle.swc_ecma_parser_grammar.specs.Names.{is_name, is_identifier, may_refer_to_await}
-use Rattle.swc_ecma_parser_grammar.specs.Follows.{continues_left_side}
+use Rattle.swc_ecma_parser_grammar.specs.Follows.{word_at, continues_left_side}
 use Rattle.swc_ecma_parser_grammar.specs.language.Operators.{groups_left, mixes, is_unary}
 use Rattle.swc_ecma_parser_grammar.specs.language.Continues.{continues_conditional}
 use Rattle.swc_ecma_parser_reader.specs.State.{State, Outcome, moved, wanted, reject, reject_in, reject_at, fault_at, fault, as_name, reference}
-use Rattle.swc_ecma_parser_reader.specs.Expressions.{Cover, unmarked, close, target_or, target, literal, literal_in, taken, any_word, word_in, word_by, touching_word, private_name, word_property, key_or, literal_key, shorthand_name, shorthand, dotted, ident_expr, this, closed_left, simple, update_behind, behind_operand, left_operand, unmixed, unassigned, unassignable, unheaded, heads_arrow}
+use Rattle.swc_ecma_parser_reader.specs.Expressions.{Cover, unmarked, close, target_or, target, literal, literal_in, taken, regex, regex_in, regex_or, text_in, text_or, template_text, is_cooked, new_target, in_word, any_word, word_in, word_by, touching_word, private_name, word_property, key_or, literal_key, shorthand_name, shorthand, dotted, ident_expr, this, closed_left, simple, update_behind, behind_operand, left_operand, unmixed, unassigned, unassignable, unheaded, heads_arrow}
 use Rattle.swc_ecma_parser_reader.specs.Jumps.{told}
 use Rattle.swc_ecma_parser_reader.specs.AsyncArrows.{Argument, closed_arguments, closed_argument, argument_pattern, argument_parameter, argument_parameters}
 use Rattle.swc_ecma_parser_reader.specs.Arrows.{Group, closed_parts, may_stand_alone, closed_group, parameter, parameter_or, parameters_of}
 use Rattle.swc_ecma_parser_reader.proofs.Meets.{Answers, answers_then, answers_if}
-use Rattle.swc_ecma_parser_reader.proofs.Shallow.{Fine, fine_more, fine_after, Shallow, Kept, Taken, error_shallow, fault_shallow, refused_shallow, wanted_shallow, reference_shallow, reference_takes}
+use Rattle.swc_ecma_parser_reader.proofs.Shallow.{Fine, fine_more, fine_after, fine_one, Shallow, Kept, Taken, error_shallow, fault_shallow, refused_shallow, wanted_shallow, reference_shallow, reference_takes}
 use Rattle.swc_ecma_parser_input.specs.declared.context.Context.{Context}
 
 -- ---- what is known of the first token
@@ -84,6 +85,33 @@ module _ {T : Fault → Type 0} where
     pub literal_shallow : Answers (Kept T m) (Shallow T) (literal s)
     unfolding literal
     literal_shallow = taken_shallow (literal_in s.at.left)
+
+    pub regex_shallow : Answers (Kept T m) (Shallow T) (regex s)
+    unfolding regex
+    regex_shallow = by_regex (regex_in s.at.left)
+      where
+        by_regex : (o : Option Tree) → Answers (Kept T m) (Shallow T) (regex_or o s)
+        by_regex None = unexpected_shallow _
+        by_regex (Some x) = fine_after m s.at f
+
+    -- the text of a template is taken
+    text_or_taken : (is_tagged : Bool) (ts : List TokenAndSpan) (o : Option Tree) → s.at.left ≡ ts → text_in ts ≡ o → Answers (Taken T m) (Shallow T) (text_or is_tagged o s)
+    text_or_taken is_tagged ts None e h = unexpected_shallow _
+    text_or_taken is_tagged [] (Some q) e h = cc
+    text_or_taken is_tagged (t ∷ ts) (Some q) e h = answers_if _ _ (is_tagged || is_cooked q) _ _ (λ _. fine_one m s.at t ts e f)
+        (λ _. reject_shallow _ faults.InvalidStrEscape (span_of q) (λ z. cc) m (moved s) (fine_after m s.at f))
+
+    pub text_taken : (is_tagged : Bool) → Answers (Taken T m) (Shallow T) (template_text is_tagged s)
+    unfolding template_text
+    text_taken is_tagged = text_or_taken is_tagged s.at.left (text_in s.at.left) refl refl
+
+    pub new_target_shallow : (start : Span) → Answers (Kept T m) (Shallow T) (new_target start s)
+    unfolding new_target
+    new_target_shallow start = answers_if _ _ (word_at (codes "target") s.at) _ _ (λ _. fine_after m s.at f) (λ _. unexpected_shallow _)
+
+    pub in_word_shallow : Answers (Kept T m) (Shallow T) (in_word s)
+    unfolding in_word
+    in_word_shallow = answers_if _ _ (sees kind.In s.at && s.code.flags.include_in_expr) _ _ (λ _. fine_after m s.at f) (λ _. unexpected_shallow _)
 
     pub word_by_shallow : (v : Token) (span : Span) → Answers (Kept T m) (Shallow T) (word_by s v span)
     word_by_shallow (token.Word w) span = fine_after m s.at f
@@ -223,9 +251,13 @@ module _ {T : Fault → Type 0} where
       by_key (Some (tree.big_int span raw)) t g = g
       by_key _ t g = wanted_shallow _ faults.ExpectedIdent (λ e. cc) m t g
 
-  pub private_shallow : (m : ℕ) (s : State) → Fine T m s.at.left → Answers (Kept T m) (Shallow T) (private_name s)
+  -- behind its `#`
+  pub private_behind : (m : ℕ) (s : State) → Fine T m (after s.at).left → Answers (Kept T m) (Shallow T) (private_name s)
   unfolding private_name
-  private_shallow m s f = answers_then _ _ (touching_word (moved s)) _ (touching_shallow m (moved s) (fine_after m s.at f)) (λ i t g. g)
+  private_behind m s f = answers_then _ _ (touching_word (moved s)) _ (touching_shallow m (moved s) f) (λ i t g. g)
+
+  pub private_shallow : (m : ℕ) (s : State) → Fine T m s.at.left → Answers (Kept T m) (Shallow T) (private_name s)
+  private_shallow m s f = private_behind m s (fine_after m s.at f)
 
   pub dotted_shallow : (m : ℕ) (s : State) → Fine T m s.at.left → Answers (Kept T m) (Shallow T) (dotted s)
   unfolding dotted word_property

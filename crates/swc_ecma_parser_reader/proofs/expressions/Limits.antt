@@ -1,9 +1,9 @@
 -- With twice as many levels as tokens no expression is too deep, but for what an error token says: each level below needs a token.
-use Rattle.swc_ecma_parser_reader.proofs.Words.{async_begins, function_begins, begins_function}
+use Rattle.swc_ecma_parser_reader.proofs.Words.{async_begins, function_begins, begins_function, or_later}
 use Rattle.swc_ecma_parser_grammar.specs.language.Begins.{begins_expression, awaits}
 use Rattle.swc_ecma_parser_grammar.specs.language.Contexts.{in_arrow, with_in}
 use Rattle.std.proofs.Common.{◌≡◌, ◌≢◌, ℕ, suc, ◌+◌, ◌*◌, ◌≤◌, Bool, true, false, cond, List, [], ◌∷◌, Option, Some, None, Ok, refl, sym, ◌∙◌, ap, arith}
-use Rattle.std.specs.Prelude.{not, ◌&&◌, ◌||◌, codes}
+use Rattle.std.specs.Prelude.{not, ◌&&◌, ◌||◌, codes, nat_le}
 use Rattle.std.proofs.lemmas.Bool.{and_parts}
 use Rattle.swc_ecma_parser_common.specs.declared.span.Span.{Span}
 use Rattle.swc_ecma_parser_error.specs.Kind as faults
@@ -11,22 +11,23 @@ use Rattle.swc_ecma_parser_error.specs.Kind.{Fault}
 use Rattle.swc_ecma_parser_token.specs.declared.kind.TokenKind.TheVariants as kind
 use Rattle.swc_ecma_parser_input.specs.Place.{after}
 use Rattle.swc_ecma_parser_model.specs.declared.operators.UnaryOp.{UnaryOp}
+use Rattle.swc_ecma_parser_model.specs.declared.operators.BinaryOp.TheVariants as binary
 use Rattle.swc_ecma_parser_model.specs.declared.operators.UpdateOp.{UpdateOp}
 use Rattle.swc_ecma_parser_model.specs.declared.operators.BinaryOp.{BinaryOp}
 use Rattle.swc_ecma_parser_model.specs.declared.operators.AssignOp.{AssignOp}
 use Rattle.swc_ecma_parser_model.specs.declared.operators.AssignOp.TheVariants as assign
 use Rattle.swc_ecma_parser_model.specs.Tree as tree
 use Rattle.swc_ecma_parser_model.specs.Tree.{Tree, listed}
-use Rattle.swc_ecma_parser_model.specs.Forms.{is_simple_target, span_of, has_plain_params}
+use Rattle.swc_ecma_parser_model.specs.Forms.{is_simple_target, span_of, has_plain_params, is_chain}
 use Rattle.swc_ecma_parser_grammar.specs.Looks.{kind_at, sees, span_at, breaks_at}
 use Rattle.swc_ecma_parser_grammar.specs.Names.{name_at, may_refer_to_await}
-use Rattle.swc_ecma_parser_grammar.specs.Follows.{word_at, is_async_function}
+use Rattle.swc_ecma_parser_grammar.specs.Follows.{word_at, is_async_function, begins_template}
 use Rattle.swc_ecma_parser_grammar.specs.Own.{misplaced_directive}
 use Rattle.swc_ecma_parser_grammar.specs.language.Goals.{Class, expression, assignment, operator, unary, left_side, callee}
-use Rattle.swc_ecma_parser_grammar.specs.language.Operators.{unary_operator, update_operator, binary_operator, assign_operator}
-use Rattle.swc_ecma_parser_reader.specs.State.{State, Reader, and_then, ◌>>=◌, moved, noted, module_found, coded, within, enclosed, unlabelled, fault_at, fault, expect, loop, as_name}
+use Rattle.swc_ecma_parser_grammar.specs.language.Operators.{unary_operator, update_operator, binary_operator, assign_operator, precedence}
+use Rattle.swc_ecma_parser_reader.specs.State.{State, Reader, and_then, ◌>>=◌, moved, noted, module_found, coded, within, enclosed, unlabelled, fault_at, fault, expect, loop, as_name, Done, More}
 use Rattle.swc_ecma_parser_reader.specs.Methods.{MethodForm, FunctionForm, expression_form, class_form, property_form, parameter_form, block_form, modifies, begins_async_method, star, starred, method_words, is_bare}
-use Rattle.swc_ecma_parser_reader.specs.Expressions.{Cover, no_covers, close, target, goes_on, literal, any_word, word_property, is_word_at, shorthand, ident_expr, bare_new, simple, behind_operand, postfix_at, right_class, read_operator, operator_at, left_operand, unmixed, unassigned, unassignable, begins_async_call, inside, brackets, access, spread_element, plain_element, element, arguments_turn, arguments, covered, spread_item, plain_item, item, array_turn, elements, array, computed_key, key, key_value, initialized, initialized_name, initialized_key, bare_key, behind_key, method, behind_words, keyed_property, spread_property, property, object_turn, properties, object, paren, marked_primary, literal_or, primary, accessed, called, left_turn, left_from, super_call, super_property, super_access, behind_super, super_head, constructed, new_head, import_call, meta_fault, import_meta, import_head, left_head, left, left_expr, prefixed, update_before, await_expr, postfix, updated, unary_by, unary_expr, operated, binary_by, binary_turn, binary_from, binary_expr, conditional, assigned_to, assigned, assigned_or, behind_operators, operators_expr, plain_expr, postfixed, continued, closed, assigned_pattern, behind_literal, open_literal, done_expr, cover_expr, assignment_expr, sequence_turn, sequence_from, expression_expr, expr_level, named_expr, filled_paren, empty_paren}
+use Rattle.swc_ecma_parser_reader.specs.Expressions.{Cover, Pieces, template_text, is_tail, first_piece, template_turn, template_from, template_pieces, template, tagged, tagged_by, named_link, behind_question, chained, behind_called, new_called, new_target, private_name, in_word, private_in, first_operand, dotted, no_covers, close, target, goes_on, literal, any_word, word_property, is_word_at, shorthand, ident_expr, bare_new, simple, behind_operand, postfix_at, right_class, read_operator, operator_at, left_operand, unmixed, unassigned, unassignable, begins_async_call, inside, brackets, access, spread_element, plain_element, element, arguments_turn, arguments, covered, spread_item, plain_item, item, array_turn, elements, array, computed_key, key, key_value, initialized, initialized_name, initialized_key, bare_key, behind_key, method, behind_words, keyed_property, spread_property, property, object_turn, properties, object, paren, marked_primary, literal_or, primary, accessed, called, left_turn, left_from, super_call, super_property, super_access, behind_super, super_head, constructed, new_head, import_call, meta_fault, import_meta, import_head, left_head, left, left_expr, prefixed, update_before, await_expr, postfix, updated, unary_by, unary_expr, operated, binary_by, binary_turn, binary_from, binary_expr, conditional, assigned_to, assigned, assigned_or, behind_operators, operators_expr, plain_expr, postfixed, continued, closed, assigned_pattern, behind_literal, open_literal, done_expr, cover_expr, assignment_expr, sequence_turn, sequence_from, expression_expr, expr_level, named_expr, filled_paren, empty_paren}
 use Rattle.swc_ecma_parser_reader.specs.Jumps.{told}
 use Rattle.swc_ecma_parser_reader.specs.AsyncArrows.{Argument, closed_arguments, argument_parameters, async_called, spread_argument, plain_argument, argument, either_turn, either_arguments, begins_async_arrow, async_named_arrow, behind_async, async_grouped}
 use Rattle.swc_ecma_parser_reader.specs.Arrows.{begins_named_arrow, Group, closed_group, parameters_of, arrow_body, arrow_from, named_arrow, rest_part, part_turn, group_parts, group, behind_group, grouped}
@@ -36,7 +37,7 @@ use Rattle.swc_ecma_parser_reader.proofs.Meets.{Answers, answers_then, answers_i
 use Rattle.swc_ecma_parser_grammar.proofs.ExpressionBegins.{await_stands}
 use Rattle.swc_ecma_parser_reader.proofs.expressions.Awaits.{await_fault, await_either}
 use Rattle.swc_ecma_parser_reader.proofs.Shallow.{Fine, fine_more, fine_after, fine_taken, Shallow, Kept, Taken, fault_shallow, refuse_shallow, expect_shallow, Levels}
-use Rattle.swc_ecma_parser_reader.proofs.expressions.LimitSteps.{other_test, no_end_by, kept_more, reject_shallow, unassignable_shallow, unexpected_shallow, literal_shallow, any_word_shallow, ident_shallow, ident_taken, this_shallow, simple_shallow, closed_shallow, unmixed_shallow, unassigned_shallow, unheaded_shallow, shorthand_shallow, left_operand_shallow, close_shallow, target_shallow, told_shallow, closed_group_shallow, parameters_of_shallow, closed_arguments_shallow, argument_parameters_shallow, literal_key_shallow, dotted_shallow, behind_operand_shallow, as_name_shallow}
+use Rattle.swc_ecma_parser_reader.proofs.expressions.LimitSteps.{regex_shallow, text_taken, new_target_shallow, in_word_shallow, private_behind, other_test, no_end_by, kept_more, reject_shallow, unassignable_shallow, unexpected_shallow, literal_shallow, any_word_shallow, ident_shallow, ident_taken, this_shallow, simple_shallow, closed_shallow, unmixed_shallow, unassigned_shallow, unheaded_shallow, shorthand_shallow, left_operand_shallow, close_shallow, target_shallow, told_shallow, closed_group_shallow, parameters_of_shallow, closed_arguments_shallow, argument_parameters_shallow, literal_key_shallow, dotted_shallow, behind_operand_shallow, as_name_shallow}
 
 -- ---- functions, and the words before the key of a method
 
@@ -121,6 +122,24 @@ module _ {T : Fault → Type 0} where
         answers_then _ _ (argument inner cover t) _ (argument_shallow i t h g) (λ a u k.
         answers_if _ _ (sees kind.RParen u.at) _ _ (λ _. k) (λ _. answers_then _ _ (expect kind.Comma u) _ (expect_shallow i u k kind.Comma) (λ _ w j. j)))))
         (λ t e. cc) [] (moved s) (fine_after i s.at f)
+
+    -- ---- templates
+
+    piece_shallow : (i : ℕ) (b : Bool) (is_tagged : Bool) (x y : Pieces) (s : State) → Fine T i s.at.left → Turned (template_turn inner cover is_tagged) (Kept T i) (Kept T i) (Shallow T) (cond b (Done x) (More y)) s
+    piece_shallow i true is_tagged x y s f = f
+    piece_shallow i false is_tagged x y s f = f
+
+    many_pieces_shallow : (is_tagged : Bool) (found : Pieces) (i : ℕ) (s : State) → 2 * i ≤ n → Fine T i s.at.left → Answers (Kept T i) (Shallow T) (loop (template_turn inner cover is_tagged) found s)
+    unfolding template_turn
+    many_pieces_shallow is_tagged found i s h f = loop_answers (template_turn inner cover is_tagged) (Kept T i) (Kept T i) (Shallow T)
+        (λ ps t g. answers_then _ _ (inside inner cover expression t) _ (inside_shallow expression i t h g) (λ e u k.
+        answers_if _ _ (sees kind.TemplateMiddle u.at || sees kind.TemplateTail u.at) _ _
+        (λ _. answers_then _ _ (template_text is_tagged u) _ (text_taken i u k is_tagged) (λ q v (j, o, l). piece_shallow i (is_tail q) is_tagged _ _ v (fine_more j i v.at.left (omega arith) l)))
+        (λ _. refuse_shallow _ faults.Expected (λ z. cc) i u k))) (λ t e. cc) found s f
+
+    template_from_shallow : (is_tagged : Bool) (q : Tree) (b : Bool) (i : ℕ) (s : State) → is_tail q ≡ b → 2 * i ≤ n → Fine T i s.at.left → Answers (Kept T i) (Shallow T) (template_from inner cover is_tagged q s)
+    template_from_shallow is_tagged q true i s e h f = rw e f
+    template_from_shallow is_tagged q false i s e h f = rw e (many_pieces_shallow is_tagged (first_piece q) i s h f)
 
     -- ---- properties
 
@@ -261,6 +280,17 @@ module _ {T : Fault → Type 0} where
           (λ _. answers_then _ _ (inside inner cover expression (moved s)) _ (inside_shallow expression i (moved s) (omega arith) g) (λ x t k.
           answers_then _ _ (expect kind.RParen t) _ (expect_shallow i t k kind.RParen) (λ _ u j. fine_more i m u.at.left (omega arith) j)))
 
+      -- ---- templates
+
+      pieces_shallow : (is_tagged : Bool) (s : State) → Fine T m s.at.left → Answers (Kept T m) (Shallow T) (template_pieces inner cover is_tagged s)
+      unfolding template_pieces
+      pieces_shallow is_tagged s f = answers_then _ _ (template_text is_tagged s) _ (text_taken m s f is_tagged) (λ q t (i, e, g).
+          kept_more T i m (template_from inner cover is_tagged q t) (omega arith) (template_from_shallow is_tagged q (is_tail q) i t refl (omega arith) g))
+
+      template_shallow : (s : State) → Fine T m s.at.left → Answers (Kept T m) (Shallow T) (template inner cover s)
+      unfolding template
+      template_shallow s f = answers_then _ _ (template_pieces inner cover false s) _ (pieces_shallow false s f) (λ found t g. g)
+
       -- ---- left-hand sides
 
       pub accessed_shallow : (start : Span) (x : Tree) (s : State) → (sees kind.Dot s.at || sees kind.LBracket s.at) ≡ true → Fine T m s.at.left → Answers (Kept T m) (Shallow T) (accessed inner cover start x s)
@@ -271,13 +301,30 @@ module _ {T : Fault → Type 0} where
       unfolding called
       called_shallow start x s e f = answers_then _ _ (arguments inner cover true s) _ (arguments_shallow true s e f) (λ xs t g. g)
 
+      pub tagged_shallow : (start : Span) (x : Tree) (s : State) → Fine T m s.at.left → Answers (Kept T m) (Shallow T) (tagged inner cover start x s)
+      unfolding tagged tagged_by
+      tagged_shallow start x s f = answers_if _ _ (is_chain x) _ _ (λ _. unexpected_shallow m s f _)
+          (λ _. answers_then _ _ (template_pieces inner cover true s) _ (pieces_shallow true s f) (λ found t g. g))
+
+      behind_question_shallow : (start : Span) (x : Tree) (s : State) → Fine T m s.at.left → Answers (Kept T m) (Shallow T) (behind_question inner cover start x s)
+      unfolding behind_question named_link
+      behind_question_shallow start x s f = answers_if _ _ (sees kind.LParen s.at) _ _ (λ e. called_shallow start x s (saw s.at kind.LParen e) f)
+          (λ _. answers_if _ _ (sees kind.LBracket s.at) _ _ (λ e. accessed_shallow start x s (or_later (sees kind.Dot s.at) (sees kind.LBracket s.at) e) f)
+          (λ _. answers_then _ _ (dotted s) _ (dotted_shallow m s f) (λ p t g. g)))
+
+      pub chained_shallow : (start : Span) (x : Tree) (s : State) → Fine T m s.at.left → Answers (Kept T m) (Shallow T) (chained inner cover start x s)
+      unfolding chained
+      chained_shallow start x s f = answers_then _ _ (behind_question inner cover start x (moved s)) _ (behind_question_shallow start x (moved s) (fine_after m s.at f)) (λ y t g. g)
+
       left_from_shallow : (calls : Bool) (start : Span) (x : Tree) (s : State) → Fine T m s.at.left → Answers (Kept T m) (Shallow T) (left_from inner cover calls start x s)
       unfolding left_from left_turn
       left_from_shallow calls start x s f = loop_answers (left_turn inner cover calls start) (Kept T m) (Kept T m) (Shallow T)
           (λ y t g. answers_if _ _ (sees kind.Dot t.at || sees kind.LBracket t.at) _ _
           (λ h. answers_then _ _ (accessed inner cover start y t) _ (accessed_shallow start y t h g) (λ z u k. k))
           (λ _. answers_if _ _ (calls && sees kind.LParen t.at) _ _
-          (λ h. answers_then _ _ (called inner cover start y t) _ (called_shallow start y t (saw t.at kind.LParen (and_parts calls (sees kind.LParen t.at) h).1) g) (λ z u k. k)) (λ _. g)))
+          (λ h. answers_then _ _ (called inner cover start y t) _ (called_shallow start y t (saw t.at kind.LParen (and_parts calls (sees kind.LParen t.at) h).1) g) (λ z u k. k))
+          (λ _. answers_if _ _ (begins_template t.at) _ _ (λ _. answers_then _ _ (tagged inner cover start y t) _ (tagged_shallow start y t g) (λ z u k. k))
+          (λ _. answers_if _ _ (calls && sees kind.QuestionDot t.at) _ _ (λ _. answers_then _ _ (chained inner cover start y t) _ (chained_shallow start y t g) (λ z u k. k)) (λ _. g)))))
           (λ t e. cc) x s f
 
       behind_super_shallow : (calls : Bool) (start : Span) (s : State) → Fine T m s.at.left → Answers (Kept T m) (Shallow T) (behind_super inner cover calls start s)
@@ -295,13 +342,18 @@ module _ {T : Fault → Type 0} where
       unfolding constructed
       constructed_shallow start x s e f = answers_then _ _ (arguments inner cover true s) _ (arguments_shallow true s e f) (λ xs t g. g)
 
+      behind_called_shallow : (start : Span) (x : Tree) (s : State) → Fine T m s.at.left → Answers (Kept T m) (Shallow T) (behind_called inner cover start x s)
+      unfolding behind_called bare_new
+      behind_called_shallow start x s f = answers_if _ _ (sees kind.LParen s.at) _ _ (λ e. constructed_shallow start x s (saw s.at kind.LParen e) f)
+          (λ _. answers_if _ _ (sees kind.QuestionDot s.at) _ _ (λ _. unexpected_shallow m s f _) (λ _. f))
+
       new_shallow : (s : State) → kind_at s.at ≡ kind.New → Fine T m s.at.left → Answers (Kept T m) (Shallow T) (new_head inner cover s)
-      unfolding new_head bare_new
+      unfolding new_head new_called
       new_shallow s e f =
           let (i, h, g) = fine_taken m s.at kind.New e (λ z. cc) f in
-          answers_then _ _ (inner callee (moved s)) _ (below callee i (moved s) (omega arith) g) (λ x t k.
-          let j : Fine T m t.at.left = fine_more i m t.at.left (omega arith) k in
-          answers_if _ _ (sees kind.LParen t.at) _ _ (λ o. constructed_shallow (span_at s.at) x t (saw t.at kind.LParen o) j) (λ _. j))
+          answers_if _ _ (sees kind.NewDot (after s.at)) _ _
+          (λ _. new_target_shallow m (moved (moved s)) (fine_after m (after s.at) (fine_more i m (after s.at).left (omega arith) g)) (span_at s.at))
+          (λ _. answers_then _ _ (inner callee (moved s)) _ (below callee i (moved s) (omega arith) g) (λ x t k. behind_called_shallow (span_at s.at) x t (fine_more i m t.at.left (omega arith) k)))
 
       import_call_shallow : (start : Span) (s : State) → kind_at s.at ≡ kind.LParen → Fine T m s.at.left → Answers (Kept T m) (Shallow T) (import_call inner cover start s)
       unfolding import_call
@@ -374,6 +426,15 @@ module _ {T : Fault → Type 0} where
       unfolding binary_from binary_turn
       binary_from_shallow least start x s f = loop_answers (binary_turn inner cover least start) (Kept T m) (Kept T m) (Shallow T)
           (λ y u k. binary_by_shallow least start y (operator_at least u) u refl k) (λ u e. cc) x s f
+
+      -- a private name and `in`
+      private_in_shallow : (s : State) → kind_at s.at ≡ kind.HashIn → Fine T m s.at.left → Answers (Kept T m) (Shallow T) (private_in inner cover s)
+      unfolding private_in
+      private_in_shallow s e f =
+          let (i, h, g) = fine_taken m s.at kind.HashIn e (λ z. cc) f in
+          answers_then _ _ (private_name s) _ (private_behind i s g) (λ x t k.
+          answers_then _ _ (in_word t) _ (in_word_shallow i t k) (λ _ u j.
+          answers_then _ _ (inner (right_class binary.In) u) _ (below (right_class binary.In) i u (omega arith) j) (λ y v l. fine_more i m v.at.left (omega arith) l)))
 
       -- ---- conditionals, assignments and sequences
 
@@ -462,7 +523,9 @@ module _ {T : Fault → Type 0} where
             (λ _. answers_if _ _ (sees kind.LBrace s.at) _ _ (λ e. answers_then _ _ (object inner cover function s) _ (object_shallow function below_function s (saw s.at kind.LBrace e) f) (λ v t g. close_shallow m t g v))
             (λ _. answers_if _ _ (sees kind.This s.at) _ _ (λ _. this_shallow m s f)
             (λ _. answers_if _ _ (sees kind.Function s.at) _ _ (λ e. below_function.expressions m s enough (function_begins s.at (saw s.at kind.Function e)) f)
-            (λ _. answers_if _ _ (sees kind.Class s.at) _ _ (λ e. below_function.classes m s enough (saw s.at kind.Class e) f) (λ _. unexpected_shallow m s f _))))))
+            (λ _. answers_if _ _ (sees kind.Class s.at) _ _ (λ e. below_function.classes m s enough (saw s.at kind.Class e) f)
+            (λ _. answers_if _ _ (sees kind.Regex s.at) _ _ (λ _. regex_shallow m s f)
+            (λ _. answers_if _ _ (begins_template s.at) _ _ (λ _. template_shallow s f) (λ _. unexpected_shallow m s f _))))))))
 
         literal_or_shallow : (o : Option Tree) (s : State) → Fine T m s.at.left → Answers (Kept T m) (Shallow T) (literal_or inner cover function o s)
         literal_or_shallow (Some x) s f = f
@@ -506,9 +569,14 @@ module _ {T : Fault → Type 0} where
         unfolding unary_expr
         unary_shallow s f = unary_by_shallow (unary_operator (kind_at s.at)) s refl f
 
+        first_operand_shallow : (least : ℕ) (s : State) → Fine T m s.at.left → Answers (Kept T m) (Shallow T) (first_operand inner cover function least s)
+        unfolding first_operand
+        first_operand_shallow least s f = answers_if _ _ (nat_le least (precedence binary.In) && sees kind.HashIn s.at) _ _
+            (λ e. private_in_shallow s (saw s.at kind.HashIn (and_parts (nat_le least (precedence binary.In)) (sees kind.HashIn s.at) e).1) f) (λ _. unary_shallow s f)
+
         binary_shallow : (least : ℕ) (s : State) → Fine T m s.at.left → Answers (Kept T m) (Shallow T) (binary_expr inner cover function least s)
         unfolding binary_expr
-        binary_shallow least s f = answers_then _ _ (unary_expr inner cover function s) _ (unary_shallow s f) (λ x t g. binary_from_shallow least (span_at s.at) x t g)
+        binary_shallow least s f = answers_then _ _ (first_operand inner cover function least s) _ (first_operand_shallow least s f) (λ x t g. binary_from_shallow least (span_at s.at) x t g)
 
         operators_shallow : (s : State) → Fine T m s.at.left → Answers (Kept T m) (Shallow T) (operators_expr inner cover function s)
         unfolding operators_expr

@@ -11,18 +11,20 @@ use Rattle.swc_ecma_parser_model.specs.declared.operators.BinaryOp.{BinaryOp}
 use Rattle.swc_ecma_parser_model.specs.Tree as tree
 use Rattle.swc_ecma_parser_model.specs.Tree.{Tree}
 use Rattle.swc_ecma_parser_grammar.specs.Looks.{sees}
-use Rattle.swc_ecma_parser_grammar.specs.language.Goals.{Class}
+use Rattle.swc_ecma_parser_grammar.specs.language.Goals.{Class, expression}
+use Rattle.swc_ecma_parser_grammar.specs.Follows.{begins_template}
 use Rattle.swc_ecma_parser_reader.proofs.Falls.{expr_falls, cover_falls, functions_fall}
 use Rattle.swc_ecma_parser_reader.specs.Reader.{right_operand, expr, cover, head_cover, head_behind, function}
 use Rattle.swc_ecma_parser_reader.specs.Arrows.{Parts, ended, rest_part, part_turn}
 use Rattle.swc_ecma_parser_reader.specs.AsyncArrows.{Argument, followed, argument, either_turn}
 use Rattle.swc_ecma_parser_reader.specs.Heads.{head_expr, head_behind_async}
-use Rattle.swc_ecma_parser_reader.specs.State.{State, Outcome, Reader, moved, too_deep, fault, fault_at, expect, loop}
-use Rattle.swc_ecma_parser_reader.specs.Expressions.{Cover, Covers, with_cover, with_comma, done, element, behind_comma, arguments_turn, covered, item, array_turn, property, object_turn, accessed, called, left_turn, operator_at, operated, binary_turn, cover_expr, assignment_expr, sequence_turn, expr_level}
+use Rattle.swc_ecma_parser_reader.specs.State.{State, Outcome, Reader, moved, too_deep, fault, fault_at, expect, refuse, Step, loop}
+use Rattle.swc_ecma_parser_reader.specs.Expressions.{Cover, Covers, with_cover, with_comma, done, element, behind_comma, arguments_turn, covered, item, array_turn, property, object_turn, accessed, called, tagged, chained, linked, is_tail, with_piece, template_text, inside, template_turn, Pieces, left_turn, operator_at, operated, binary_turn, cover_expr, assignment_expr, sequence_turn, expr_level}
 use Rattle.swc_ecma_parser_reader.proofs.Steps.{loop_more, loop_done, loop_err}
-use Rattle.swc_ecma_parser_reader.proofs.Takes.{Falls, moves, takes, fault_falls, expect_falls}
-use Rattle.swc_ecma_parser_reader.proofs.expressions.Falls.{element_falls, covered_falls, item_falls, argument_falls, property_falls, accessed_falls, called_falls, operated_falls, assignment_falls}
+use Rattle.swc_ecma_parser_reader.proofs.Takes.{Falls, less, moves, takes, fault_falls, expect_falls}
+use Rattle.swc_ecma_parser_reader.proofs.expressions.Falls.{element_falls, covered_falls, item_falls, argument_falls, property_falls, accessed_falls, called_falls, tagged_falls, chained_falls, operated_falls, assignment_falls, inside_falls}
 use Rattle.swc_ecma_parser_reader.proofs.Meets.{saw}
+use Rattle.swc_ecma_parser_reader.proofs.expressions.FallsTemplates.{text_falls}
 
 -- ---- what takes a token leaves fewer
 
@@ -254,7 +256,7 @@ module _ (n : ℕ) (found : List Argument) (s : State) where
   unfolding either_turn
   either_comma_err a t e h g i k = loop_err (either_turn (expr n) (cover n)) found s e (rw (h, g, i, k) refl)
 
--- ---- left-hand sides: an access, arguments where calls are read, or neither
+-- ---- left-hand sides: an access, a template, arguments and links of chains where calls are read, or none of them
 
 module _ (n : ℕ) (start : Span) (x : Tree) (s : State) (y : Tree) (t : State) where
   pub accessed_shorter : accessed (expr n) (cover n) start x s ≡ Ok (y, t) → length t.at.left < length s.at.left
@@ -263,29 +265,91 @@ module _ (n : ℕ) (start : Span) (x : Tree) (s : State) (y : Tree) (t : State) 
   pub called_shorter : sees kind.LParen s.at ≡ true → called (expr n) (cover n) start x s ≡ Ok (y, t) → length t.at.left < length s.at.left
   called_shorter h e = shorter_by (length s.at.left) (called (expr n) (cover n) start x s) y t e (called_falls (expr n) (cover n) (expr_falls n) (cover_falls n) start x s (λ g. let k = sym g ∙ saw s.at kind.LParen h in cc))
 
+  pub tagged_shorter : tagged (expr n) (cover n) start x s ≡ Ok (y, t) → length t.at.left < length s.at.left
+  tagged_shorter e = shorter_by (length s.at.left) (tagged (expr n) (cover n) start x s) y t e (tagged_falls (expr n) (cover n) (expr_falls n) (cover_falls n) start x s)
+
+  pub chained_shorter : sees kind.QuestionDot s.at ≡ true → chained (expr n) (cover n) start x s ≡ Ok (y, t) → length t.at.left < length s.at.left
+  chained_shorter h e = shorter_by (length s.at.left) (chained (expr n) (cover n) start x s) y t e
+      (chained_falls (expr n) (cover n) (expr_falls n) (cover_falls n) start x s (λ g. let k = sym g ∙ saw s.at kind.QuestionDot h in cc))
+
 module _ (n : ℕ) (calls : Bool) (start : Span) (x : Tree) (s : State) where
-  pub left_done : (sees kind.Dot s.at || sees kind.LBracket s.at) ≡ false → (calls && sees kind.LParen s.at) ≡ false → loop (left_turn (expr n) (cover n) calls start) x s ≡ Ok (x, s)
+  pub left_done : (sees kind.Dot s.at || sees kind.LBracket s.at) ≡ false → (calls && sees kind.LParen s.at) ≡ false → begins_template s.at ≡ false → (calls && sees kind.QuestionDot s.at) ≡ false
+      → loop (left_turn (expr n) (cover n) calls start) x s ≡ Ok (x, s)
   unfolding left_turn
-  left_done h g = loop_done (left_turn (expr n) (cover n) calls start) x x s s (rw (h, g) refl)
+  left_done h g i k = loop_done (left_turn (expr n) (cover n) calls start) x x s s (rw (h, g, i, k) refl)
 
   pub left_accessed : (y : Tree) (t : State) → (sees kind.Dot s.at || sees kind.LBracket s.at) ≡ true → accessed (expr n) (cover n) start x s ≡ Ok (y, t)
-      → loop (left_turn (expr n) (cover n) calls start) x s ≡ loop (left_turn (expr n) (cover n) calls start) y t
+      → loop (left_turn (expr n) (cover n) calls start) x s ≡ loop (left_turn (expr n) (cover n) calls start) (linked x y) t
   unfolding left_turn
-  left_accessed y t h e = loop_more (left_turn (expr n) (cover n) calls start) x y s t (rw (h, e) refl) (accessed_shorter n start x s y t e)
+  left_accessed y t h e = loop_more (left_turn (expr n) (cover n) calls start) x (linked x y) s t (rw (h, e) refl) (accessed_shorter n start x s y t e)
 
   pub left_access_err : (e : Fault × State) → (sees kind.Dot s.at || sees kind.LBracket s.at) ≡ true → accessed (expr n) (cover n) start x s ≡ Err e → loop (left_turn (expr n) (cover n) calls start) x s ≡ Err e
   unfolding left_turn
   left_access_err e h g = loop_err (left_turn (expr n) (cover n) calls start) x s e (rw (h, g) refl)
 
   pub left_called : (y : Tree) (t : State) → (sees kind.Dot s.at || sees kind.LBracket s.at) ≡ false → (calls && sees kind.LParen s.at) ≡ true → called (expr n) (cover n) start x s ≡ Ok (y, t)
-      → loop (left_turn (expr n) (cover n) calls start) x s ≡ loop (left_turn (expr n) (cover n) calls start) y t
+      → loop (left_turn (expr n) (cover n) calls start) x s ≡ loop (left_turn (expr n) (cover n) calls start) (linked x y) t
   unfolding left_turn
-  left_called y t h g e = loop_more (left_turn (expr n) (cover n) calls start) x y s t (rw (h, g, e) refl) (called_shorter n start x s y t (and_parts calls (sees kind.LParen s.at) g).1 e)
+  left_called y t h g e = loop_more (left_turn (expr n) (cover n) calls start) x (linked x y) s t (rw (h, g, e) refl) (called_shorter n start x s y t (and_parts calls (sees kind.LParen s.at) g).1 e)
 
   pub left_call_err : (e : Fault × State) → (sees kind.Dot s.at || sees kind.LBracket s.at) ≡ false → (calls && sees kind.LParen s.at) ≡ true → called (expr n) (cover n) start x s ≡ Err e
       → loop (left_turn (expr n) (cover n) calls start) x s ≡ Err e
   unfolding left_turn
   left_call_err e h g k = loop_err (left_turn (expr n) (cover n) calls start) x s e (rw (h, g, k) refl)
+
+  -- neither an access nor arguments
+  module _ (no_access : (sees kind.Dot s.at || sees kind.LBracket s.at) ≡ false) (no_call : (calls && sees kind.LParen s.at) ≡ false) where
+    pub left_tagged : (y : Tree) (t : State) → begins_template s.at ≡ true → tagged (expr n) (cover n) start x s ≡ Ok (y, t)
+        → loop (left_turn (expr n) (cover n) calls start) x s ≡ loop (left_turn (expr n) (cover n) calls start) y t
+    unfolding left_turn
+    left_tagged y t h e = loop_more (left_turn (expr n) (cover n) calls start) x y s t (rw (no_access, no_call, h, e) refl) (tagged_shorter n start x s y t e)
+
+    pub left_tag_err : (e : Fault × State) → begins_template s.at ≡ true → tagged (expr n) (cover n) start x s ≡ Err e → loop (left_turn (expr n) (cover n) calls start) x s ≡ Err e
+    unfolding left_turn
+    left_tag_err e h g = loop_err (left_turn (expr n) (cover n) calls start) x s e (rw (no_access, no_call, h, g) refl)
+
+    module _ (no_template : begins_template s.at ≡ false) (link : (calls && sees kind.QuestionDot s.at) ≡ true) where
+      pub left_chained : (y : Tree) (t : State) → chained (expr n) (cover n) start x s ≡ Ok (y, t)
+          → loop (left_turn (expr n) (cover n) calls start) x s ≡ loop (left_turn (expr n) (cover n) calls start) y t
+      unfolding left_turn
+      left_chained y t e = loop_more (left_turn (expr n) (cover n) calls start) x y s t (rw (no_access, no_call, no_template, link, e) refl)
+          (chained_shorter n start x s y t (and_parts calls (sees kind.QuestionDot s.at) link).1 e)
+
+      pub left_chain_err : (e : Fault × State) → chained (expr n) (cover n) start x s ≡ Err e → loop (left_turn (expr n) (cover n) calls start) x s ≡ Err e
+      unfolding left_turn
+      left_chain_err e g = loop_err (left_turn (expr n) (cover n) calls start) x s e (rw (no_access, no_call, no_template, link, g) refl)
+
+-- ---- templates: an expression, and the text behind it, which may be the last
+
+module _ (n : ℕ) (is_tagged : Bool) (found : Pieces) (s : State) where
+  pub pieces_err : (e : Fault × State) → inside (expr n) (cover n) expression s ≡ Err e → loop (template_turn (expr n) (cover n) is_tagged) found s ≡ Err e
+  unfolding template_turn
+  pieces_err e h = loop_err (template_turn (expr n) (cover n) is_tagged) found s e (rw h refl)
+
+  module _ (x : Tree) (t : State) (found_expression : inside (expr n) (cover n) expression s ≡ Ok (x, t)) where
+    pub pieces_refused : (e : Fault × State) → (sees kind.TemplateMiddle t.at || sees kind.TemplateTail t.at) ≡ false → refuse {A = Step Pieces Pieces} faults.Expected t ≡ Err e
+        → loop (template_turn (expr n) (cover n) is_tagged) found s ≡ Err e
+    unfolding template_turn
+    pieces_refused e h g = loop_err (template_turn (expr n) (cover n) is_tagged) found s e (rw (found_expression, h, g) refl)
+
+    module _ (a_text : (sees kind.TemplateMiddle t.at || sees kind.TemplateTail t.at) ≡ true) where
+      pub pieces_text_err : (e : Fault × State) → template_text is_tagged t ≡ Err e → loop (template_turn (expr n) (cover n) is_tagged) found s ≡ Err e
+      unfolding template_turn
+      pieces_text_err e g = loop_err (template_turn (expr n) (cover n) is_tagged) found s e (rw (found_expression, a_text, g) refl)
+
+      module _ (q : Tree) (u : State) (found_text : template_text is_tagged t ≡ Ok (q, u)) where
+        pub pieces_done : is_tail q ≡ true → loop (template_turn (expr n) (cover n) is_tagged) found s ≡ Ok (with_piece found x q, u)
+        unfolding template_turn
+        pieces_done g = loop_done (template_turn (expr n) (cover n) is_tagged) found (with_piece found x q) s u (rw (found_expression, a_text, found_text, g) refl)
+
+        piece_shorter : length u.at.left < length s.at.left
+        piece_shorter = kept_by (length s.at.left) (length t.at.left) (template_text is_tagged t) q u found_text (less (length t.at.left) (template_text is_tagged t) (text_falls is_tagged t))
+            (shorter_by (length s.at.left) (inside (expr n) (cover n) expression s) x t found_expression (inside_falls (expr n) (cover n) (expr_falls n) (cover_falls n) expression s))
+
+        pub pieces_more : is_tail q ≡ false
+            → loop (template_turn (expr n) (cover n) is_tagged) found s ≡ loop (template_turn (expr n) (cover n) is_tagged) (with_piece found x q) u
+        unfolding template_turn
+        pieces_more g = loop_more (template_turn (expr n) (cover n) is_tagged) found (with_piece found x q) s u (rw (found_expression, a_text, found_text, g) refl) piece_shorter
 
 -- ---- operators that bind at least so tightly
 

@@ -17,11 +17,12 @@ use Rattle.swc_ecma_parser_reader.specs.State.{State, Reader, moved, name, refer
 use Rattle.swc_ecma_parser_reader.specs.Methods.{FunctionForm}
 use Rattle.swc_ecma_parser_reader.specs.Yields.{begins_yield}
 use Rattle.swc_ecma_parser_reader.specs.Arrows.{begins_named_arrow}
-use Rattle.swc_ecma_parser_reader.specs.Expressions.{Cover, begins_async_call, heads_arrow, operator_at, unheaded, ident_expr, named_expr, primary, left_turn, left_from, left_head, left, postfix, unary_expr, binary_turn, binary_from, binary_expr, behind_operators, operators_expr}
+use Rattle.swc_ecma_parser_reader.specs.Expressions.{first_operand, Cover, begins_async_call, heads_arrow, operator_at, unheaded, ident_expr, named_expr, primary, left_turn, left_from, left_head, left, postfix, unary_expr, binary_turn, binary_from, binary_expr, behind_operators, operators_expr}
 use Rattle.swc_ecma_parser_reader.proofs.Steps.{loop_done}
 use Rattle.swc_ecma_parser_reader.proofs.Meets.{Meets, wanted_meets, saw, meets_then, meets_if}
 use Rattle.swc_ecma_parser_reader.proofs.expressions.Covers.{met}
-use Rattle.swc_ecma_parser_reader.proofs.expressions.CompleteKinds.{seen, named_first, no_async_function, primary_seen, primary_operand, operand_plain, operand_update, quiet_stops, stopped}
+use Rattle.swc_ecma_parser_reader.proofs.expressions.CompleteKinds.{no_hash_in, seen, named_first, primary_seen, primary_operand, operand_plain, operand_update, quiet_stops, stopped}
+use Rattle.swc_ecma_parser_reader.proofs.expressions.PartEnds.{no_async_function}
 use Rattle.swc_ecma_parser_reader.proofs.expressions.Yields.{yield_here}
 use Rattle.swc_ecma_parser_reader.proofs.Errors.{is_error}
 use Rattle.swc_ecma_parser_reader.proofs.expressions.SoundSteps.{fault_stays}
@@ -87,7 +88,7 @@ module _ (inner : Class → Reader Tree) (cover : Reader Cover) (function : Func
 
     postfix_read : Meets Behind (postfix inner cover function s)
     unfolding postfix Behind same_kind
-    postfix_read = meets_then _ (left inner cover function true s) _ left_read (λ x t (i, a). rw (stopped t.at (quiet_stops t.at (rw a (refl, refl, refl, refl, refl)))).postfix (i, a))
+    postfix_read = meets_then _ (left inner cover function true s) _ left_read (λ x t (i, a). rw (stopped t.at (quiet_stops t.at (rw a (refl, refl, refl, refl, refl, refl, refl, refl)))).postfix (i, a))
 
     unary_read : Meets Behind (unary_expr inner cover function s)
     unfolding unary_expr
@@ -95,9 +96,13 @@ module _ (inner : Class → Reader Tree) (cover : Reader Cover) (function : Func
         let operand = primary_operand (kind_at s.at) (named_first s.code.flags s.at named) in
         rw (operand_plain (kind_at s.at) operand, ended_awaits s.code.flags s.at (after s.at) refl (ap ends_name arrow), operand_update (kind_at s.at) operand) postfix_read
 
+    first_read : Meets Behind (first_operand inner cover function 1 s)
+    unfolding first_operand
+    first_read = rw (no_hash_in (kind_at s.at) (primary_operand (kind_at s.at) (named_first s.code.flags s.at named))) unary_read
+
     binary_read : Meets Behind (binary_expr inner cover function 1 s)
     unfolding binary_expr binary_from binary_turn operator_at Behind
-    binary_read = meets_then _ (unary_expr inner cover function s) _ unary_read (λ x t (i, a). rw (loop_done (binary_turn inner cover 1 (span_at s.at)) x x t t (rw a refl)) (i, a))
+    binary_read = meets_then _ (first_operand inner cover function 1 s) _ first_read (λ x t (i, a). rw (loop_done (binary_turn inner cover 1 (span_at s.at)) x x t t (rw a refl)) (i, a))
 
     operators_none : Meets (λ _ _. ⊥) (operators_expr inner cover function s)
     unfolding operators_expr

@@ -1,6 +1,6 @@
 -- No assignment expression that is read is a block: what stands behind `=>` is one or the other.
-use Rattle.std.proofs.Common.{◌≡◌, ℕ, zero, suc, Bool, true, false, List, [], ◌∷◌, Option, Some, None, refl}
-use Rattle.std.specs.Prelude.{◌&&◌, ◌||◌, if◌then◌else◌, codes}
+use Rattle.std.proofs.Common.{◌≡◌, ℕ, zero, suc, Bool, true, false, List, [], ◌∷◌, Option, Some, None, refl, cond}
+use Rattle.std.specs.Prelude.{◌&&◌, ◌||◌, if◌then◌else◌, codes, nat_le}
 use Rattle.swc_ecma_parser_common.specs.declared.span.Span.{Span}
 use Rattle.swc_ecma_parser_error.specs.Kind as faults
 use Rattle.swc_ecma_parser_token.specs.declared.kind.TokenKind.TheVariants as kind
@@ -9,27 +9,28 @@ use Rattle.swc_ecma_parser_token.specs.declared.token.Token.TheVariants as token
 use Rattle.swc_ecma_parser_token.specs.declared.token.TokenAndSpan.{TokenAndSpan}
 use Rattle.swc_ecma_parser_token.specs.declared.token.Word.TheVariants as word
 use Rattle.swc_ecma_parser_model.specs.declared.operators.UnaryOp.{UnaryOp}
+use Rattle.swc_ecma_parser_model.specs.declared.operators.BinaryOp.TheVariants as binary
 use Rattle.swc_ecma_parser_model.specs.declared.operators.UpdateOp.{UpdateOp}
 use Rattle.swc_ecma_parser_model.specs.declared.operators.BinaryOp.{BinaryOp}
 use Rattle.swc_ecma_parser_model.specs.declared.operators.AssignOp.{AssignOp}
 use Rattle.swc_ecma_parser_model.specs.declared.operators.AssignOp.TheVariants as assign
 use Rattle.swc_ecma_parser_model.specs.Tree.{Tree, listed}
 use Rattle.swc_ecma_parser_model.specs.Kinds.{is_block}
-use Rattle.swc_ecma_parser_model.specs.Forms.{is_simple_target, has_plain_params}
+use Rattle.swc_ecma_parser_model.specs.Forms.{is_simple_target, has_plain_params, is_chain}
 use Rattle.swc_ecma_parser_input.specs.Place.{after}
 use Rattle.swc_ecma_parser_grammar.specs.Looks.{kind_at, breaks_at, sees, span_at}
 use Rattle.swc_ecma_parser_grammar.specs.Names.{name_at}
-use Rattle.swc_ecma_parser_grammar.specs.Follows.{word_at, is_async_function}
+use Rattle.swc_ecma_parser_grammar.specs.Follows.{word_at, is_async_function, begins_template}
 use Rattle.swc_ecma_parser_grammar.specs.Own.{misplaced_directive}
 use Rattle.swc_ecma_parser_grammar.specs.language.Items.{nested_item}
 use Rattle.swc_ecma_parser_grammar.specs.language.Contexts.{in_class}
 use Rattle.swc_ecma_parser_grammar.specs.language.Begins.{awaits, begins_expression}
 use Rattle.swc_ecma_parser_grammar.specs.language.Goals.{Class, expression, assignment, unary, callee, left_side}
 use Rattle.swc_ecma_parser_grammar.specs.language.Continues.{continues_conditional}
-use Rattle.swc_ecma_parser_grammar.specs.language.Operators.{unary_operator, update_operator, assign_operator, mixes}
+use Rattle.swc_ecma_parser_grammar.specs.language.Operators.{unary_operator, update_operator, assign_operator, mixes, precedence}
 use Rattle.swc_ecma_parser_reader.specs.Arrows.{Group, begins_named_arrow, may_stand_alone, closed_parts, closed_group, parameters_of, arrow_body, arrow_from, named_arrow, group, grouped}
 use Rattle.swc_ecma_parser_reader.specs.AsyncArrows.{Argument, begins_async_arrow, closed_arguments, argument_parameters, async_called, either_arguments, async_named_arrow, async_grouped}
-use Rattle.swc_ecma_parser_reader.specs.Expressions.{Cover, begins_async_call, heads_arrow, literal_of, literal_in, taken, literal, ident_expr, this, meta_fault, import_meta, bare_new, simple, update_behind, behind_operand, postfix_at, await_allowed, right_class, operator_at, left_operand, unmixed, unassigned, unheaded, unmarked, close, target, goes_on, inside, access, arguments, elements, array, properties, object, paren, accessed, called, left_turn, left_from, super_call, super_property, super_access, behind_super, super_head, constructed, new_head, import_call, import_head, prefixed, update_before, await_expr, operated, binary_by, binary_turn, binary_from, conditional, assigned_to, assigned, assigned_or, behind_operators, postfixed, continued, closed, assigned_pattern, behind_literal, open_literal, marked_primary, literal_or, named_expr, primary, left_head, left, postfix, updated, unary_by, unary_expr, binary_expr, operators_expr, plain_expr, done_expr, cover_expr, assignment_expr, expr_level, filled_paren, empty_paren}
+use Rattle.swc_ecma_parser_reader.specs.Expressions.{Cover, regex_of, regex_in, regex_or, regex, new_target, private_name, in_word, chain_of, template_pieces, template, tagged, tagged_by, behind_question, chained, behind_called, new_called, private_in, first_operand, begins_async_call, heads_arrow, literal_of, literal_in, taken, literal, ident_expr, this, meta_fault, import_meta, bare_new, simple, update_behind, behind_operand, postfix_at, await_allowed, right_class, operator_at, left_operand, unmixed, unassigned, unheaded, unmarked, close, target, goes_on, inside, access, arguments, elements, array, properties, object, paren, accessed, called, left_turn, left_from, super_call, super_property, super_access, behind_super, super_head, constructed, new_head, import_call, import_head, prefixed, update_before, await_expr, operated, binary_by, binary_turn, binary_from, conditional, assigned_to, assigned, assigned_or, behind_operators, postfixed, continued, closed, assigned_pattern, behind_literal, open_literal, marked_primary, literal_or, named_expr, primary, left_head, left, postfix, updated, unary_by, unary_expr, binary_expr, operators_expr, plain_expr, done_expr, cover_expr, assignment_expr, expr_level, filled_paren, empty_paren}
 use Rattle.swc_ecma_parser_reader.specs.Jumps.{told}
 use Rattle.swc_ecma_parser_reader.specs.Members.{class_name, class_parts, unnamed_class, class_expr}
 use Rattle.swc_ecma_parser_reader.specs.Methods.{FunctionForm, expression_form, class_form, parameter_form, star}
@@ -72,6 +73,26 @@ taken_plain (Some x) s p = p
 literal_plain : (s : State) → Meets PlainOr (literal s)
 unfolding literal
 literal_plain s = taken_plain (literal_in s.at.left) s (literal_in_plain s.at.left s)
+
+regex_of_plain : (span : Span) (v : Token) (s : State) → PlainOr (regex_of span v) s
+regex_of_plain span (token.Regex exp flags) s = refl
+regex_of_plain span _ s = tt
+
+regex_in_plain : (ts : List TokenAndSpan) (s : State) → PlainOr (regex_in ts) s
+regex_in_plain [] s = tt
+regex_in_plain (t ∷ ts) s = regex_of_plain t.span t.token s
+
+regex_or_plain : (o : Option Tree) (s : State) → PlainOr o s → Meets NoBlock (regex_or o s)
+regex_or_plain None s p = wanted_meets _ faults.Unexpected s
+regex_or_plain (Some x) s p = p
+
+regex_plain : (s : State) → Meets NoBlock (regex s)
+unfolding regex
+regex_plain s = regex_or_plain (regex_in s.at.left) s (regex_in_plain s.at.left s)
+
+new_target_plain : (start : Span) (s : State) → Meets NoBlock (new_target start s)
+unfolding new_target
+new_target_plain start s = meets_if _ (word_at (codes "target") s.at) _ _ (λ _. refl) (λ _. wanted_meets _ faults.Unexpected s)
 
 close_plain : (v : Cover) (s : State) → Plain v s → Meets NoBlock (close v s)
 unfolding close
@@ -117,11 +138,26 @@ module _ (inner : Class → Reader Tree) (cover : Reader Cover) where
   unfolding called
   called_plain start x s = always _ (arguments inner cover true s) _ (λ _ _. refl)
 
+  -- as a link of a chain too
+  link_plain : (b : Bool) (y : Tree) (s : State) → NoBlock y s → NoBlock (cond b (chain_of false y) y) s
+  link_plain true y s p = refl
+  link_plain false y s p = p
+
+  tagged_plain : (start : Span) (x : Tree) (s : State) → Meets NoBlock (tagged inner cover start x s)
+  unfolding tagged tagged_by
+  tagged_plain start x s = meets_if _ (is_chain x) _ _ (λ _. wanted_meets _ faults.Unexpected s) (λ _. always _ (template_pieces inner cover true s) _ (λ _ _. refl))
+
+  chained_plain : (start : Span) (x : Tree) (s : State) → Meets NoBlock (chained inner cover start x s)
+  unfolding chained
+  chained_plain start x s = always _ (behind_question inner cover start x (moved s)) _ (λ _ _. refl)
+
   left_turn_plain : (calls : Bool) (start : Span) (x : Tree) (s : State) → NoBlock x s → Meets (Turned (left_turn inner cover calls start) NoBlock NoBlock Refuses) (left_turn inner cover calls start x s)
   unfolding left_turn
   left_turn_plain calls start x s p = meets_if _ (sees kind.Dot s.at || sees kind.LBracket s.at) _ _
-      (λ _. meets_then _ (accessed inner cover start x s) _ (accessed_plain start x s) (λ _ _ q. q))
-      (λ _. meets_if _ (calls && sees kind.LParen s.at) _ _ (λ _. meets_then _ (called inner cover start x s) _ (called_plain start x s) (λ _ _ q. q)) (λ _. p))
+      (λ _. meets_then _ (accessed inner cover start x s) _ (accessed_plain start x s) (λ y t q. link_plain (is_chain x) y t q))
+      (λ _. meets_if _ (calls && sees kind.LParen s.at) _ _ (λ _. meets_then _ (called inner cover start x s) _ (called_plain start x s) (λ y t q. link_plain (is_chain x) y t q))
+      (λ _. meets_if _ (begins_template s.at) _ _ (λ _. meets_then _ (tagged inner cover start x s) _ (tagged_plain start x s) (λ _ _ q. q))
+      (λ _. meets_if _ (calls && sees kind.QuestionDot s.at) _ _ (λ _. meets_then _ (chained inner cover start x s) _ (chained_plain start x s) (λ _ _ q. q)) (λ _. p))))
 
   left_from_plain : (calls : Bool) (start : Span) (x : Tree) (s : State) → NoBlock x s → Meets NoBlock (left_from inner cover calls start x s)
   unfolding left_from
@@ -186,8 +222,18 @@ module _ (inner : Class → Reader Tree) (cover : Reader Cover) where
       (λ _. meets_if _ (sees kind.Dot (moved s).at || sees kind.LBracket (moved s).at) _ _ (λ _. always _ (super_property inner cover (moved s)) _ (λ _ _. refl)) (λ _. reject_meets _ _ (moved s)))
 
   new_plain : (s : State) → Meets NoBlock (new_head inner cover s)
-  unfolding new_head constructed bare_new
-  new_plain s = always _ (inner callee (moved s)) _ (λ x t. meets_if _ (sees kind.LParen t.at) _ _ (λ _. always _ (arguments inner cover true t) _ (λ _ _. refl)) (λ _. refl))
+  unfolding new_head new_called behind_called constructed bare_new
+  new_plain s = meets_if _ (sees kind.NewDot (after s.at)) _ _ (λ _. new_target_plain (span_at s.at) (moved (moved s)))
+      (λ _. always _ (inner callee (moved s)) _ (λ x t. meets_if _ (sees kind.LParen t.at) _ _ (λ _. always _ (arguments inner cover true t) _ (λ _ _. refl))
+      (λ _. meets_if _ (sees kind.QuestionDot t.at) _ _ (λ _. wanted_meets _ faults.Unexpected t) (λ _. refl))))
+
+  template_plain : (s : State) → Meets NoBlock (template inner cover s)
+  unfolding template
+  template_plain s = always _ (template_pieces inner cover false s) _ (λ _ _. refl)
+
+  private_in_plain : (s : State) → Meets NoBlock (private_in inner cover s)
+  unfolding private_in
+  private_in_plain s = always _ (private_name s) _ (λ _ t. always _ (in_word t) _ (λ _ u. always _ (inner (right_class binary.In) u) _ (λ _ _. refl)))
 
   import_plain : (s : State) → Meets NoBlock (import_head inner cover s)
   unfolding import_head import_call
@@ -224,7 +270,9 @@ module _ (inner : Class → Reader Tree) (cover : Reader Cover) where
         meets_if _ (sees kind.LBrace s.at) _ _ (λ _. meets_then _ (object inner cover function s) _ (object_plain s) close_plain) (λ _.
         meets_if _ (sees kind.This s.at) _ _ (λ _. this_plain s) (λ _.
         meets_if _ (sees kind.Function s.at) _ _ (λ _. functions s) (λ _.
-        meets_if _ (sees kind.Class s.at) _ _ (λ _. classes s) (λ _. wanted_meets _ faults.Unexpected s))))))
+        meets_if _ (sees kind.Class s.at) _ _ (λ _. classes s) (λ _.
+        meets_if _ (sees kind.Regex s.at) _ _ (λ _. regex_plain s) (λ _.
+        meets_if _ (begins_template s.at) _ _ (λ _. template_plain s) (λ _. wanted_meets _ faults.Unexpected s))))))))
 
     literal_or_plain : (o : Option Tree) (s : State) → PlainOr o s → Meets NoBlock (literal_or inner cover function o s)
     literal_or_plain (Some x) s p = p
@@ -252,10 +300,14 @@ module _ (inner : Class → Reader Tree) (cover : Reader Cover) where
     unary_by_plain (Some op) s = prefixed_plain op s
     unary_by_plain None s = meets_if _ (awaits s.code.flags s.at) _ _ (λ _. await_plain s) (λ _. updated_plain (update_operator (kind_at s.at)) s)
 
+    first_plain : (s : State) → Meets NoBlock (first_operand inner cover function 1 s)
+    unfolding first_operand unary_expr
+    first_plain s = meets_if _ (nat_le 1 (precedence binary.In) && sees kind.HashIn s.at) _ _ (λ _. private_in_plain s) (λ _. unary_by_plain (unary_operator (kind_at s.at)) s)
+
     operators_plain : (s : State) → Meets NoBlock (operators_expr inner cover function s)
-    unfolding operators_expr binary_expr unary_expr
+    unfolding operators_expr binary_expr
     operators_plain s = meets_then _ (binary_expr inner cover function 1 s) _
-        (meets_then _ (unary_expr inner cover function s) _ (unary_by_plain (unary_operator (kind_at s.at)) s) (λ x t p. binary_from_plain 1 (span_at s.at) x t p))
+        (meets_then _ (first_operand inner cover function 1 s) _ (first_plain s) (λ x t p. binary_from_plain 1 (span_at s.at) x t p))
         (λ x t p. behind_plain (begins_async_call s.at) (span_at s.at) x t p)
 
     -- ---- arrow functions

@@ -1,6 +1,6 @@
 -- The reader of left-hand-side expressions is sound: accesses, arguments, primary expressions, calls, `new` and `super`.
-use Rattle.swc_ecma_parser_reader.proofs.Words.{async_begins, function_begins, begins_function}
-use Rattle.std.proofs.Common.{◌≡◌, ℕ, zero, suc, Bool, true, false, List, [], ◌∷◌, ◌++◌, Option, Some, None, refl, sym, ◌∙◌, ap, subst, append-nil}
+use Rattle.swc_ecma_parser_reader.proofs.Words.{or_later, async_begins, function_begins, begins_function}
+use Rattle.std.proofs.Common.{◌≡◌, ℕ, zero, suc, Bool, true, false, cond, List, [], ◌∷◌, ◌++◌, Option, Some, None, refl, sym, ◌∙◌, ap, subst, append-nil}
 use Rattle.std.specs.Prelude.{not, ◌&&◌, ◌||◌, codes}
 use Rattle.swc_ecma_parser_common.specs.declared.span.Span.{Span}
 use Rattle.swc_ecma_parser_error.specs.Kind as faults
@@ -17,10 +17,10 @@ use Rattle.swc_ecma_parser_model.specs.declared.leaves.Ident.{Ident}
 use Rattle.swc_ecma_parser_model.specs.declared.leaves.MetaPropKind.TheVariants as meta
 use Rattle.swc_ecma_parser_model.specs.Tree as tree
 use Rattle.swc_ecma_parser_model.specs.Tree.{Tree, Text, listed, trees}
-use Rattle.swc_ecma_parser_model.specs.Forms.{is_rest, is_binding_name}
+use Rattle.swc_ecma_parser_model.specs.Forms.{is_rest, is_binding_name, is_chain}
 use Rattle.swc_ecma_parser_grammar.specs.Looks.{first_kind, kind_at, sees, same_kind, span_at, spanned}
 use Rattle.swc_ecma_parser_grammar.specs.Names.{Code, is_name, name_at}
-use Rattle.swc_ecma_parser_grammar.specs.Follows.{token_is, first_is, word_at, is_async_function, continues_left_side}
+use Rattle.swc_ecma_parser_grammar.specs.Follows.{token_is, first_is, word_at, is_async_function, begins_template, continues_left_side}
 use Rattle.swc_ecma_parser_grammar.specs.Notes.{notes}
 use Rattle.swc_ecma_parser_grammar.specs.scaffold.Supported.{supported_in, is_supported_property_in, all_supported_in}
 use Rattle.swc_ecma_parser_grammar.specs.scaffold.ReadsSupported.{ReadsClass, ReadsPat}
@@ -28,9 +28,10 @@ use Rattle.swc_ecma_parser_grammar.specs.language.Expressions.{ArrowBodyRule}
 use Rattle.swc_ecma_parser_grammar.specs.language.Goals.{Goal, Class, expression, assignment, left_side, callee, expr_goal, callee_goal}
 use Rattle.swc_ecma_parser_grammar.specs.language.Lists.{ReadsListed, LastComma, no_comma, last_comma}
 use Rattle.swc_ecma_parser_grammar.specs.language.Continues.{continues_callee}
+use Rattle.swc_ecma_parser_grammar.specs.language.Links.{LinkRule, name_link, private_link, access_link, arguments_link}
 use Rattle.swc_ecma_parser_grammar.specs.language.Parts as parts
 use Rattle.swc_ecma_parser_grammar.specs.language.Parts.{AccessRule, word_access, private_access, bracket_access, is_private, ElementRule, ArgumentsRule, ReadsToken}
-use Rattle.swc_ecma_parser_grammar.specs.language.LeftSides.{PrimaryRule, name_rule, string_rule, true_rule, false_rule, null_rule, number_rule, big_int_rule, this_rule, paren_rule, is_callee, LeftSideRule, primary_rule, import_meta_rule, member_rule, super_property_rule, call_rule, super_call_rule, import_call_rule, new_rule, bare_new_rule}
+use Rattle.swc_ecma_parser_grammar.specs.language.LeftSides.{PrimaryRule, name_rule, string_rule, true_rule, false_rule, null_rule, number_rule, big_int_rule, this_rule, paren_rule, is_callee, LeftSideRule, regex_rule, template_rule, primary_rule, import_meta_rule, new_target_rule, tagged_rule, chain_rule, linked_rule, member_rule, super_property_rule, call_rule, super_call_rule, import_call_rule, new_rule, bare_new_rule}
 use Rattle.swc_ecma_parser_grammar.specs.language.Reads.{Reads}
 use Rattle.swc_ecma_parser_grammar.specs.Walk as walks
 use Rattle.swc_ecma_parser_grammar.specs.Walk.{walk, env_of}
@@ -38,7 +39,7 @@ use Rattle.swc_ecma_parser_grammar.proofs.Tests.{or_no, or_none, and_yes, and_bo
 use Rattle.swc_ecma_parser_reader.specs.Notes.{notes_of, all_notes_of}
 use Rattle.swc_ecma_parser_reader.specs.State.{State, Outcome, Reader, and_then, moved, module_found, fault, fault_at, expect, loop, reference}
 use Rattle.swc_ecma_parser_reader.specs.Methods.{MethodForm, FunctionForm, expression_form, class_form, property_form, parameter_form, block_form}
-use Rattle.swc_ecma_parser_reader.specs.Expressions.{Cover, literal_of, literal_in, taken, literal, ident_expr, this, super_property, bare_new, closed_left, unmarked, close, dotted, inside, brackets, access, spread_element, plain_element, element, behind_argument, arguments_turn, arguments, array, object, paren, marked_primary, literal_or, primary, accessed, called, left_turn, left_from, super_call, super_access, behind_super, super_head, constructed, new_head, import_call, meta_fault, import_meta, import_head, left_head, left, left_expr, any_word, word_property, named_expr, filled_paren, empty_paren}
+use Rattle.swc_ecma_parser_reader.specs.Expressions.{Cover, regex_of, regex_in, regex_or, regex, template_pieces, template, new_target, chain_of, tagged, tagged_by, named_link, behind_question, chained, behind_called, new_called, literal_of, literal_in, taken, literal, ident_expr, this, super_property, bare_new, closed_left, unmarked, close, dotted, inside, brackets, access, spread_element, plain_element, element, behind_argument, arguments_turn, arguments, array, object, paren, marked_primary, literal_or, primary, accessed, called, left_turn, left_from, super_call, super_access, behind_super, super_head, constructed, new_head, import_call, meta_fault, import_meta, import_head, left_head, left, left_expr, any_word, word_property, named_expr, filled_paren, empty_paren}
 use Rattle.swc_ecma_parser_reader.proofs.Notes.{or_true, notes_nil}
 use Rattle.swc_ecma_parser_reader.proofs.Meets.{Meets, Refuses, meets_then, meets_if, wanted_meets, Turned, loop_answers, saw}
 use Rattle.swc_ecma_parser_reader.specs.Entry.{error_tokens}
@@ -47,8 +48,9 @@ use Rattle.swc_ecma_parser_reader.proofs.Between.{SoundTree, SoundStep, Sound, s
 use Rattle.swc_ecma_parser_reader.proofs.expressions.CompleteKinds.{seen}
 use Rattle.swc_ecma_parser_reader.proofs.expressions.NoBlocks.{NoBlock}
 use Rattle.swc_ecma_parser_grammar.proofs.Arrows.{body_walk}
-use Rattle.swc_ecma_parser_reader.proofs.expressions.SoundSteps.{paired, stepped, moved_back, meets_as, reject_meets, other, clash, Takes, expect_sound, fault_sound, stands, FreeWord, reference_sound, Dotted, word_dotted, private_dotted, dotted_sound, walks_push, notes_push, supported_push, any_word_sound}
+use Rattle.swc_ecma_parser_reader.proofs.expressions.SoundSteps.{paired, stepped, moved_back, meets_as, reject_meets, other, clash, elsewhere, Takes, expect_sound, fault_sound, stands, FreeWord, reference_sound, Dotted, word_dotted, private_dotted, dotted_sound, walks_push, notes_push, supported_push, any_word_sound}
 use Rattle.swc_ecma_parser_grammar.proofs.Naming.{name_is_clean}
+use Rattle.swc_ecma_parser_reader.proofs.expressions.SoundTemplates.{pieces_sound}
 use Rattle.swc_ecma_parser_reader.proofs.expressions.SoundCovers.{SoundCover, SoundLiteral, Headed, MethodRead, inside_sound, array_sound, object_sound}
 
 -- ---- words
@@ -159,9 +161,26 @@ bare_called : (n : ℕ) (k : Code) (x : Tree) (c d : Place) → Reads n (callee_
 bare_called zero k x c d r h = absurd r
 bare_called (suc n) k x c d r h = (r, h)
 
-no_access : (d : Place) → (sees kind.Dot d || sees kind.LBracket d) ≡ false → sees kind.LParen d ≡ false → continues_callee d ≡ false
+no_access : (d : Place) → (sees kind.Dot d || (sees kind.LBracket d || begins_template d)) ≡ false → sees kind.LParen d ≡ false → sees kind.QuestionDot d ≡ false → continues_callee d ≡ false
 unfolding continues_callee
-no_access d h g = let (a, b) = or_no (sees kind.Dot d) (sees kind.LBracket d) h in or_none (sees kind.Dot d) _ a (or_none (sees kind.LBracket d) _ b g)
+no_access d h g i =
+    let (a, more) = or_no (sees kind.Dot d) _ h in
+    let (b, t) = or_no (sees kind.LBracket d) (begins_template d) more in
+    or_none (sees kind.Dot d) _ a (or_none (sees kind.LBracket d) _ b (or_none (sees kind.LParen d) _ g (or_none (sees kind.QuestionDot d) _ i t)))
+
+-- neither an access nor a template
+bare_end : (d : Place) → (sees kind.Dot d || sees kind.LBracket d) ≡ false → begins_template d ≡ false → (sees kind.Dot d || (sees kind.LBracket d || begins_template d)) ≡ false
+bare_end d h t = let (a, b) = or_no (sees kind.Dot d) (sees kind.LBracket d) h in or_none (sees kind.Dot d) _ a (or_none (sees kind.LBracket d) _ b t)
+
+-- what `new` calls is no optional chain
+chain_uncalled : {X : Type 0} (x : Tree) → is_chain x ≡ true → is_callee x ≡ true → X
+chain_uncalled (tree.opt_chain s optional base) h g = cc
+chain_uncalled _ h g = cc
+
+-- a name behind `?.`
+named_by : (In : Goal → Type 0) (k : Code) (whole : Span) (x y : Tree) (c d : Place) → Dotted y c d → LinkRule In k true whole x (tree.member whole x y) c d × (is_supported_property_in k.flags.module y ≡ true)
+named_by In k whole x y c d (word_dotted text span r g) = (name_link text span refl r (ap (tree.member whole x) g), ap (is_supported_property_in k.flags.module) g)
+named_by In k whole x y c d (private_dotted r) = (private_link y refl r refl, ap (is_supported_property_in k.flags.module) r.is)
 
 free_left : (In : Goal → Type 0) (calls : Bool) (i : Ident) (k : Code) (c d : Place) → is_async_function c ≡ false → FreeWord i k c d → Left In calls k (tree.ident i.span i.sym) c d
 free_left In calls i k c d e r = let free : is_name k.flags i.sym ≡ true = ap (is_name k.flags) r.text ∙ r.free in record {
@@ -307,6 +326,29 @@ module _ (n : ℕ) (inner : Class → Reader Tree) (cover : Reader Cover) (sound
     literal_in_sound [] e = refl
     literal_in_sound (u ∷ ts) e = literal_of_sound u ts u.token e refl
 
+    -- a regular expression
+    regex_of_sound : (u : TokenAndSpan) (ts : List TokenAndSpan) (v : Token) → s.at.left ≡ u ∷ ts → u.token ≡ v → Meets (SoundLeft calls s) (regex_or (regex_of u.span v) s)
+    unfolding same_kind
+    regex_of_sound u ts (token.Regex exp flags) e h = let r = stands s.at u ts (token.Regex exp flags) e h in
+        sound_moved s (kind_here s.at u ts (token.Regex exp flags) e h) refl (one_token (token.Regex exp flags) u.span _ r (regex_rule exp flags u.span r refl) refl refl)
+    regex_of_sound u ts _ e h = wanted_meets _ faults.Unexpected s
+
+    regex_in_sound : (ts : List TokenAndSpan) → s.at.left ≡ ts → Meets (SoundLeft calls s) (regex_or (regex_in ts) s)
+    regex_in_sound [] e = wanted_meets _ faults.Unexpected s
+    regex_in_sound (u ∷ ts) e = regex_of_sound u ts u.token e refl
+
+    regex_sound : Meets (SoundLeft calls s) (regex s)
+    unfolding regex
+    regex_sound = regex_in_sound s.at.left refl
+
+    template_sound : begins_template s.at ≡ true → Meets (SoundLeft calls s) (template inner cover s)
+    unfolding template spanned
+    template_sound e = meets_then _ (template_pieces inner cover false s) _ (pieces_sound n inner cover sound covers false s e) (λ found t p. sound_as s t refl refl refl (λ r. record {
+      rule = primary_rule (template_rule found.exprs found.quasis r.0 refl);
+      supports = r.1;
+      is_called = λ _. refl;
+    }) p)
+
     literal_sound : Meets (Literal calls s) (literal s)
     unfolding literal
     literal_sound = literal_in_sound s.at.left refl
@@ -370,7 +412,9 @@ module _ (n : ℕ) (inner : Class → Reader Tree) (cover : Reader Cover) (sound
         (λ _. meets_if _ (sees kind.LBrace s.at) _ _ (λ e. object_left (saw s.at kind.LBrace e))
         (λ _. meets_if _ (sees kind.This s.at) _ _ (λ e. this_sound (saw s.at kind.This e))
         (λ _. meets_if _ (sees kind.Function s.at) _ _ (λ e. function_left (function_begins s.at (saw s.at kind.Function e)))
-        (λ _. meets_if _ (sees kind.Class s.at) _ _ (λ e. class_left (saw s.at kind.Class e)) (λ _. wanted_meets _ faults.Unexpected s))))))
+        (λ _. meets_if _ (sees kind.Class s.at) _ _ (λ e. class_left (saw s.at kind.Class e))
+        (λ _. meets_if _ (sees kind.Regex s.at) _ _ (λ _. regex_sound)
+        (λ _. meets_if _ (begins_template s.at) _ _ (λ e. template_sound e) (λ _. wanted_meets _ faults.Unexpected s))))))))
 
     literal_or_sound : (o : Option Tree) (t : State) → Literal calls s o t → Meets (SoundLeft calls s) (literal_or inner cover function o t)
     literal_or_sound (Some x) t p = p
@@ -388,35 +432,90 @@ module _ (n : ℕ) (inner : Class → Reader Tree) (cover : Reader Cover) (sound
   -- ---- accesses and calls one behind another
 
   module _ (calls : Bool) (s : State) where
-    accessed_sound : (x : Tree) (t : State) → SoundLeft calls s x t → (sees kind.Dot t.at || sees kind.LBracket t.at) ≡ true → Meets (SoundLeft calls s) (accessed inner cover (span_at s.at) x t)
+    -- what goes on with an optional chain is a link of it
+    accessed_sound : (x : Tree) (t : State) → SoundLeft calls s x t → (sees kind.Dot t.at || sees kind.LBracket t.at) ≡ true → (b : Bool) → is_chain x ≡ b
+        → Meets (λ y u. SoundLeft calls s (cond b (chain_of false y) y) u) (accessed inner cover (span_at s.at) x t)
     unfolding accessed spanned
-    accessed_sound x t p e = meets_then _ (access inner cover t) _ (access_sound t e) (λ y u q. sound_as s u refl refl refl (λ (a, b). record {
-      rule = member_rule x y t.at a.rule b.0 refl;
+    accessed_sound x t p e true g = meets_then _ (access inner cover t) _ (access_sound t e) (λ y u q. sound_as s u refl refl refl (λ (a, b). record {
+      rule = linked_rule x _ t.at a.rule g (access_link y refl b.0 refl) refl;
+      supports = and_both _ _ a.supports b.1;
+      is_called = λ z. chain_uncalled x g (a.is_called z);
+    }) (paired p q))
+    accessed_sound x t p e false g = meets_then _ (access inner cover t) _ (access_sound t e) (λ y u q. sound_as s u refl refl refl (λ (a, b). record {
+      rule = member_rule x y t.at a.rule g b.0 refl;
       supports = and_both _ _ a.supports b.1;
       is_called = a.is_called;
     }) (paired p q))
 
-    called_sound : (x : Tree) (t : State) → SoundLeft calls s x t → (calls && sees kind.LParen t.at) ≡ true → Meets (SoundLeft calls s) (called inner cover (span_at s.at) x t)
+    called_sound : (x : Tree) (t : State) → SoundLeft calls s x t → (calls && sees kind.LParen t.at) ≡ true → (b : Bool) → is_chain x ≡ b
+        → Meets (λ y u. SoundLeft calls s (cond b (chain_of false y) y) u) (called inner cover (span_at s.at) x t)
     unfolding called spanned
-    called_sound x t p e = let h = and_yes calls (sees kind.LParen t.at) e in
+    called_sound x t p e true g = let h = and_yes calls (sees kind.LParen t.at) e in
         meets_then _ (arguments inner cover true t) _ (arguments_sound true t (saw t.at kind.LParen h.1)) (λ xs u q. sound_as s u refl refl refl (λ (a, b). record {
-          rule = call_rule x (listed xs) t.at a.rule b.0 refl;
+          rule = linked_rule x _ t.at a.rule g (arguments_link (listed xs) b.0 refl) refl;
           supports = and_both _ _ a.supports b.1;
-          is_called = λ g. clash calls h.0 g;
+          is_called = λ z. clash calls h.0 z;
         }) (paired p q))
+    called_sound x t p e false g = let h = and_yes calls (sees kind.LParen t.at) e in
+        meets_then _ (arguments inner cover true t) _ (arguments_sound true t (saw t.at kind.LParen h.1)) (λ xs u q. sound_as s u refl refl refl (λ (a, b). record {
+          rule = call_rule x (listed xs) t.at a.rule g b.0 refl;
+          supports = and_both _ _ a.supports b.1;
+          is_called = λ z. clash calls h.0 z;
+        }) (paired p q))
+
+    -- a tag is no optional chain
+    tagged_sound : (x : Tree) (t : State) → SoundLeft calls s x t → begins_template t.at ≡ true → Meets (SoundLeft calls s) (tagged inner cover (span_at s.at) x t)
+    unfolding tagged tagged_by spanned
+    tagged_sound x t p e = meets_if _ (is_chain x) _ _ (λ _. wanted_meets _ faults.Unexpected t)
+        (λ g. meets_then _ (template_pieces inner cover true t) _ (pieces_sound n inner cover sound covers true t e) (λ found u q. sound_as s u refl refl refl (λ (a, b). record {
+          rule = tagged_rule x found.exprs found.quasis t.at a.rule g b.0 refl;
+          supports = and_both _ _ a.supports b.1;
+          is_called = a.is_called;
+        }) (paired p q)))
+
+    -- a link behind `?.`
+    chained_sound : (x : Tree) (t : State) → SoundLeft calls s x t → (calls && sees kind.QuestionDot t.at) ≡ true → Meets (SoundLeft calls s) (chained inner cover (span_at s.at) x t)
+    unfolding chained behind_question called accessed named_link spanned same_kind
+    chained_sound x t p e =
+        let h = and_yes calls (sees kind.QuestionDot t.at) e in
+        let k = saw t.at kind.QuestionDot h.1 in
+        meets_then {P = λ y u. SoundLeft calls s (chain_of true y) u} _ (behind_question inner cover (span_at s.at) x (moved t)) _
+        (meets_if _ (sees kind.LParen (after t.at)) _ _
+        (λ i. meets_then _ (arguments inner cover true (moved t)) _ (arguments_sound true (moved t) (saw (after t.at) kind.LParen i)) (λ xs u q. sound_as s u refl refl refl (λ (a, b). record {
+          rule = chain_rule x _ t.at a.rule k (arguments_link (listed xs) b.0 refl) refl;
+          supports = and_both _ _ a.supports b.1;
+          is_called = λ z. clash calls h.0 z;
+        }) (paired p (moved_back k refl q))))
+        (λ _. meets_if _ (sees kind.LBracket (after t.at)) _ _
+        (λ i. meets_then _ (access inner cover (moved t)) _ (access_sound (moved t) (or_later (sees kind.Dot (after t.at)) _ i)) (λ y u q. sound_as s u refl refl refl (λ (a, b). record {
+          rule = chain_rule x _ t.at a.rule k (access_link y (elsewhere (after t.at) kind.LBracket kind.Dot (saw (after t.at) kind.LBracket i) refl) b.0 refl) refl;
+          supports = and_both _ _ a.supports b.1;
+          is_called = λ z. clash calls h.0 z;
+        }) (paired p (moved_back k refl q))))
+        (λ _. meets_then _ (dotted (moved t)) _ (dotted_sound (moved t)) (λ y u q. sound_as s u refl refl refl (λ (a, b). let l = named_by (Reads n) s.code _ x y (after t.at) u.at b in record {
+          rule = chain_rule x _ t.at a.rule k l.0 refl;
+          supports = and_both _ _ a.supports l.1;
+          is_called = λ z. clash calls h.0 z;
+        }) (paired p (moved_back k refl q))))))
+        (λ y u q. q)
 
     -- nothing goes on with it
     abbrev Ended : Code → Tree → Place → Place → Type 0
-    Ended k x c d = Left (Reads n) calls k x c d × ((sees kind.Dot d || sees kind.LBracket d) ≡ false) × ((calls && sees kind.LParen d) ≡ false)
+    Ended k x c d = Left (Reads n) calls k x c d × ((sees kind.Dot d || sees kind.LBracket d) ≡ false) × ((calls && sees kind.LParen d) ≡ false) × (begins_template d ≡ false)
+        × ((calls && sees kind.QuestionDot d) ≡ false)
 
     left_turn_sound : (x : Tree) (t : State) → SoundLeft calls s x t
         → Meets (Turned (left_turn inner cover calls (span_at s.at)) (SoundLeft calls s) (λ y u. SoundTree Ended s y u) Refuses) (left_turn inner cover calls (span_at s.at) x t)
     unfolding left_turn
     left_turn_sound x t p = meets_if _ (sees kind.Dot t.at || sees kind.LBracket t.at) _ _
-        (λ e. meets_then _ (accessed inner cover (span_at s.at) x t) _ (accessed_sound x t p e) (λ y u q. q))
+        (λ e. meets_then _ (accessed inner cover (span_at s.at) x t) _ (accessed_sound x t p e (is_chain x) refl) (λ y u q. q))
         (λ e. meets_if _ (calls && sees kind.LParen t.at) _ _
-        (λ h. meets_then _ (called inner cover (span_at s.at) x t) _ (called_sound x t p h) (λ y u q. q))
-        (λ h. sound_as s t refl refl refl (λ r. (r, e, h)) p))
+        (λ h. meets_then _ (called inner cover (span_at s.at) x t) _ (called_sound x t p h (is_chain x) refl) (λ y u q. q))
+        (λ h. meets_if _ (begins_template t.at) _ _
+        (λ i. meets_then _ (tagged inner cover (span_at s.at) x t) _ (tagged_sound x t p i) (λ y u q. q))
+        (λ i. meets_if _ (calls && sees kind.QuestionDot t.at) _ _
+        (λ k. meets_then _ (chained inner cover (span_at s.at) x t) _ (chained_sound x t p k) (λ y u q. q))
+        (λ k. sound_as s t refl refl refl (λ r. (r, e, h, i, k)) p))))
 
     left_from_sound : (x : Tree) (t : State) → SoundLeft calls s x t → Meets (λ y u. SoundTree Ended s y u) (left_from inner cover calls (span_at s.at) x t)
     unfolding left_from
@@ -443,20 +542,38 @@ module _ (n : ℕ) (inner : Class → Reader Tree) (cover : Reader Cover) (sound
         }) p))
         (λ _. reject_meets _ _ (moved s)))
 
+    new_target_sound : kind_at s.at ≡ kind.New → kind_at (after s.at) ≡ kind.NewDot → Meets (SoundLeft calls s) (new_target (span_at s.at) (moved (moved s)))
+    unfolding new_target spanned same_kind
+    new_target_sound e h = meets_if _ (word_at (codes "target") c) _ _
+        (λ g. sound_after {w = no_faults} {P = λ k i j. j ≡ after c} s u e refl refl refl (λ q. record {
+          rule = new_target_rule e h g q refl;
+          supports = refl;
+          is_called = λ _. refl;
+        }) (sound_after {w = no_faults} {P = λ k i j. j ≡ after c} (moved s) u h refl refl refl (λ r. r)
+        (sound_after {w = no_faults} {P = λ k i j. j ≡ i} (moved (moved s)) u (word_stands (codes "target") c g) refl refl refl (λ r. r) (sound_here {P = λ k i j. j ≡ i} u refl))))
+        (λ _. wanted_meets _ faults.Unexpected (moved (moved s)))
+      where
+        c : Place
+        c = after (after s.at)
+
+        u : State
+        u = moved (moved (moved s))
+
     new_sound : kind_at s.at ≡ kind.New → Meets (SoundLeft calls s) (new_head inner cover s)
-    unfolding new_head constructed bare_new spanned same_kind
-    new_sound e =
+    unfolding new_head new_called behind_called constructed bare_new spanned same_kind
+    new_sound e = meets_if _ (sees kind.NewDot (after s.at)) _ _ (λ h. new_target_sound e (saw (after s.at) kind.NewDot h)) (λ _.
         meets_then _ (inner callee (moved s)) _ (sound callee (moved s)) (λ x m p. meets_if _ (sees kind.LParen m.at) _ _
         (λ h. meets_then _ (arguments inner cover true m) _ (arguments_sound true m (saw m.at kind.LParen h)) (λ xs t q. sound_as s t refl refl refl (λ (a, b). record {
           rule = new_rule x (listed xs) m.at e a.0 b.0 refl;
           supports = and_both _ _ a.2 b.1;
           is_called = λ _. refl;
         }) (paired (moved_back e refl p) q)))
-        (λ h. sound_after s m e refl (sym (append-nil (walk (env_of s.code s.scope.labels) x))) (sym (notes_nil (notes_of x))) (λ r. record {
-          rule = bare_new_rule x e (bare_called n s.code x (after s.at) m.at r.0 (no_access m.at r.1 h)) refl;
+        (λ h. meets_if _ (sees kind.QuestionDot m.at) _ _ (λ _. wanted_meets _ faults.Unexpected m)
+        (λ i. sound_after s m e refl (sym (append-nil (walk (env_of s.code s.scope.labels) x))) (sym (notes_nil (notes_of x))) (λ r. record {
+          rule = bare_new_rule x e (bare_called n s.code x (after s.at) m.at r.0 (no_access m.at r.1 h i)) refl;
           supports = and_both _ true r.2 refl;
           is_called = λ _. refl;
-        }) p))
+        }) p))))
 
     -- a recorded fault: no tree of the relation is answered, in code that cannot be a module's
     meta_fault_sound : (span : Span) (u : State) → Meets (λ _ t. Sound same no_faults (notes_of (tree.meta_prop span meta.ImportMeta)) AsModule u t) (meta_fault span (module_found u))
@@ -536,7 +653,7 @@ module _ (n : ℕ) (inner : Class → Reader Tree) (cover : Reader Cover) (sound
   -- ---- of the class
 
   pub callee_sound : (s : State) → Meets (λ x t. SoundTree (ReadsClass (suc n) callee) s x t) (left inner cover function false s)
-  callee_sound s = meets_as (left inner cover function false s) (left_sound false s) (λ x t p. sound_as s t refl refl refl (λ r. ((r.0.rule, r.0.is_called refl), r.1, r.0.supports)) p)
+  callee_sound s = meets_as (left inner cover function false s) (left_sound false s) (λ x t p. sound_as s t refl refl refl (λ r. ((r.0.rule, r.0.is_called refl), bare_end t.at r.1 r.3, r.0.supports)) p)
 
   pub left_side_sound : (s : State) → Meets (λ x t. SoundTree (ReadsClass (suc n) left_side) s x t) (left_expr inner cover function s)
   unfolding left_expr closed_left

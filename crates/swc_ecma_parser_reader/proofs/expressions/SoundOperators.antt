@@ -14,7 +14,7 @@ use Rattle.swc_ecma_parser_model.specs.Tree.{Tree}
 use Rattle.swc_ecma_parser_model.specs.Forms.{is_simple_target}
 use Rattle.swc_ecma_parser_grammar.specs.Looks.{kind_at, breaks_at, sees, same_kind, span_at, spanned}
 use Rattle.swc_ecma_parser_grammar.specs.Names.{Code}
-use Rattle.swc_ecma_parser_grammar.specs.Follows.{continues_left_side}
+use Rattle.swc_ecma_parser_grammar.specs.Follows.{begins_template, continues_left_side}
 use Rattle.swc_ecma_parser_grammar.specs.scaffold.Supported.{supported_in}
 use Rattle.swc_ecma_parser_grammar.specs.scaffold.ReadsSupported.{ReadsClass}
 use Rattle.swc_ecma_parser_grammar.specs.language.LeftSides.{OperandRule}
@@ -22,18 +22,20 @@ use Rattle.swc_ecma_parser_grammar.specs.language.Goals.{Goal, Class, operator, 
 use Rattle.swc_ecma_parser_grammar.specs.language.Begins.{awaits}
 use Rattle.swc_ecma_parser_grammar.specs.language.Operators.{unary_operator, update_operator, binary_operator, precedence, groups_left, is_operator, mixes, is_unary}
 use Rattle.swc_ecma_parser_grammar.specs.language.Continues.{is_operation, binds, continues_unary, continues_operand}
-use Rattle.swc_ecma_parser_grammar.specs.language.Expressions.{UnaryRule, operand_rule, unary_rule, prefix_rule, postfix_rule, await_rule, BinaryRule, single_rule, left_rule, power_rule}
+use Rattle.swc_ecma_parser_grammar.specs.language.Expressions.{UnaryRule, operand_rule, unary_rule, prefix_rule, postfix_rule, await_rule, BinaryRule, single_rule, left_rule, power_rule, private_in_rule}
+use Rattle.swc_ecma_parser_grammar.specs.language.Parts.{PrivateOperandRule}
 use Rattle.swc_ecma_parser_grammar.specs.language.Reads.{Reads}
+use Rattle.swc_ecma_parser_error.specs.Kind as faults
 use Rattle.swc_ecma_parser_grammar.proofs.Tests.{or_no, or_none, and_yes, and_both, and_no}
 use Rattle.swc_ecma_parser_reader.specs.State.{State, Reader, moved, noted}
 use Rattle.swc_ecma_parser_reader.specs.Methods.{FunctionForm}
-use Rattle.swc_ecma_parser_reader.specs.Expressions.{Cover, simple, update_behind, behind_operand, postfix_at, right_class, read_operator, operator_at, left_operand, unmixed, left, prefixed, update_before, await_expr, postfix, updated, unary_by, unary_expr, operated, binary_by, binary_turn, binary_from, binary_expr}
-use Rattle.swc_ecma_parser_reader.proofs.Meets.{Meets, Refuses, meets_then, meets_if, Turned, loop_answers}
+use Rattle.swc_ecma_parser_reader.specs.Expressions.{Cover, simple, update_behind, behind_operand, postfix_at, right_class, read_operator, operator_at, left_operand, unmixed, left, prefixed, update_before, await_expr, postfix, updated, unary_by, unary_expr, private_name, in_word, private_in, first_operand, operated, binary_by, binary_turn, binary_from, binary_expr}
+use Rattle.swc_ecma_parser_reader.proofs.Meets.{Meets, Refuses, meets_then, meets_if, wanted_meets, saw, Turned, loop_answers}
 use Rattle.swc_ecma_parser_reader.proofs.Errors.{is_error}
 use Rattle.swc_ecma_parser_grammar.proofs.ExpressionBegins.{await_stands}
 use Rattle.swc_ecma_parser_reader.proofs.expressions.Awaits.{await_fault, await_fault_untabled, await_either}
-use Rattle.swc_ecma_parser_reader.proofs.Between.{SoundTree, sound_moved, sound_as, sound_after, sound_noted}
-use Rattle.swc_ecma_parser_reader.proofs.expressions.SoundSteps.{paired, stepped, moved_back, meets_as, reject_meets, when_true, when_false, clash}
+use Rattle.swc_ecma_parser_reader.proofs.Between.{SoundTree, SoundStep, sound_moved, sound_as, sound_after, sound_noted}
+use Rattle.swc_ecma_parser_reader.proofs.expressions.SoundSteps.{paired, stepped, moved_back, meets_as, reject_meets, when_true, when_false, clash, Takes, private_operand_sound}
 use Rattle.swc_ecma_parser_reader.proofs.expressions.SoundCovers.{SoundCover}
 use Rattle.swc_ecma_parser_reader.proofs.expressions.SoundLefts.{FunctionsSound, Left, left_sound}
 
@@ -87,10 +89,12 @@ unfolding postfix_at
 postfix_there c op h = some_postfix (breaks_at c) (update_operator (kind_at c)) op h
 
 -- nothing goes on with an operand
-operand_ends : (x : Tree) (d : Place) → (sees kind.Dot d || sees kind.LBracket d) ≡ false → sees kind.LParen d ≡ false → postfix_at d ≡ None → continues_unary x d ≡ false
+operand_ends : (x : Tree) (d : Place) → (sees kind.Dot d || sees kind.LBracket d) ≡ false → sees kind.LParen d ≡ false → begins_template d ≡ false → sees kind.QuestionDot d ≡ false → postfix_at d ≡ None
+    → continues_unary x d ≡ false
 unfolding continues_unary continues_left_side postfix_at
-operand_ends x d h g e = let (a, b) = or_no (sees kind.Dot d) (sees kind.LBracket d) h in
-    and_no (not (is_operation x)) _ (or_none (sees kind.Dot d) _ a (or_none (sees kind.LBracket d) _ b (or_none (sees kind.LParen d) _ g (no_postfix (breaks_at d) (kind_at d) e))))
+operand_ends x d h g t q e = let (a, b) = or_no (sees kind.Dot d) (sees kind.LBracket d) h in
+    and_no (not (is_operation x)) _ (or_none (sees kind.Dot d) _ a (or_none (sees kind.LBracket d) _ b (or_none (sees kind.LParen d) _ g
+    (or_none (sees kind.QuestionDot d) _ q (or_none (begins_template d) _ t (no_postfix (breaks_at d) (kind_at d) e))))))
 
 -- nothing goes on with an operation
 operation_ends : (x : Tree) (d : Place) → is_operation x ≡ true → continues_unary x d ≡ false
@@ -160,6 +164,7 @@ module _ {In : Goal → Type 0} {k : Code} where
   simple_binary n x c d h (single_rule r) = simple_unary x c d h r
   simple_binary n x c d h (left_rule op l y m a g o r f s i j q) = other_form x _ h q refl
   simple_binary n x c d h (power_rule l y m a r f g s q) = other_form x _ h q refl
+  simple_binary n x c d h (private_in_rule y z m l b r g q e) = other_form x _ h e refl
 
 -- an operand by itself
 fresh : {In : Goal → Type 0} {n : ℕ} {k : Code} {x : Tree} {c d : Place} → Unary In k x c d → Binary In n k x c d
@@ -195,6 +200,20 @@ module _ (n : ℕ) (k : Code) (op : BinaryOp) (x y : Tree) (c i d : Place) (h : 
     ends = operation_ends (tree.bin (spanned c d) op x y) d refl;
     ready = λ o u v. let (a, b) = below (groups_left op) refl o (looser _ k _ o (operand_stops n _ k y (after i) d r) u v) in
         (λ _. made (precedence o) (groups_left op) refl a r.0, λ z. clash (groups_left o) b z);
+  }
+
+-- `in` with a private name left of it
+module _ (n : ℕ) (k : Code) (x y : Tree) (c i d : Place) (g : is_operator k binary.In ≡ true) (a : PrivateOperandRule x c i) (h : kind_at i ≡ kind.In) where
+  private_made : (m : ℕ) → m ≤ precedence binary.In → Reads n (expr_goal (right_class binary.In) k y (after i) d) → BinaryRule (Reads n) k m (tree.bin (spanned c d) binary.In x y) c d
+  private_made m l r = private_in_rule x y i l g a h r refl
+
+  private_operation : (m : ℕ) → nat_le m (precedence binary.In) ≡ true → ReadsClass n (right_class binary.In) k y (after i) d → Binary (Reads n) m k (tree.bin (spanned c d) binary.In x y) c d
+  private_operation m l r = record {
+    rule = private_made m (leb-true m (precedence binary.In) l) r.0;
+    supports = and_both _ _ (ap (supported_in k.flags.module) a.is) r.1;
+    ends = operation_ends (tree.bin (spanned c d) binary.In x y) d refl;
+    ready = λ o u v. let b : precedence o < 8 = looser 8 k _ o (operand_stops n 8 k y (after i) d r) u v in
+        (λ _. let l : precedence o ≤ 7 = omega arith in private_made (precedence o) l r.0, λ z. absurd (let w : precedence o ≡ 11 = ap precedence (right_is o z) in omega arith));
   }
 
 module _ (n : ℕ) (inner : Class → Reader Tree) (cover : Reader Cover) (sound : (class : Class) (s : State) → Meets (λ x t. SoundTree (ReadsClass n class) s x t) (inner class s))
@@ -236,13 +255,13 @@ module _ (n : ℕ) (inner : Class → Reader Tree) (cover : Reader Cover) (sound
 
   -- where it stands, `await` is no operator
   behind_operand_sound : (s : State) (x : Tree) (t : State) (o : Option UpdateOp) → awaits s.code.flags s.at ≡ false → postfix_at t.at ≡ o
-      → SoundTree (λ k x c d. Left (Reads n) true k x c d × ((sees kind.Dot d || sees kind.LBracket d) ≡ false) × (sees kind.LParen d ≡ false)) s x t
+      → SoundTree (λ k x c d. Left (Reads n) true k x c d × ((sees kind.Dot d || sees kind.LBracket d) ≡ false) × (sees kind.LParen d ≡ false) × (begins_template d ≡ false) × (sees kind.QuestionDot d ≡ false)) s x t
       → Meets (SoundUnary s) (behind_operand (span_at s.at) x o t)
   unfolding update_behind simple spanned
   behind_operand_sound s x t None a e p = sound_as s t refl refl refl (λ r. record {
     rule = operand_rule (r.0.rule, a);
     supports = r.0.supports;
-    ends = operand_ends x t.at r.1 r.2 e;
+    ends = operand_ends x t.at r.1 r.2 r.3 r.4 e;
   }) p
   behind_operand_sound s x t (Some op) a e p = let (b, f) = postfix_there t.at op e in when_true (SoundUnary s) _ tt _ t (is_simple_target x) (λ h.
       sound_as s (moved t) refl refl refl (λ (r, z). record {
@@ -303,12 +322,30 @@ module _ (n : ℕ) (inner : Class → Reader Tree) (cover : Reader Cover) (sound
     unfolding binary_turn
     binary_turn_sound x t p = binary_by_sound x t (operator_at m t) p refl
 
+    -- a private name with `in` and its right operand
+    in_word_sound : (t : State) → Meets (λ _ u. SoundStep (λ k c d. Takes kind.In c d × (k.flags.include_in_expr ≡ true)) t u) (in_word t)
+    unfolding in_word
+    in_word_sound t = meets_if _ (sees kind.In t.at && t.code.flags.include_in_expr) _ _
+        (λ e. let h = and_yes (sees kind.In t.at) t.code.flags.include_in_expr e in sound_moved t (saw t.at kind.In h.0) refl ((saw t.at kind.In h.0, refl), h.1)) (λ _. wanted_meets _ faults.Unexpected t)
+
+    private_in_sound : nat_le m (precedence binary.In) ≡ true → kind_at s.at ≡ kind.HashIn → Meets SoundBinary (private_in inner cover s)
+    unfolding private_in spanned
+    private_in_sound l e = meets_then _ (private_name s) _ (private_operand_sound s e) (λ x t p.
+        meets_then _ (in_word t) _ (in_word_sound t) (λ _ u q.
+        meets_then _ (inner (right_class binary.In) u) _ (sound (right_class binary.In) u) (λ y v r. sound_as s v refl refl refl
+        (λ ((a, (b, i)), o). private_operation n s.code x y s.at t.at v.at i a b.0 m l (subst (λ z. ReadsClass n (right_class binary.In) s.code y z v.at) b.1 o)) (paired (stepped p q) r))))
+
+    first_operand_sound : Meets SoundBinary (first_operand inner cover function m s)
+    unfolding first_operand
+    first_operand_sound = meets_if _ (nat_le m (precedence binary.In) && sees kind.HashIn s.at) _ _
+        (λ e. let h = and_yes (nat_le m (precedence binary.In)) (sees kind.HashIn s.at) e in private_in_sound h.0 (saw s.at kind.HashIn h.1))
+        (λ _. meets_as (unary_expr inner cover function s) (unary_expr_sound s) (λ x t p. sound_as s t refl refl refl (λ r. fresh r) p))
+
     -- operands with the operators between that bind so tightly
     pub binary_sound : Meets (λ x t. SoundTree BinaryEnd s x t) (binary_expr inner cover function m s)
     unfolding binary_expr binary_from
-    binary_sound = meets_then _ (unary_expr inner cover function s) _ (unary_expr_sound s) (λ x t p.
-        loop_answers (binary_turn inner cover m (span_at s.at)) SoundBinary (λ y u. SoundTree BinaryEnd s y u) Refuses binary_turn_sound (λ _. tt) x t
-        (sound_as s t refl refl refl (λ r. fresh r) p))
+    binary_sound = meets_then _ (first_operand inner cover function m s) _ first_operand_sound (λ x t p.
+        loop_answers (binary_turn inner cover m (span_at s.at)) SoundBinary (λ y u. SoundTree BinaryEnd s y u) Refuses binary_turn_sound (λ _. tt) x t p)
 
   -- ---- of the class
 

@@ -23,7 +23,7 @@ use Rattle.swc_ecma_parser_model.specs.Tree.{Tree, Text, trees}
 use Rattle.swc_ecma_parser_grammar.specs.Looks.{kind_at, sees, same_kind, span_at, first_span, spanned}
 use Rattle.swc_ecma_parser_grammar.specs.Names.{Code, is_name, is_identifier, may_bind_await}
 use Rattle.swc_ecma_parser_grammar.specs.scaffold.Supported.{supported_in, all_supported_in}
-use Rattle.swc_ecma_parser_grammar.specs.language.Parts.{ReadsWord, PrivateRule, ReadsToken}
+use Rattle.swc_ecma_parser_grammar.specs.language.Parts.{ReadsWord, PrivateRule, PrivateOperandRule, ReadsToken}
 use Rattle.swc_ecma_parser_grammar.specs.Walk as walks
 use Rattle.swc_ecma_parser_grammar.specs.Walk.{walk, tabled}
 use Rattle.swc_ecma_parser_grammar.proofs.Tests.{and_yes, and_both}
@@ -309,6 +309,18 @@ private_sound s e = meets_then _ (touching_word (moved s)) _ (touching_sound (mo
   touches = sym (ap (λ z. z.hi) (last_span s.at)) ∙ r.1;
   is = refl;
 })) p)
+
+-- a private name as the left operand of `in`
+pub private_operand_sound : (s : State) → kind_at s.at ≡ kind.HashIn → Meets (λ x t. SoundTree (λ k. PrivateOperandRule) s x t) (private_name s)
+unfolding private_name spanned
+private_operand_sound s e = meets_then _ (touching_word (moved s)) _ (touching_sound (moved s)) (λ i t p. sound_after s t e refl refl refl (λ r. record {
+  text = i.sym;
+  span = i.span;
+  hash = e;
+  reads_word = r.0;
+  touches = sym (ap (λ z. z.hi) (last_span s.at)) ∙ r.1;
+  is = refl;
+}) p)
 
 pub dotted_sound : (s : State) → Meets (λ x t. SoundTree (λ k. Dotted) s x t) (dotted s)
 unfolding dotted word_property

@@ -86,6 +86,8 @@ module _ {In : Goal → Type 0} {k : Code} where
   primary_assigns (sides.null_rule s r e) = ap is_assign e
   primary_assigns (sides.number_rule raw s r e) = ap is_assign e
   primary_assigns (sides.big_int_rule raw s r e) = ap is_assign e
+  primary_assigns (sides.regex_rule exp flags a r e) = ap is_assign e
+  primary_assigns (sides.template_rule es qs r e) = ap is_assign e
   primary_assigns (sides.this_rule i n e) = ap is_assign e
   primary_assigns (sides.array_rule xs m i r j n e) = ap is_assign e
   primary_assigns (sides.object_rule xs m i r j n e) = ap is_assign e
@@ -101,6 +103,8 @@ module _ {In : Goal → Type 0} {k : Code} where
   primary_first (sides.null_rule s r e) h = clash _ h (ap is_literal e)
   primary_first (sides.number_rule raw s r e) h = clash _ h (ap is_literal e)
   primary_first (sides.big_int_rule raw s r e) h = clash _ h (ap is_literal e)
+  primary_first (sides.regex_rule exp flags a r e) h = clash _ h (ap is_literal e)
+  primary_first (sides.template_rule es qs r e) h = clash _ h (ap is_literal e)
   primary_first (sides.this_rule i n e) h = clash _ h (ap is_literal e)
   primary_first {c = c} (sides.array_rule xs m i r j n e) h = array_first c i
   primary_first {c = c} (sides.object_rule xs m i r j n e) h = object_first c i
@@ -116,6 +120,8 @@ module _ {In : Goal → Type 0} {k : Code} where
   primary_ident text s x c d h (sides.null_rule i r e) = let g = sym h ∙ e in cc
   primary_ident text s x c d h (sides.number_rule raw i r e) = let g = sym h ∙ e in cc
   primary_ident text s x c d h (sides.big_int_rule raw i r e) = let g = sym h ∙ e in cc
+  primary_ident text s x c d h (sides.regex_rule exp flags a r e) = let g = sym h ∙ e in cc
+  primary_ident text s x c d h (sides.template_rule es qs r e) = let g = sym h ∙ e in cc
   primary_ident text s x c d h (sides.this_rule i n e) = let g = sym h ∙ e in cc
   primary_ident text s x c d h (sides.array_rule xs m i r j n e) = let g = sym h ∙ e in cc
   primary_ident text s x c d h (sides.object_rule xs m i r j n e) = let g = sym h ∙ e in cc
@@ -132,6 +138,8 @@ module _ {In : Goal → Type 0} {k : Code} where
   primary_end x c d h (sides.null_rule s r e) = other_form x _ h e refl
   primary_end x c d h (sides.number_rule raw s r e) = other_form x _ h e refl
   primary_end x c d h (sides.big_int_rule raw s r e) = other_form x _ h e refl
+  primary_end x c d h (sides.regex_rule exp flags a r e) = other_form x _ h e refl
+  primary_end x c d h (sides.template_rule es qs r e) = ap (λ z. (span_of z).hi) e
   primary_end x c d h (sides.this_rule i n e) = ap (λ z. (span_of z).hi) e
   primary_end x c d h (sides.array_rule xs m i r j n e) = ap (λ z. (span_of z).hi) e
   primary_end x c d h (sides.object_rule xs m i r j n e) = ap (λ z. (span_of z).hi) e
@@ -144,9 +152,13 @@ module _ {In : Goal → Type 0} {k : Code} where
   left_assigns : {x : Tree} {c d : Place} → LeftSideRule In k x c d → is_assign x ≡ false
   left_assigns (sides.primary_rule r) = primary_assigns r
   left_assigns (sides.import_meta_rule a b w n m e) = ap is_assign e
-  left_assigns (sides.member_rule y p m r a e) = ap is_assign e
+  left_assigns (sides.new_target_rule a b w n e) = ap is_assign e
+  left_assigns (sides.tagged_rule y es qs m r v a e) = ap is_assign e
+  left_assigns (sides.chain_rule y b m r i a e) = ap is_assign e
+  left_assigns (sides.linked_rule y b m r v a e) = ap is_assign e
+  left_assigns (sides.member_rule y p m r v a e) = ap is_assign e
   left_assigns (sides.super_property_rule p i a n e) = ap is_assign e
-  left_assigns (sides.call_rule y xs m r a e) = ap is_assign e
+  left_assigns (sides.call_rule y xs m r v a e) = ap is_assign e
   left_assigns (sides.super_call_rule xs i a e) = ap is_assign e
   left_assigns (sides.import_call_rule xs i a e) = ap is_assign e
   left_assigns (sides.new_rule y xs m i r a e) = ap is_assign e
@@ -155,9 +167,13 @@ module _ {In : Goal → Type 0} {k : Code} where
   left_first : {x : Tree} {c d : Place} → LeftSideRule In k x c d → is_literal x ≡ true → begins_literal c ≡ true
   left_first (sides.primary_rule r) h = primary_first r h
   left_first (sides.import_meta_rule a b w n m e) h = clash _ h (ap is_literal e)
-  left_first (sides.member_rule y p m r a e) h = clash _ h (ap is_literal e)
+  left_first (sides.new_target_rule a b w n e) h = clash _ h (ap is_literal e)
+  left_first (sides.tagged_rule y es qs m r v a e) h = clash _ h (ap is_literal e)
+  left_first (sides.chain_rule y b m r i a e) h = clash _ h (ap is_literal e)
+  left_first (sides.linked_rule y b m r v a e) h = clash _ h (ap is_literal e)
+  left_first (sides.member_rule y p m r v a e) h = clash _ h (ap is_literal e)
   left_first (sides.super_property_rule p i a n e) h = clash _ h (ap is_literal e)
-  left_first (sides.call_rule y xs m r a e) h = clash _ h (ap is_literal e)
+  left_first (sides.call_rule y xs m r v a e) h = clash _ h (ap is_literal e)
   left_first (sides.super_call_rule xs i a e) h = clash _ h (ap is_literal e)
   left_first (sides.import_call_rule xs i a e) h = clash _ h (ap is_literal e)
   left_first (sides.new_rule y xs m i r a e) h = clash _ h (ap is_literal e)
@@ -166,9 +182,13 @@ module _ {In : Goal → Type 0} {k : Code} where
   left_ident : (text : Text) (s : Span) (x : Tree) (c d : Place) → x ≡ tree.ident s text → LeftSideRule In k x c d → ReadsName k text s c d
   left_ident text s x c d h (sides.primary_rule r) = primary_ident text s x c d h r
   left_ident text s x c d h (sides.import_meta_rule a b w n m e) = let g = sym h ∙ e in cc
-  left_ident text s x c d h (sides.member_rule y p m r a e) = let g = sym h ∙ e in cc
+  left_ident text s x c d h (sides.new_target_rule a b w n e) = let g = sym h ∙ e in cc
+  left_ident text s x c d h (sides.tagged_rule y es qs m r v a e) = let g = sym h ∙ e in cc
+  left_ident text s x c d h (sides.chain_rule y b m r i a e) = let g = sym h ∙ e in cc
+  left_ident text s x c d h (sides.linked_rule y b m r v a e) = let g = sym h ∙ e in cc
+  left_ident text s x c d h (sides.member_rule y p m r v a e) = let g = sym h ∙ e in cc
   left_ident text s x c d h (sides.super_property_rule p i a n e) = let g = sym h ∙ e in cc
-  left_ident text s x c d h (sides.call_rule y xs m r a e) = let g = sym h ∙ e in cc
+  left_ident text s x c d h (sides.call_rule y xs m r v a e) = let g = sym h ∙ e in cc
   left_ident text s x c d h (sides.super_call_rule xs i a e) = let g = sym h ∙ e in cc
   left_ident text s x c d h (sides.import_call_rule xs i a e) = let g = sym h ∙ e in cc
   left_ident text s x c d h (sides.new_rule y xs m i r a e) = let g = sym h ∙ e in cc
@@ -178,9 +198,13 @@ module _ {In : Goal → Type 0} {k : Code} where
   unfolding spanned
   left_end x c d h (sides.primary_rule r) = primary_end x c d h r
   left_end x c d h (sides.import_meta_rule a b w n m e) = ap (λ z. (span_of z).hi) e
-  left_end x c d h (sides.member_rule y p m r a e) = ap (λ z. (span_of z).hi) e
+  left_end x c d h (sides.new_target_rule a b w n e) = ap (λ z. (span_of z).hi) e
+  left_end x c d h (sides.tagged_rule y es qs m r v a e) = ap (λ z. (span_of z).hi) e
+  left_end x c d h (sides.chain_rule y b m r i a e) = ap (λ z. (span_of z).hi) e
+  left_end x c d h (sides.linked_rule y b m r v a e) = ap (λ z. (span_of z).hi) e
+  left_end x c d h (sides.member_rule y p m r v a e) = ap (λ z. (span_of z).hi) e
   left_end x c d h (sides.super_property_rule p i a n e) = ap (λ z. (span_of z).hi) e
-  left_end x c d h (sides.call_rule y xs m r a e) = ap (λ z. (span_of z).hi) e
+  left_end x c d h (sides.call_rule y xs m r v a e) = ap (λ z. (span_of z).hi) e
   left_end x c d h (sides.super_call_rule xs i a e) = ap (λ z. (span_of z).hi) e
   left_end x c d h (sides.import_call_rule xs i a e) = ap (λ z. (span_of z).hi) e
   left_end x c d h (sides.new_rule y xs m i r a e) = ap (λ z. (span_of z).hi) e
@@ -204,6 +228,7 @@ module _ {In : Goal → Type 0} {k : Code} where
   binary_assigns (expressions.single_rule r) = unary_assigns r
   binary_assigns (expressions.left_rule op l y m a g o r f s i j e) = ap is_assign e
   binary_assigns (expressions.power_rule l y m a r f g s e) = ap is_assign e
+  binary_assigns (expressions.private_in_rule y z m l g r i a e) = ap is_assign e
 
   unary_first : {x : Tree} {c d : Place} → UnaryRule In k x c d → is_literal x ≡ true → begins_literal c ≡ true
   unary_first (expressions.operand_rule r) h = left_first r.0 h
@@ -216,6 +241,7 @@ module _ {In : Goal → Type 0} {k : Code} where
   binary_first (expressions.single_rule r) h = unary_first r h
   binary_first (expressions.left_rule op l y m a g o r f s i j e) h = clash _ h (ap is_literal e)
   binary_first (expressions.power_rule l y m a r f g s e) h = clash _ h (ap is_literal e)
+  binary_first (expressions.private_in_rule y z m l g r i a e) h = clash _ h (ap is_literal e)
 
   -- ---- AssignmentExpression
 

@@ -17,7 +17,7 @@ use Rattle.swc_ecma_parser_grammar.specs.language.Operators.{update_operator}
 use Rattle.swc_ecma_parser_grammar.proofs.StatementBegins.{word_place}
 use Rattle.swc_ecma_parser_grammar.proofs.Tests.{and_yes}
 use Rattle.swc_ecma_parser_reader.specs.Methods.{FunctionForm, expression_form, class_form, modifies, begins_async_method}
-use Rattle.swc_ecma_parser_reader.specs.Expressions.{literal_of, postfix_at}
+use Rattle.swc_ecma_parser_reader.specs.Expressions.{literal_of, regex_of, text_of, postfix_at}
 use Rattle.swc_ecma_parser_reader.specs.AsyncArrows.{begins_async_arrow}
 use Rattle.swc_ecma_parser_reader.specs.Yields.{begins_yield}
 use Rattle.swc_ecma_parser_reader.proofs.Errors.{is_error}
@@ -45,6 +45,15 @@ postfix_stands c op h = no_error_by update_operator (kind_at c) op refl (by_line
 pub literal_stands : (span : Span) (v : Token) (x : Tree) → literal_of span v ≡ Some x → is_out_of_memory v ≡ false
 literal_stands span (token.Error e) x h = cc
 literal_stands span _ x h = refl
+
+-- nor is a regular expression, nor the text of a template
+pub regex_stands : (span : Span) (v : Token) (x : Tree) → regex_of span v ≡ Some x → is_out_of_memory v ≡ false
+regex_stands span (token.Error e) x h = cc
+regex_stands span _ x h = refl
+
+pub text_stands : (span : Span) (v : Token) (x : Tree) → text_of span v ≡ Some x → is_out_of_memory v ≡ false
+text_stands span (token.Error e) x h = cc
+text_stands span _ x h = refl
 
 -- words that begin something
 pub modified : (text : Text) (c : Place) → modifies text c ≡ true → kind_at c ≡ kind.Ident

@@ -1,5 +1,5 @@
 -- What goes on with an array or object is no array or object any more: one that was read stands where it did.
-use Rattle.std.proofs.Common.{◌≡◌, ℕ, Bool, true, false, Option, Some, None, Ok, Err, refl, true≢false, sym}
+use Rattle.std.proofs.Common.{◌≡◌, ℕ, Bool, true, false, cond, Option, Some, None, Ok, Err, refl, true≢false, sym}
 use Rattle.std.specs.Prelude.{◌||◌}
 use Rattle.swc_ecma_parser_common.specs.declared.span.Span.{Span}
 use Rattle.swc_ecma_parser_error.specs.Kind as faults
@@ -8,13 +8,14 @@ use Rattle.swc_ecma_parser_model.specs.declared.operators.UpdateOp.{UpdateOp}
 use Rattle.swc_ecma_parser_model.specs.declared.operators.BinaryOp.{BinaryOp}
 use Rattle.swc_ecma_parser_model.specs.declared.operators.AssignOp.{AssignOp}
 use Rattle.swc_ecma_parser_model.specs.Tree.{Tree}
-use Rattle.swc_ecma_parser_model.specs.Forms.{is_simple_target}
+use Rattle.swc_ecma_parser_model.specs.Forms.{is_simple_target, is_chain}
 use Rattle.swc_ecma_parser_grammar.specs.Looks.{kind_at, sees}
+use Rattle.swc_ecma_parser_grammar.specs.Follows.{begins_template}
 use Rattle.swc_ecma_parser_grammar.specs.language.Goals.{Class, assignment}
 use Rattle.swc_ecma_parser_grammar.specs.language.Operators.{assign_operator, mixes}
 use Rattle.swc_ecma_parser_grammar.specs.language.Continues.{continues_conditional}
 use Rattle.swc_ecma_parser_reader.specs.State.{State, Outcome, Reader, moved, expect}
-use Rattle.swc_ecma_parser_reader.specs.Expressions.{Cover, heads_arrow, simple, update_behind, behind_operand, postfix_at, right_class, operator_at, left_operand, unmixed, unassigned, unheaded, inside, access, arguments, accessed, called, left_turn, left_from, operated, binary_by, binary_turn, binary_from, conditional, assigned_to, assigned, assigned_or, behind_operators, postfixed, continued, is_literal}
+use Rattle.swc_ecma_parser_reader.specs.Expressions.{Cover, heads_arrow, simple, update_behind, behind_operand, postfix_at, right_class, operator_at, left_operand, unmixed, unassigned, unheaded, inside, access, arguments, accessed, called, chain_of, template_pieces, tagged, tagged_by, behind_question, chained, left_turn, left_from, operated, binary_by, binary_turn, binary_from, conditional, assigned_to, assigned, assigned_or, behind_operators, postfixed, continued, is_literal}
 use Rattle.swc_ecma_parser_reader.proofs.Meets.{Meets, Refuses, meets_then, meets_if, wanted_meets, Turned, loop_answers}
 use Rattle.swc_ecma_parser_reader.proofs.expressions.SoundSteps.{reject_meets}
 
@@ -40,11 +41,27 @@ module _ (inner : Class → Reader Tree) (cover : Reader Cover) (t : State) wher
   unfolding called
   called_stays start x u = meets_then _ (arguments inner cover true u) _ (read (arguments inner cover true u)) (λ _ _ _ h. moved_on h)
 
+  -- as a link of a chain too
+  link_stays : (b : Bool) (y : Tree) (u : State) → Stays y u → Stays (cond b (chain_of false y) y) u
+  link_stays true y u p = λ h. moved_on h
+  link_stays false y u p = p
+
+  tagged_stays : (start : Span) (x : Tree) (u : State) → Meets Stays (tagged inner cover start x u)
+  unfolding tagged tagged_by
+  tagged_stays start x u = meets_if _ (is_chain x) _ _ (λ _. wanted_meets _ faults.Unexpected u)
+      (λ _. meets_then _ (template_pieces inner cover true u) _ (read (template_pieces inner cover true u)) (λ _ _ _ h. moved_on h))
+
+  chained_stays : (start : Span) (x : Tree) (u : State) → Meets Stays (chained inner cover start x u)
+  unfolding chained
+  chained_stays start x u = meets_then _ (behind_question inner cover start x (moved u)) _ (read (behind_question inner cover start x (moved u))) (λ _ _ _ h. moved_on h)
+
   left_turn_stays : (start : Span) (x : Tree) (u : State) → Stays x u → Meets (Turned (left_turn inner cover true start) Stays Stays Refuses) (left_turn inner cover true start x u)
   unfolding left_turn
   left_turn_stays start x u p = meets_if _ (sees kind.Dot u.at || sees kind.LBracket u.at) _ _
-      (λ _. meets_then _ (accessed inner cover start x u) _ (accessed_stays start x u) (λ _ _ q. q))
-      (λ _. meets_if _ (sees kind.LParen u.at) _ _ (λ _. meets_then _ (called inner cover start x u) _ (called_stays start x u) (λ _ _ q. q)) (λ _. p))
+      (λ _. meets_then _ (accessed inner cover start x u) _ (accessed_stays start x u) (λ y v q. link_stays (is_chain x) y v q))
+      (λ _. meets_if _ (sees kind.LParen u.at) _ _ (λ _. meets_then _ (called inner cover start x u) _ (called_stays start x u) (λ y v q. link_stays (is_chain x) y v q))
+      (λ _. meets_if _ (begins_template u.at) _ _ (λ _. meets_then _ (tagged inner cover start x u) _ (tagged_stays start x u) (λ _ _ q. q))
+      (λ _. meets_if _ (sees kind.QuestionDot u.at) _ _ (λ _. meets_then _ (chained inner cover start x u) _ (chained_stays start x u) (λ _ _ q. q)) (λ _. p))))
 
   left_stays : (start : Span) (x : Tree) (u : State) → Stays x u → Meets Stays (left_from inner cover true start x u)
   unfolding left_from

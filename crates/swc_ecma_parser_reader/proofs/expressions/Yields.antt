@@ -1,5 +1,5 @@
 -- In a generator `yield` is neither a name nor what an operand begins with, and what is yielded does not begin with `*`.
-use Rattle.std.proofs.Common.{◌≡◌, Bool, true, false, List, [], ◌∷◌, Ok, None, refl, sym, ◌∙◌, subst, codes}
+use Rattle.std.proofs.Common.{◌≡◌, Bool, true, false, List, [], ◌∷◌, Ok, None, refl, sym, ◌∙◌, ap, subst, codes}
 use Rattle.std.specs.Prelude.{◌||◌, ◌&&◌}
 use Rattle.swc_ecma_parser_common.specs.declared.span.Span.{Span}
 use Rattle.swc_ecma_parser_error.specs.Kind as faults
@@ -24,7 +24,7 @@ use Rattle.swc_ecma_parser_grammar.specs.language.Goals.{Class}
 use Rattle.swc_ecma_parser_grammar.proofs.Tests.{and_yes, and_both, and_no, or_none}
 use Rattle.swc_ecma_parser_reader.specs.State.{State, Reader}
 use Rattle.swc_ecma_parser_reader.specs.Methods.{FunctionForm}
-use Rattle.swc_ecma_parser_reader.specs.Expressions.{Cover, literal, literal_of, literal_in, marked_primary, primary, left_head, left, postfix, unary_expr, binary_expr, operators_expr}
+use Rattle.swc_ecma_parser_reader.specs.Expressions.{first_operand, Cover, literal, literal_of, literal_in, marked_primary, primary, left_head, left, postfix, unary_expr, binary_expr, operators_expr}
 use Rattle.swc_ecma_parser_reader.specs.Yields.{begins_yield}
 use Rattle.swc_ecma_parser_reader.proofs.Meets.{Meets, meets_then, wanted_meets, saw}
 use Rattle.swc_ecma_parser_reader.proofs.expressions.Covers.{met}
@@ -50,6 +50,7 @@ yield_word f word.Null s g e = cc
 yield_word f word.True s g e = cc
 yield_word f word.False s g e = cc
 yield_word f (word.Ident text) s g e = cc
+yield_word f (word.Escaped text) s g e = cc
 yield_word f (word.Keyword k) s g e = (yield_keyword f k g e, refl)
 
 yield_token : (f : Context) (t : Token) (s : Span) → f.in_generator ≡ true → token_kind t ≡ kind.Yield → (token_is_identifier f t ≡ false) × (literal_of s t ≡ None)
@@ -94,9 +95,13 @@ module _ (inner : Class → Reader Tree) (cover : Reader Cover) (function : Func
     unfolding unary_expr same_kind
     unary_none = rw (e, other_awaits s.code.flags s.at e refl, e) postfix_none
 
+    first_none : Meets Nothing (first_operand inner cover function 1 s)
+    unfolding first_operand same_kind
+    first_none = rw (ap (λ k. same_kind k kind.HashIn) e) unary_none
+
     operators_none : Meets Nothing (operators_expr inner cover function s)
     unfolding operators_expr binary_expr
-    operators_none = meets_then Nothing (binary_expr inner cover function 1 s) _ (meets_then Nothing (unary_expr inner cover function s) _ unary_none (λ x t h. absurd h)) (λ x t h. absurd h)
+    operators_none = meets_then Nothing (binary_expr inner cover function 1 s) _ (meets_then Nothing (first_operand inner cover function 1 s) _ first_none (λ x t h. absurd h)) (λ x t h. absurd h)
 
   pub never_yields : (s : State) (x : Tree) (t : State) → operators_expr inner cover function s ≡ Ok (x, t) → begins_yield s.code.flags s.at ≡ false
   unfolding begins_yield
@@ -125,7 +130,7 @@ star_here f c e = star_first f c.left e
 
 star_begins_nothing : (f : Context) (c : Place) → kind_at c ≡ kind.Mul → begins_expression f c ≡ false
 unfolding begins_expression begins_unary same_kind
-star_begins_nothing f c e = or_none _ _ (or_none (begins_operand (kind_at c)) _ (rw e refl) (star_here f c e)) (and_no f.in_generator _ (rw e refl))
+star_begins_nothing f c e = or_none _ _ (or_none (begins_operand (kind_at c)) _ (rw e refl) (star_here f c e)) (or_none _ _ (rw e refl) (and_no f.in_generator _ (rw e refl)))
 
 pub begun_no_star : (f : Context) (c : Place) → begins_expression f c ≡ true → sees kind.Mul c ≡ false
 begun_no_star f c h = by_test (sees kind.Mul c) refl

@@ -40,7 +40,8 @@ use Rattle.swc_ecma_parser_reader.proofs.Takes.{Falls, moves, takes}
 use Rattle.swc_ecma_parser_reader.proofs.Steps.{loop_more, loop_done}
 use Rattle.swc_ecma_parser_reader.proofs.expressions.Covers.{begins_literal, literal_kind}
 use Rattle.swc_ecma_parser_reader.proofs.expressions.CompleteKinds as kinds
-use Rattle.swc_ecma_parser_reader.proofs.expressions.CompleteKinds.{supported_as, seen, array_here, object_here, begin_kind, begin_seen, element_begins, ends_part, part_calm, ended_at}
+use Rattle.swc_ecma_parser_reader.proofs.expressions.CompleteKinds.{supported_as, seen, array_here, object_here, begin_kind, begin_seen, element_begins}
+use Rattle.swc_ecma_parser_reader.proofs.expressions.PartEnds.{ends_part, part_calm, ended_at}
 use Rattle.swc_ecma_parser_grammar.proofs.Naming.{name_is_name}
 use Rattle.swc_ecma_parser_reader.proofs.expressions.Loops.{shorter_by}
 use Rattle.swc_ecma_parser_reader.proofs.expressions.CompleteParts.{expect_reads, name_reads, IsRead, Behind, behind_last, inside_reads, key_reads}

@@ -15,7 +15,8 @@ use Rattle.swc_ecma_parser_reader.specs.Expressions.{Cover, inside, key}
 use Rattle.swc_ecma_parser_reader.specs.Patterns.{binding, rest, array_turn, elements, parameters_turn, parameter_list, array, rest_name, rest_property, key_value, initialized_name, bare_name, named, bare_key, behind_key, property, object_turn, properties, object, pattern_level, initialized, element_level}
 use Rattle.swc_ecma_parser_reader.proofs.Meets.{Answers, answers_then, answers_if, saw}
 use Rattle.swc_ecma_parser_reader.proofs.Behind.{NothingLost, Kept, Lost, Passes, flagged_kept, behind_after, behind_seen, wanted_keeps, expect_keeps, name_keeps, loop_keeps, as_name_keeps}
-use Rattle.swc_ecma_parser_reader.proofs.expressions.Keeps.{unexpected_keeps, inside_keeps, key_keeps}
+use Rattle.swc_ecma_parser_reader.proofs.expressions.Keeps.{inside_keeps, key_keeps}
+use Rattle.swc_ecma_parser_reader.proofs.expressions.KeepSteps.{unexpected_keeps}
 
 binding_keeps : (b : State) (s : State) → NothingLost b s → Answers (Kept b) (Lost b) (binding s)
 unfolding binding

@@ -1,23 +1,17 @@
--- The tokens and comments of a lexer at the start of the text; or none, where neither are asked for.
-use Rattle.std.proofs.Common.{◌∙◌, ap}
-use Rattle.swc_ecma_parser_input.specs.TokenSource.{TokenSource}
-use Rattle.ecma_answers.proofs.Deciding.{begins}
-use Rattle.ecma_answers.proofs.Drawing.{comments_drawn, fields_drawn, fields_none}
+-- The fields in the language that is asked for; or none, where neither comments nor tokens are.
+use Rattle.ecma_answers.specs.declared.options.Language.TheVariants as language
+use Rattle.ecma_answers.specs.Spelled.{view_tree}
+use Rattle.ecma_answers.proofs.Drawing.{fields_none, in_language, of_plain}
 use Rattle.ecma_answers.proofs.tree.fields_of.Goals as goal
 
 pub returns-then-not-options-2 : goal.returns-then-not-options-2
 returns-then-not-options-2 c =
-    fields_none c.args.options c.args.places.now.text c.if-not-options.true c.if-not-options-2.true c.new.result.items c.new.ensures.items
+    fields_none c.args.options c.args.places.now.text (view_tree c.args.tree.now) c.if-not-options.true c.if-not-options-2.true c.new.result.items c.new.ensures.items
 
-pub returns : goal.returns
-returns c =
-    let o = c.args.options in
-    let text = c.args.places.now.text in
-    let input = c.new-input in
-    let lexer = c.new-lexer in
-    let given = input.ensures.src ∙ c.text-text.ensures in
-    let source = lexer.ensures.source ∙ begins o.syntax input.result.start input.result.src.now text input.ensures.start given in
-    let tokens = c.as_slice-2.ensures.value ∙ (c.in_ok-tokens.ensures.tokens ∙ ap (λ (s : TokenSource). s.left) source) in
-    let comments = comments_drawn o.comments input.result.start input.result.src.now text lexer.result.comments _ lexer.result.place _ c.as_slice.result.now
-    input.ensures.start given lexer.ensures.comments c.in_ok-tokens.ensures.comments (c.as_slice.ensures.value ∙ c.in_ok-comments.ensures.comments) c.in_ok-comments.ensures.lossy in
-    fields_drawn (λ x. x.items) c.written_fields.result o text c.args.places.now c.as_slice.result.now c.as_slice-2.result.now c.requires.places tokens comments c.written_fields.ensures
+pub returns-in-Plain : goal.returns-in-Plain
+returns-in-Plain c =
+    of_plain (λ y. y.items) c.plain_fields.result c.args.options.language c.args.options c.args.places.now.text (view_tree c.args.tree.now) c.in-Plain.is c.plain_fields.ensures
+
+pub returns-in-Whole : goal.returns-in-Whole
+returns-in-Whole c =
+    in_language (λ y. y.items) c.whole_fields.result c.args.options.language language.Whole c.args.options c.args.places.now.text (view_tree c.args.tree.now) c.in-Whole.is c.whole_fields.ensures

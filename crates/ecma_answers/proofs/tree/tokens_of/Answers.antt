@@ -2,7 +2,7 @@
 use Rattle.std.proofs.Common.{◌∙◌, ◌++◌, ap, sym}
 use Rattle.swc_ecma_parser_lexer.specs.Tokens.{tokens_at}
 use Rattle.swc_ecma_parser_lexer.proofs.Collections.{reads-none}
-use Rattle.ecma_answers.proofs.Drawing.{drawn_all, drawn_more, fewer, reads_on}
+use Rattle.ecma_answers.proofs.Drawing.{drawn_all, drawn_more, ended_none, fewer, reads_on}
 use Rattle.ecma_answers.proofs.tree.tokens_of.Goals as goal
 
 pub loop-token-init : goal.loop-token-init
@@ -30,3 +30,6 @@ returns-clause-tokens c =
 
 pub returns-clause-comments : goal.returns-clause-comments
 returns-clause-comments c = reads_on _ _ _ _ _ _ c.loop-token.invariant.comments c.next.ensures.comments
+
+pub returns-clause-ended : goal.returns-clause-ended
+returns-clause-ended c = ended_none c.next.result c.next.ensures.ended c.in_default.not-Some

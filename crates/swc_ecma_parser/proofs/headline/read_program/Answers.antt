@@ -25,4 +25,4 @@ returns g c =
     let stands = whole_stands view_program source limit n is s t fs taken left len r ahead call.ensures.stays (of_answer r call.ensures.sound (λ y p. p.whole)) in
     headline view_program source limit n is s t fs taken left len r ahead d stands programs.program
     (program_exactly view_program source limit n is s t fs taken left len r ahead d stands (g.met.I.Tokens.ordered c.args.input) call.ensures.decides)
-    call.ensures.walk call.ensures.reads call.ensures.fits (outright view_program source limit n is s t fs taken left len r ahead call.ensures.outright)
+    call.ensures.walk call.ensures.reads call.ensures.refuses call.ensures.fits (outright view_program source limit n is s t fs taken left len r ahead call.ensures.outright)

@@ -25,4 +25,4 @@ returns g c =
     let stands = whole_stands view_script source limit n is s t fs taken left len r ahead call.ensures.stays (of_answer r call.ensures.sound (λ y p. p.whole)) in
     headline view_script source limit n is s t fs taken left len r ahead d stands programs.script
     (plain_exactly view_script source limit n is s t fs taken left len r ahead d stands programs.script call.ensures.decides)
-    call.ensures.walk call.ensures.reads call.ensures.fits (outright view_script source limit n is s t fs taken left len r ahead call.ensures.outright)
+    call.ensures.walk call.ensures.reads call.ensures.refuses call.ensures.fits (outright view_script source limit n is s t fs taken left len r ahead call.ensures.outright)

@@ -25,5 +25,5 @@ returns-clause-headline g c =
     let stands = answer_at r t d (ap (λ p. p.state.at) (sym c.take_errors-faults.ensures.state)) in
     headline view_stmt source limit n is s t fs taken left len r ahead d stands (programs.stmt_list_item c.args.top_level)
     (plain_exactly view_stmt source limit n is s t fs taken left len r ahead d stands (programs.stmt_list_item c.args.top_level) call.ensures.decides)
-    call.ensures.walk call.ensures.reads call.ensures.fits
+    call.ensures.walk call.ensures.reads call.ensures.refuses call.ensures.fits
     (at_end view_stmt source limit n is s t fs taken left len r ahead (ap (λ z. z.at.last) new.ensures.kept) call.ensures.at_end)

@@ -16,6 +16,7 @@ returns-in-Err-clause-ends g c =
         same = told.same;
         plain = told.plain;
         back = told.back;
+        faults = told.faults;
         flags = told.flags;
         labels = told.labels;
         noted = told.noted;

@@ -1,6 +1,8 @@
+use Rattle.std.proofs.Common.{ap}
+use Rattle.swc_ecma_parser_grammar.specs.language.Programs as programs
 use Rattle.swc_ecma_parser_reader.specs.Entry.{unmarked}
 use Rattle.swc_ecma_parser_state.specs.Contents.{seen}
-use Rattle.swc_ecma_parser_entries.proofs.Ended.{ended_fault, ended_memory, ended_restored, item_ended}
+use Rattle.swc_ecma_parser_entries.proofs.Ended.{ended_fault, ended_memory, ended_restored, item_ended, refuses_ended}
 use Rattle.swc_ecma_parser_entries.proofs.entry.item_from.Goals as goal
 
 pub returns-clause-answers : goal.returns-clause-answers
@@ -16,3 +18,6 @@ returns-clause-ahead g c = λ h. ended_memory c.flags-outer.result c.found_modul
 pub returns-clause-at_end : goal.returns-clause-at_end
 returns-clause-at_end g c = λ h. let p = c.item_in-read.ensures.at_end (seen c.args.state) c.begin-call.ensures h in
     ended_fault c.flags-outer.result c.found_module_item-found_module_item.result c.item_in-read.new.call (seen c.ended.result.0) _ _ _ c.ended.ensures.ends p.0 p.1
+
+pub returns-clause-refuses : goal.returns-clause-refuses
+returns-clause-refuses g c = refuses_ended c.flags-outer.result c.found_module_item-found_module_item.result c.item_in-read.new.call (seen c.ended.result.0) programs.module_item c.args.limit (unmarked (seen c.args.state)) _ _ c.ended.ensures.ends (c.item_in-read.ensures.refuses (seen c.args.state) c.begin-call.ensures) _ (ap (λ k. k.«module») c.flags-outer.ensures)

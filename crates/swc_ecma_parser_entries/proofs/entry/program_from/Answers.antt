@@ -1,6 +1,8 @@
+use Rattle.std.proofs.Common.{ap}
+use Rattle.swc_ecma_parser_grammar.specs.language.Programs as programs
 use Rattle.swc_ecma_parser_reader.specs.Entry.{unmarked}
 use Rattle.swc_ecma_parser_state.specs.Contents.{seen}
-use Rattle.swc_ecma_parser_entries.proofs.Ended.{ended_ok, ended_memory, ended_restored, program_ended}
+use Rattle.swc_ecma_parser_entries.proofs.Ended.{ended_ok, ended_memory, ended_restored, program_ended, refuses_ended}
 use Rattle.swc_ecma_parser_entries.proofs.entry.program_from.Goals as goal
 
 pub returns-clause-answers : goal.returns-clause-answers
@@ -15,3 +17,6 @@ returns-clause-refused g c = ended_restored c.flags-outer.result c.found_module_
 
 pub returns-clause-ahead : goal.returns-clause-ahead
 returns-clause-ahead g c = λ h. ended_memory c.flags-outer.result c.found_module_item-found_module_item.result c.program_in-read.new.call (seen c.ended.result.0) _ _ c.ended.ensures.ends (c.program_in-read.ensures.ahead (seen c.args.state) c.begin-call.ensures h)
+
+pub returns-clause-refuses : goal.returns-clause-refuses
+returns-clause-refuses g c = refuses_ended c.flags-outer.result c.found_module_item-found_module_item.result c.program_in-read.new.call (seen c.ended.result.0) programs.program c.args.limit (unmarked (seen c.args.state)) _ _ c.ended.ensures.ends (c.program_in-read.ensures.refuses (seen c.args.state) c.begin-call.ensures c.flags-outer.ensures) _ (ap (λ k. k.«module») c.flags-outer.ensures)

@@ -9,3 +9,8 @@ pub returns-clause-answers : goal.returns-clause-answers
 returns-clause-answers g c = λ s is f.
     let e = begun_unmarked s c.args.call.now is (sym c.is_marked.ensures ∙ c.if-is_marked.false) in
     c.program_body-read.ensures.answers (unmarked s) f (c.enter_program.ensures ∙ ap (λ z. coded (program_code z.code) z) e)
+
+pub returns-clause-refuses : goal.returns-clause-refuses
+returns-clause-refuses g c = λ s is f.
+    let e = begun_unmarked s c.args.call.now is (sym c.is_marked.ensures ∙ c.if-is_marked.false) in
+    c.program_body-read.ensures.refuses (unmarked s) f (c.enter_program.ensures ∙ ap (λ z. coded (program_code z.code) z) e)

@@ -12,6 +12,7 @@ use Rattle.swc_ecma_parser_module_items.specs.Front.{front_of}
 use Rattle.swc_ecma_parser_module_reader.proofs.EmptyPrograms.{nothing_before, none_mapped}
 use Rattle.swc_ecma_parser_module_reader.proofs.ProgramCode.{front_module}
 use Rattle.swc_ecma_parser_module_reader.proofs.ProgramLoops.{answers_first, answers_before, answers_script, answers_module, answers_behind}
+use Rattle.swc_ecma_parser_entries.proofs.Programs.{first_refuses, front_refuses, items_refuse}
 use Rattle.swc_ecma_parser_entries.proofs.program.program_body.Goals as goal
 
 pub returns-in_err-shebang-clause-answers : goal.returns-in_err-shebang-clause-answers
@@ -83,3 +84,26 @@ returns-clause-answers g c = λ s e f.
     answers_module _ g.T.BuildsItem.program_of c.args.limit s first _ (ap shebang (sym f) ∙ c.in_ok-shebang.ensures.gives) front u c.in_ok-front.ensures.gives
     (sym c.is_script.ensures ∙ c.if-is_script.false) recorded v enters noted body w c.in_ok-body.ensures.gives c.module_program.result
     (c.module_program.ensures ∙ c.module.ensures ∙ ap (λ z. tree.module_program z (listed body) first) span)
+
+pub returns-in_err-shebang-clause-refuses : goal.returns-in_err-shebang-clause-refuses
+returns-in_err-shebang-clause-refuses g c =
+    let p = err_from_is_err_and c.from_residual.result c.from_residual.ensures.1 in
+    rw (p.1, p.2) (λ s e f m. first_refuses c.args.limit s _ _ (ap shebang (sym f) ∙ c.in_err-shebang.ensures.gives m))
+
+pub returns-in_err-front-clause-refuses : goal.returns-in_err-front-clause-refuses
+returns-in_err-front-clause-refuses g c =
+    let p = err_from_is_err_and c.from_residual-in_err-front.result c.from_residual-in_err-front.ensures.1 in
+    rw (p.1, p.2) (λ s e f m. front_refuses c.args.limit s _ _ (ap shebang (sym f) ∙ c.in_ok-shebang.ensures.gives) _ _ (c.in_err-front.ensures.gives m))
+
+pub returns-in_err-body-clause-refuses : goal.returns-in_err-body-clause-refuses
+returns-in_err-body-clause-refuses g c =
+    let p = err_from_is_err_and c.from_residual-in_err-body.result c.from_residual-in_err-body.ensures.1 in
+    let u = c.statements.new.p in
+    let v = c.enter_module.new.self in
+    let front = front_of g.T.Trees.stmt_of g.T.BuildsFunction.decorator_of c.in_ok-front.front in
+    let (recorded, faults, noted) = c.enter_module.ensures.faults in
+    let enters : v ≡ entered recorded u =
+    λ i. record { at = c.enter_module.ensures.at i; code = c.enter_module.ensures.code i; scope = c.enter_module.ensures.scope i; faults = faults i; notes = c.enter_module.ensures.found i } in
+    rw (p.1, p.2) (λ s e f m.
+    items_refuse c.args.limit s _ _ (ap shebang (sym f) ∙ c.in_ok-shebang.ensures.gives) front u c.in_ok-front.ensures.gives
+    (sym c.is_script.ensures ∙ c.if-is_script.false) recorded v enters noted _ _ (c.in_err-body.ensures.gives m))

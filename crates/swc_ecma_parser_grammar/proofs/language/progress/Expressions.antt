@@ -1,5 +1,6 @@
 -- Whatever is read takes at least one token: expressions, patterns, functions, classes and decorators, from the parts on.
 use Rattle.std.proofs.Common.{ℕ, Bool, true, false, List, [], ◌∷◌, refl}
+use Rattle.swc_ecma_parser_common.specs.declared.span.Span.{Span}
 use Rattle.swc_ecma_parser_input.specs.Place.{Place, after}
 use Rattle.swc_ecma_parser_model.specs.declared.leaves.MethodKind.{MethodKind}
 use Rattle.swc_ecma_parser_model.specs.Tree.{Tree, Text}
@@ -11,7 +12,7 @@ use Rattle.swc_ecma_parser_grammar.specs.language.Contexts.{in_class, with_in}
 use Rattle.swc_ecma_parser_grammar.specs.language.Lists as lists
 use Rattle.swc_ecma_parser_grammar.specs.language.Lists.{ReadsEach, LastComma, ReadsListed, Elements, ReadsSeparated}
 use Rattle.swc_ecma_parser_grammar.specs.language.Parts as parts
-use Rattle.swc_ecma_parser_grammar.specs.language.Parts.{ReadsName, ReadsWord, OptionalName, PrivateRule, ComputedRule, KeyRule, AccessRule, ElementRule, ArgumentsRule}
+use Rattle.swc_ecma_parser_grammar.specs.language.Parts.{ReadsName, ReadsWord, OptionalName, PrivateRule, PrivateOperandRule, ComputedRule, KeyRule, AccessRule, ElementRule, ArgumentsRule}
 use Rattle.swc_ecma_parser_grammar.specs.language.Items.{nested_item, directed, directs_on, ItemsRule, BlockRule}
 use Rattle.swc_ecma_parser_grammar.specs.Follows as follows
 use Rattle.swc_ecma_parser_grammar.specs.Follows.{Star, AsyncWord}
@@ -22,6 +23,10 @@ use Rattle.swc_ecma_parser_grammar.specs.language.Classes as classes
 use Rattle.swc_ecma_parser_grammar.specs.language.Classes.{DecoratorRule, DecoratorsRule, behind_modifier, MemberKeyRule, FieldValueRule, CoreRule, has_accessor, is_static_word, MemberRule, HeritageRule, ClassRule}
 use Rattle.swc_ecma_parser_grammar.specs.language.Objects as objects
 use Rattle.swc_ecma_parser_grammar.specs.language.Objects.{PropertyRule}
+use Rattle.swc_ecma_parser_grammar.specs.language.Templates as templates
+use Rattle.swc_ecma_parser_grammar.specs.language.Templates.{TemplateRest, TemplateRule}
+use Rattle.swc_ecma_parser_grammar.specs.language.Links as links
+use Rattle.swc_ecma_parser_grammar.specs.language.Links.{LinkRule}
 use Rattle.swc_ecma_parser_grammar.specs.language.LeftSides as sides
 use Rattle.swc_ecma_parser_grammar.specs.language.LeftSides.{PrimaryRule, LeftSideRule}
 use Rattle.swc_ecma_parser_grammar.specs.language.Patterns as patterns
@@ -74,6 +79,9 @@ optional_name (parts.a_name text s r a) = goes (name r)
 
 pub private_name : {x : Tree} {c d : Place} → PrivateRule x c d → Advances c d
 private_name r = token r.hash refl ▸▸ word r.reads_word
+
+pub private_operand : {x : Tree} {c d : Place} → PrivateOperandRule x c d → Advances c d
+private_operand r = token r.hash refl ▸▸ word r.reads_word
 
 pub async_word : {is_async : Bool} {c d : Place} → AsyncWord is_async c d → Onward c d
 async_word (follows.not_async a e) = stays e
@@ -161,7 +169,7 @@ module _ (In : Goal → Type 0) (go : (g : Goal) → In g → Advances (begin g)
   member_key (classes.member_key r) = key r
   member_key (classes.private_key s w text r a b) = private_name r
 
-  pub field_value : {k : Code} {y x : Tree} {c d : Place} → FieldValueRule In k y x c d → Onward c d
+  pub field_value : {k : Code} {start : Place} {x : Tree} {c d : Place} → FieldValueRule In k start x c d → Onward c d
   field_value (classes.no_value a b e i j) = stays i
   field_value (classes.a_value h r) = any_token ▹▹ goes (inner r)
 
@@ -194,6 +202,22 @@ module _ (In : Goal → Type 0) (go : (g : Goal) → In g → Advances (begin g)
   property {k} (objects.setter_rule y p body r a) = method (KeyRule In k) (λ x m n q. key q) r
   property {k} (objects.method_rule is_async is_generator y ps body r a) = method (KeyRule In k) (λ x m n q. key q) r
 
+  -- ---- templates and links
+
+  pub template_rest : {tagged : Bool} {k : Code} {es qs : List Tree} {c d : Place} → TemplateRest In tagged k es qs c d → Advances c d
+  template_rest (templates.last_text e q m r t a b) = inner r ▸▸ one t.reads_text
+  template_rest (templates.more_texts e q es qs m i r t s a b) = inner r ▸▸ one t.reads_text ▸▸ template_rest s
+
+  pub template : {tagged : Bool} {k : Code} {es qs : List Tree} {c d : Place} → TemplateRule In tagged k es qs c d → Advances c d
+  template (templates.only_text q t a b) = one t.reads_text
+  template (templates.first_text q qs m t r a) = one t.reads_text ▸▸ template_rest r
+
+  pub link : {k : Code} {behind_question : Bool} {s : Span} {o b : Tree} {c d : Place} → LinkRule In k behind_question s o b c d → Advances c d
+  link (links.name_link text s h r e) = word r
+  link (links.private_link p h r e) = private_name r
+  link (links.access_link p h r e) = access r
+  link (links.arguments_link xs r e) = arguments r
+
   -- ---- primary and left-hand-side expressions
 
   pub primary : {k : Code} {x : Tree} {c d : Place} → PrimaryRule In k x c d → Advances c d
@@ -204,6 +228,8 @@ module _ (In : Goal → Type 0) (go : (g : Goal) → In g → Advances (begin g)
   primary (sides.null_rule s r a) = one r
   primary (sides.number_rule w s r a) = one r
   primary (sides.big_int_rule w s r a) = one r
+  primary (sides.regex_rule exp flags s r e) = one r
+  primary (sides.template_rule es qs r e) = template r
   primary (sides.this_rule h e a) = token_to h refl e
   primary {k} (sides.array_rule es m h r g e a) = token h refl ▸▹ elements (ElementRule In k) (λ x i j q. element q) r ▹▹ any_token_to e
   primary {k} {c = c} (sides.object_rule ps m h r g e a) = token h refl ▸▹ listed (PropertyRule In k) (λ x i j q. property q) true ps (after c) m r ▹▹ any_token_to e
@@ -214,9 +240,13 @@ module _ (In : Goal → Type 0) (go : (g : Goal) → In g → Advances (begin g)
   pub left_side_rule : {k : Code} {x : Tree} {c d : Place} → LeftSideRule In k x c d → Advances c d
   left_side_rule (sides.primary_rule r) = primary r
   left_side_rule (sides.import_meta_rule h g w e a b) = token h refl ▸▹ any_token ▹▹ any_token_to e
-  left_side_rule (sides.member_rule o p m r q a) = left_side_rule r ▸▸ access q
+  left_side_rule (sides.new_target_rule H G W N e) = token H refl ▸▹ any_token ▹▹ any_token_to N
+  left_side_rule (sides.member_rule o p m r n q a) = left_side_rule r ▸▸ access q
   left_side_rule (sides.super_property_rule p h q a b) = any_token ▹▸ access q
-  left_side_rule (sides.call_rule f xs m r q a) = left_side_rule r ▸▸ arguments q
+  left_side_rule (sides.call_rule f xs m r n q a) = left_side_rule r ▸▸ arguments q
+  left_side_rule (sides.tagged_rule t es qs m r N q e) = left_side_rule r ▸▸ template q
+  left_side_rule (sides.chain_rule o b m r H q e) = left_side_rule r ▸▹ any_token ▹▹ goes (link q)
+  left_side_rule (sides.linked_rule o b m r N q e) = left_side_rule r ▸▸ link q
   left_side_rule (sides.super_call_rule xs h q a) = any_token ▹▸ arguments q
   left_side_rule (sides.import_call_rule xs h q a) = any_token ▹▸ arguments q
   left_side_rule (sides.new_rule f xs m h r q a) = any_token ▹▸ inner r ▸▸ arguments q
@@ -255,6 +285,7 @@ module _ (In : Goal → Type 0) (go : (g : Goal) → In g → Advances (begin g)
   binary_rule (exprs.single_rule r) = unary_rule r
   binary_rule (exprs.left_rule op y z m l a b r h q e f g) = binary_rule r ▸▹ any_token ▹▹ goes (inner q)
   binary_rule (exprs.power_rule y z m l r a h q b) = unary_rule r ▸▹ any_token ▹▹ goes (inner q)
+  binary_rule (exprs.private_in_rule y z m l b r H q e) = private_operand r ▸▹ any_token ▹▹ goes (inner q)
 
   pub arrow_head : {k : Code} {ps : List Tree} {c d : Place} → ArrowHeadRule In k ps c d → Advances c d
   arrow_head (exprs.name_head p r a b) = inner r

@@ -65,6 +65,8 @@ module _ (In : Goal → Type 0) where
   primary (sides.null_rule s r e) = ap span_of e ∙ token_span r
   primary (sides.number_rule w s r e) = ap span_of e ∙ token_span r
   primary (sides.big_int_rule w s r e) = ap span_of e ∙ token_span r
+  primary (sides.regex_rule exp flags s r e) = ap span_of e ∙ token_span r
+  primary (sides.template_rule es qs r e) = ap span_of e
   primary (sides.this_rule h i e) = ap span_of e
   primary (sides.array_rule es m h r g i e) = ap span_of e
   primary (sides.object_rule ps m h r g i e) = ap span_of e
@@ -75,9 +77,13 @@ module _ (In : Goal → Type 0) where
   pub left_side_rule : {k : Code} {x : Tree} {c d : Place} → LeftSideRule In k x c d → span_of x ≡ spanned c d
   left_side_rule (sides.primary_rule r) = primary r
   left_side_rule (sides.import_meta_rule h g w i b e) = ap span_of e
-  left_side_rule (sides.member_rule o p m r q e) = ap span_of e
+  left_side_rule (sides.new_target_rule H G W N e) = ap span_of e
+  left_side_rule (sides.member_rule o p m r n q e) = ap span_of e
   left_side_rule (sides.super_property_rule p h q b e) = ap span_of e
-  left_side_rule (sides.call_rule f xs m r q e) = ap span_of e
+  left_side_rule (sides.call_rule f xs m r n q e) = ap span_of e
+  left_side_rule (sides.tagged_rule t es qs m r N q e) = ap span_of e
+  left_side_rule (sides.chain_rule o b m r H q e) = ap span_of e
+  left_side_rule (sides.linked_rule o b m r N q e) = ap span_of e
   left_side_rule (sides.super_call_rule xs h q e) = ap span_of e
   left_side_rule (sides.import_call_rule xs h q e) = ap span_of e
   left_side_rule (sides.new_rule f xs m h r q e) = ap span_of e
@@ -94,6 +100,7 @@ module _ (In : Goal → Type 0) where
   binary_rule (exprs.single_rule r) = unary_rule r
   binary_rule (exprs.left_rule op y z m l a b r h q f g e) = ap span_of e
   binary_rule (exprs.power_rule y z m l r a h q e) = ap span_of e
+  binary_rule (exprs.private_in_rule y z m l b r H q e) = ap span_of e
 
   pub assignment_rule : {k : Code} {x : Tree} {c d : Place} → AssignmentRule In k x c d → span_of x ≡ spanned c d
   assignment_rule (exprs.operators_rule r a) = binary_rule r

@@ -3,15 +3,14 @@ use Rattle.std.specs.Str.{chars}
 use Rattle.std.proofs.lemmas.Str.{IsCharBoundary-from_drop}
 use Rattle.swc_ecma_parser_lexer.specs.Blanks.{is_blank, is_break}
 use Rattle.swc_ecma_parser_lexer.specs.Collected.{comments}
-use Rattle.swc_ecma_parser_lexer.specs.Tokens.{tokens}
-use Rattle.swc_ecma_parser_lexer.proofs.Blanks.{tokens-blank, comments-blank, over-blank}
+use Rattle.swc_ecma_parser_lexer.proofs.Blanks.{blind-blank, comments-blank, over-blank}
 use Rattle.swc_ecma_parser_lexer.proofs.blank.blanks.Goals as goal
 
 pub loop-at-init : goal.loop-at-init
 loop-at-init c = record {
   within = omega arith;
   utf8 = c.utf8.text;
-  tokens = λ start n. ap (λ k. tokens start k c.args.broken (chars c.args.text.now)) {x = n} {y = n + 0} (omega arith);
+  skipped = λ f blind n. ap (λ k. f k c.args.broken (chars c.args.text.now)) {x = n} {y = n + 0} (omega arith);
   comments = λ start n. ap (λ k. comments start k (chars c.args.text.now)) {x = n} {y = n + 0} (omega arith);
 }
 
@@ -29,10 +28,10 @@ loop-at-preserved c =
     record {
       within = omega arith;
       utf8 = o.0;
-      tokens = λ start n.
-          c.loop-at.invariant.tokens start n ∙ ap (tokens start (n + at) had) o.1 ∙ tokens-blank start (n + at) had b behind blank
-          ∙ ap (λ k. tokens start k (had || is_break b) behind) {x = n + at + 1} {y = n + (at + 1)} (omega arith)
-          ∙ ap (λ v. tokens start (n + (at + 1)) (had || v) behind) after;
+      skipped = λ f blind n.
+          c.loop-at.invariant.skipped f blind n ∙ ap (f (n + at) had) o.1 ∙ blind-blank f blind (n + at) had b behind blank
+          ∙ ap (λ k. f k (had || is_break b) behind) {x = n + at + 1} {y = n + (at + 1)} (omega arith)
+          ∙ ap (λ v. f (n + (at + 1)) (had || v) behind) after;
       comments = λ start n.
           c.loop-at.invariant.comments start n ∙ ap (comments start (n + at)) o.1 ∙ comments-blank start (n + at) b behind blank
           ∙ ap (λ k. comments start k behind) {x = n + at + 1} {y = n + (at + 1)} (omega arith);
@@ -41,9 +40,9 @@ loop-at-preserved c =
 pub range_from-requires : goal.range_from-requires
 range_from-requires c = λ _. IsCharBoundary-from_drop c.args.text.now c.loop-at.at c.loop-at.invariant.within c.loop-at.invariant.utf8
 
-pub returns-clause-tokens : goal.returns-clause-tokens
-returns-clause-tokens c =
-    λ start n. c.loop-at.invariant.tokens start n ∙ ap (λ xs. tokens start (n + c.loop-at.at) c.loop-at.had_line_break (chars xs)) (sym c.range_from.ensures.value)
+pub returns-clause-skipped : goal.returns-clause-skipped
+returns-clause-skipped c =
+    λ f blind n. c.loop-at.invariant.skipped f blind n ∙ ap (λ xs. f (n + c.loop-at.at) c.loop-at.had_line_break (chars xs)) (sym c.range_from.ensures.value)
 
 pub returns-clause-comments : goal.returns-clause-comments
 returns-clause-comments c =
@@ -51,3 +50,6 @@ returns-clause-comments c =
 
 pub returns-clause-size : goal.returns-clause-size
 returns-clause-size c = omega (arith, c.loop-at.invariant.within, ap length c.range_from.ensures.value, length-drop c.loop-at.at c.args.text.now)
+
+pub returns-clause-rest : goal.returns-clause-rest
+returns-clause-rest c = c.range_from.ensures.value

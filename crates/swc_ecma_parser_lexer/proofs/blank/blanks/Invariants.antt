@@ -1,14 +1,14 @@
 use Rattle.std.proofs.Common.{◌≡◌, ℕ, ◌+◌, ◌-◌, ◌≤◌, length, drop}
 use Rattle.std.specs.Str.{chars, IsUtf8}
 use Rattle.swc_ecma_parser_lexer.specs.Collected.{comments}
-use Rattle.swc_ecma_parser_lexer.specs.Tokens.{tokens}
+use Rattle.swc_ecma_parser_lexer.specs.Tokens.{IsSkipped}
 use Rattle.swc_ecma_parser_lexer.proofs.blank.blanks.Given as goal
 
 abbrev pub invariant-loop-at : goal.invariant-loop-at
 invariant-loop-at l = record {
   within : l.at ≤ length l.text;
   utf8 : IsUtf8 (drop l.at l.text);
-  tokens : (start n : ℕ) → tokens start n l.broken (chars l.text) ≡ tokens start (n + l.at) l.had_line_break (chars (drop l.at l.text));
+  skipped : IsSkipped l.broken l.text l.at l.had_line_break (drop l.at l.text);
   comments : (start n : ℕ) → comments start n (chars l.text) ≡ comments start (n + l.at) (chars (drop l.at l.text));
 }
 

@@ -20,6 +20,7 @@ use Rattle.swc_ecma_parser_state.specs.Contents.{seen}
 use Rattle.swc_ecma_parser.proofs.Kept.{kept_is, lasts, tells, scope_told, walked_told}
 use Rattle.swc_ecma_parser_grammar.specs.language.Programs as programs
 use Rattle.swc_ecma_parser.specs.Reading.{IsReading}
+use Rattle.swc_ecma_parser_entries.specs.Refusals.{Refuses}
 use Rattle.swc_ecma_parser.proofs.parser.Parser.parse_module.Goals as goal
 
 pub returns-clause-sound : goal.returns-clause-sound
@@ -75,3 +76,6 @@ returns-clause-keeps g c = rw (← (kept_is _ _ _ _ (sym c.take.ensures.value �
 
 pub returns-clause-reads : goal.returns-clause-reads
 returns-clause-reads g c = subst (λ (p : Parsing). IsReading view_module programs.«module» p.limit (unmarked p.state) c.module-state.result.1 (seen c.module-state.result.0)) (kept_is _ _ _ _ (sym c.take.ensures.value ∙ c.unwrap-state.ensures) c.self.view_is) c.module-state.ensures.answers
+
+pub returns-clause-refuses : goal.returns-clause-refuses
+returns-clause-refuses g c = subst (λ (p : Parsing). Refuses p.state.code.flags.«module» programs.«module» p.limit (unmarked p.state) c.module-state.result.1 (seen c.module-state.result.0)) (kept_is _ _ _ _ (sym c.take.ensures.value ∙ c.unwrap-state.ensures) c.self.view_is) c.module-state.ensures.refuses

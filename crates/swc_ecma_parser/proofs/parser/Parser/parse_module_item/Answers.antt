@@ -15,6 +15,7 @@ use Rattle.swc_ecma_parser_state.specs.Contents.{seen}
 use Rattle.swc_ecma_parser.proofs.Kept.{kept_is, lasts, tells, scope_told, walked_told}
 use Rattle.swc_ecma_parser_grammar.specs.language.Programs as programs
 use Rattle.swc_ecma_parser.specs.Reading.{IsReading}
+use Rattle.swc_ecma_parser_entries.specs.Refusals.{Refuses}
 use Rattle.swc_ecma_parser.proofs.parser.Parser.parse_module_item.Goals as goal
 
 pub returns-clause-sound : goal.returns-clause-sound
@@ -70,3 +71,6 @@ returns-clause-keeps g c = rw (← (kept_is _ _ _ _ (sym c.take.ensures.value �
 
 pub returns-clause-reads : goal.returns-clause-reads
 returns-clause-reads g c = subst (λ (p : Parsing). IsReading view_module_item programs.module_item p.limit (unmarked p.state) c.item-state.result.1 (seen c.item-state.result.0)) (kept_is _ _ _ _ (sym c.take.ensures.value ∙ c.unwrap-state.ensures) c.self.view_is) c.item-state.ensures.answers
+
+pub returns-clause-refuses : goal.returns-clause-refuses
+returns-clause-refuses g c = subst (λ (p : Parsing). Refuses p.state.code.flags.«module» programs.module_item p.limit (unmarked p.state) c.item-state.result.1 (seen c.item-state.result.0)) (kept_is _ _ _ _ (sym c.take.ensures.value ∙ c.unwrap-state.ensures) c.self.view_is) c.item-state.ensures.refuses

@@ -16,6 +16,7 @@ use Rattle.swc_ecma_parser_state.specs.Contents.{seen}
 use Rattle.swc_ecma_parser.proofs.Kept.{kept_is, lasts, tells, scope_told, walked_told}
 use Rattle.swc_ecma_parser_grammar.specs.language.Programs as programs
 use Rattle.swc_ecma_parser.specs.Reading.{IsReading}
+use Rattle.swc_ecma_parser_entries.specs.Refusals.{Refuses}
 use Rattle.swc_ecma_parser.proofs.parser.Parser.parse_stmt_list_item.Goals as goal
 
 pub returns-clause-sound : goal.returns-clause-sound
@@ -71,3 +72,6 @@ returns-clause-keeps g c = rw (← (kept_is _ _ _ _ (sym c.take.ensures.value �
 
 pub returns-clause-reads : goal.returns-clause-reads
 returns-clause-reads g c = subst (λ (p : Parsing). IsReading view_stmt (programs.stmt_list_item c.args.top_level) p.limit (unmarked p.state) c.statement-state.result.1 (seen c.statement-state.result.0)) (kept_is _ _ _ _ (sym c.take.ensures.value ∙ c.unwrap-state.ensures) c.self.view_is) c.statement-state.ensures.answers
+
+pub returns-clause-refuses : goal.returns-clause-refuses
+returns-clause-refuses g c = subst (λ (p : Parsing). Refuses p.state.code.flags.«module» (programs.stmt_list_item c.args.top_level) p.limit (unmarked p.state) c.statement-state.result.1 (seen c.statement-state.result.0)) (kept_is _ _ _ _ (sym c.take.ensures.value ∙ c.unwrap-state.ensures) c.self.view_is) c.statement-state.ensures.refuses

@@ -7,6 +7,9 @@ use Rattle.swc_ecma_parser_model.specs.Size.{tree_size}
 use Rattle.swc_ecma_parser_model.specs.Held.{Held}
 use Rattle.swc_ecma_parser_ast.specs.Nodes.{view_any}
 use Rattle.swc_ecma_parser_ast.specs.Falls.{le_any}
+use Rattle.swc_ecma_parser_ast.specs.declared.call.OptChainBase.{OptChainBase}
+use Rattle.swc_ecma_parser_ast.specs.declared.call.OptChainBase.TheVariants as n
+use Rattle.swc_ecma_parser_ast.specs.declared.call.OptChainExpr.{OptChainExpr}
 use Rattle.swc_ecma_parser_ast.specs.declared.expr.Expr.{Expr}
 use Rattle.swc_ecma_parser_ast.specs.declared.expr.Expr.TheVariants as e
 use Rattle.swc_ecma_parser_ast.specs.declared.pat.Pat.{Pat}
@@ -40,6 +43,10 @@ stmt_at p g v = a.Stmt (record { ptr = p; alloc = g; value = v })
 abbrev stmts_at : RawPtr-field.Value → Global → Vec (Stmt Node) Global → Any
 stmts_at p g v = a.Stmts (record { ptr = p; alloc = g; value = v })
 
+-- a link of an optional chain, by its base
+abbrev link_at : OptChainExpr Node → OptChainBase Node → Expr Node
+link_at x b = e.OptChain (record { span = x.span; optional = x.optional; base = record { ptr = x.base.ptr; alloc = x.base.alloc; value = b } })
+
 -- the nodes within are smaller
 within_expr : (p : _) (g : Global) (v : Expr Node)
     → weighed-Any-Expr-0.weight Node (λ y. 2 * (node.size y + 1) + 0) (record { ptr = p; alloc = g; value = v }) ≤ 2 * tree_size (view_any (expr_at p g v)).tree
@@ -62,6 +69,22 @@ discard_args-requires t c κs =
     let at = expr_at c.in-Expr.expr.ptr c.in-Expr.expr.alloc in
     let h = taken at _ _ _ _ c.in-Expr.is c.self.view_is (sym c.in-Call.is ∙ c.into_inner.ensures) in
     let i = within_expr c.in-Expr.expr.ptr c.in-Expr.expr.alloc (e.Call c.in-Call.call) in
+    (((omega (arith, h, i, c.loop-expr.invariant, c.decreases), tt), tt), search rules)
+
+pub discard_tpl-requires : goal.discard_tpl-requires
+discard_tpl-requires t c κs =
+    let at = expr_at c.in-Expr.expr.ptr c.in-Expr.expr.alloc in
+    let h = taken at _ _ _ _ c.in-Expr.is c.self.view_is (sym c.in-TaggedTpl.is ∙ c.into_inner.ensures) in
+    let i = within_expr c.in-Expr.expr.ptr c.in-Expr.expr.alloc (e.TaggedTpl c.in-TaggedTpl.tagged) in
+    (((omega (arith, h, i, c.loop-expr.invariant, c.decreases), tt), tt), search rules)
+
+pub discard_args-requires-in-Call-into_inner : goal.discard_args-requires-in-Call-into_inner
+discard_args-requires-in-Call-into_inner t c κs =
+    let at = expr_at c.in-Expr.expr.ptr c.in-Expr.expr.alloc in
+    let link = link_at c.in-OptChain.link in
+    let same_base = ap link (sym c.in-Call-into_inner.is ∙ c.into_inner-in-OptChain.ensures) in
+    let h = taken at _ _ _ _ c.in-Expr.is c.self.view_is (same_base ∙ sym c.in-OptChain.is ∙ c.into_inner.ensures) in
+    let i = within_expr c.in-Expr.expr.ptr c.in-Expr.expr.alloc (link (n.Call c.in-Call-into_inner.call)) in
     (((omega (arith, h, i, c.loop-expr.invariant, c.decreases), tt), tt), search rules)
 
 pub discard-requires : goal.discard-requires

@@ -1,5 +1,5 @@
 use Rattle.std.proofs.Common.{◌∙◌}
-use Rattle.swc_ecma_parser_ast.proofs.Derived.{derived_text}
+use Rattle.swc_ecma_parser_ast.proofs.DerivedLeaf.{derived_text}
 use Rattle.swc_ecma_parser_ast.proofs.ignore_span.leaves.AtomEqIgnoreSpan.eq_ignore_span.Goals as goal
 
 pub returns : goal.returns

@@ -1,0 +1,4 @@
+pub mod Steps
+pub mod Expressions
+pub mod Statements
+pub mod Entries

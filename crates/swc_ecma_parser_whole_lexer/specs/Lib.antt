@@ -1,0 +1,10 @@
+pub mod Runs
+pub mod Regex
+pub mod Templates
+pub mod Names
+pub mod Old
+pub mod Forms
+pub mod Whole
+pub mod Comments
+pub mod Source
+pub mod Ordered
