@@ -1,11 +1,13 @@
 //! What the words ask for.
 
-ghost use Rattle.std.specs.Prelude.{◌≡◌, IfErr, IfOk, codes, map, option_map};
-ghost use Rattle.clap.specs.Words.{found_of, matched_of, raw_values};
-ghost use Rattle.ecma_check.specs.Command.{IsCheck, files_named};
+ghost use Rattle.std.specs.Prelude.{◌≡◌, IfErr, IfOk, codes, map, option_map, string_bytes};
+ghost use Rattle.clap.specs.Words.{found_of, kind_of, matched_of, raw_values};
+ghost use Rattle.ecma_check.specs.Arguments.{IsAsked, IsSaid};
+ghost use Rattle.ecma_check.specs.Command.{IsCheck, IsWrong, files_named};
 
 use crate::command::{Settings, matches_of, settings_of};
 use crate::fault::Fault;
+use clap::error::ErrorKind;
 use clap::{ArgMatches, Error};
 use ecma_faults::push_name;
 use std::alloc::{AllocError, Global};
@@ -48,7 +50,12 @@ fn text_of(alloc: Global, error: &Error) -> Result<Vec<u8>, AllocError> {
 }
 
 /// What words ask for that name nothing to check. A text that memory ran out for is empty.
-fn said<'a>(alloc: Global, error: &Error) -> Call<'a> {
+fn said<'a>(alloc: Global, error: &Error) -> Call<'a>
+    ensures { IsSaid (kind_of error.now) result }
+{
+    if matches!(error.kind(), ErrorKind::OutOfMemory) {
+        return Call::Fail(Fault::OutOfMemory);
+    }
     match text_of(alloc, error) {
         Ok(text) if text.is_empty() => Call::Fail(Fault::OutOfMemory),
         Ok(text) if error.use_stderr() => Call::Refuse(text),
@@ -72,8 +79,10 @@ fn files_of<'a>(alloc: Global, matches: &ArgMatches<'a>) -> Result<Vec<&'a str>,
 }
 
 /// What is to be checked, and how.
+#[tactic(auto, using(crate::proofs::Names::wrong_memory))]
 fn check_of<'a>(alloc: Global, matches: &ArgMatches<'a>) -> Result<Check<'a>, Fault>
-    ensures { IfOk result
+    ensures wrong { IfErr result (IsWrong (found_of matches.now)) }
+    ensures check { IfOk result
         (λ it. IsCheck (found_of matches.now) it.settings (map (λ file. file.now) it.files.items)) }
 {
     let settings = settings_of(alloc, matches)?;
@@ -84,6 +93,8 @@ fn check_of<'a>(alloc: Global, matches: &ArgMatches<'a>) -> Result<Check<'a>, Fa
 /// What the words ask for, if there are words.
 pub fn asked<'a>(alloc: Global, words: &'a Result<Vec<String>, AllocError>) -> Call<'a>
     ensures wordless { IfErr words.now (λ _. result ≡ Call.Fail Fault.OutOfMemory) }
+    ensures asked { IfOk words.now
+        (λ words. IsAsked (map (λ word. string_bytes word) words.items) result) }
 {
     let words = match words {
         Ok(words) => words,
