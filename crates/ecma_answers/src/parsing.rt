@@ -4,21 +4,27 @@ use swc_ecma_parser::ast::{Module, Program, Script};
 use swc_ecma_parser::error::{Error, PResult};
 
 /// A tree of one of the goals.
-#[derive(Drop)]
 pub enum Tree {
     Script(Script),
     Module(Module),
     Program(Program),
 }
 
-impl Tree {
-    /// Lets the tree go, however deep it is.
-    pub fn discard(self) {
+impl Drop for Tree {
+    /// Drops it as a whole, so that what lies in it is not proved to be dropped here again.
+    fn drop(self) {
         match self {
             Tree::Script(tree) => tree.discard(),
             Tree::Module(tree) => tree.discard(),
             Tree::Program(tree) => tree.discard(),
         }
+    }
+}
+
+impl Tree {
+    /// Drops the tree, however deep it is.
+    pub fn discard(self) {
+        drop(self);
     }
 }
 

@@ -264,6 +264,67 @@ fn list(alloc: Global, row: &Value, text: &str, asked: Asked) -> Result<TokensIn
     Ok(listed(alloc, tokens(alloc, row, text, asked)?, asked))
 }
 
+/// Writes what of an entry is not right over a list of a row's tokens.
+fn write_over_tokens<R: Print>(
+    alloc: Global,
+    library: Option<&R>,
+    out: &mut String,
+    row: &Value,
+    text: &str,
+    asked: Asked,
+    wanted: &Found,
+) -> Result<(), AllocError> {
+    write_over!(
+        alloc,
+        library,
+        out,
+        list(alloc, row, text, asked)?,
+        asked,
+        wanted
+    );
+    Ok(())
+}
+
+/// The same over the lexer.
+fn write_over_lexer<R: Print>(
+    alloc: Global,
+    library: Option<&R>,
+    out: &mut String,
+    text: &str,
+    asked: Asked,
+    wanted: &Found,
+) -> Result<(), AllocError> {
+    write_over!(
+        alloc,
+        library,
+        out,
+        lexer(alloc, text, asked),
+        asked,
+        wanted
+    );
+    Ok(())
+}
+
+/// The same over a source that keeps the lexer's tokens.
+fn write_over_kept<R: Print>(
+    alloc: Global,
+    library: Option<&R>,
+    out: &mut String,
+    text: &str,
+    asked: Asked,
+    wanted: &Found,
+) -> Result<(), AllocError> {
+    write_over!(
+        alloc,
+        library,
+        out,
+        Capturing::new(alloc, lexer(alloc, text, asked)),
+        asked,
+        wanted
+    );
+    Ok(())
+}
+
 /// Writes what of an entry is not right over each source.
 fn write_entry<R: Print>(
     alloc: Global,
@@ -274,34 +335,12 @@ fn write_entry<R: Print>(
     asked: Asked,
 ) -> Result<(), AllocError> {
     let wanted = read(alloc, list(alloc, row, text, asked)?, asked)?;
-    write_over!(
-        alloc,
-        library,
-        out,
-        list(alloc, row, text, asked)?,
-        asked,
-        &wanted
-    );
+    write_over_tokens(alloc, library, out, row, text, asked, &wanted)?;
     if row.get("errors").is_some() {
         return Ok(());
     }
-    write_over!(
-        alloc,
-        library,
-        out,
-        lexer(alloc, text, asked),
-        asked,
-        &wanted
-    );
-    write_over!(
-        alloc,
-        library,
-        out,
-        Capturing::new(alloc, lexer(alloc, text, asked)),
-        asked,
-        &wanted
-    );
-    Ok(())
+    write_over_lexer(alloc, library, out, text, asked, &wanted)?;
+    write_over_kept(alloc, library, out, text, asked, &wanted)
 }
 
 /// Whether the copy of a token is want of memory, or is equal.

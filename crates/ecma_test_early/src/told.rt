@@ -101,7 +101,10 @@ fn read_as_script(
 ) -> Result<(), AllocError> {
     let (answer, faults) = read_script(alloc, source, LIMIT);
     let written = write_script(alloc, out, &answer, faults.as_slice());
-    let_go(answer);
+    match answer {
+        Ok(script) => script.discard(),
+        Err(error) => let_go(error),
+    }
     written
 }
 
@@ -113,7 +116,10 @@ fn read_as_module(
 ) -> Result<(), AllocError> {
     let (answer, faults) = read_module(alloc, source, LIMIT);
     let written = write_module(alloc, out, &answer, faults.as_slice());
-    let_go(answer);
+    match answer {
+        Ok(module) => module.discard(),
+        Err(error) => let_go(error),
+    }
     written
 }
 
@@ -125,7 +131,10 @@ fn read_as_program(
 ) -> Result<(), AllocError> {
     let (answer, faults) = read_program(alloc, source, LIMIT);
     let written = write_program(alloc, out, &answer, faults.as_slice());
-    let_go(answer);
+    match answer {
+        Ok(program) => program.discard(),
+        Err(error) => let_go(error),
+    }
     written
 }
 

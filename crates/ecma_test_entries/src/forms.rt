@@ -28,12 +28,26 @@ fn write_script(out: &mut String, script: &Script) -> Result<(), AllocError> {
 
 /// What a script comes to: its expressions, or why there is none; and each fault.
 fn told(alloc: Global, answer: PResult<Script>, faults: Vec<Error>) -> Result<String, AllocError> {
+    let described = described(alloc, &answer, faults.as_slice());
+    match answer {
+        Ok(script) => script.discard(),
+        Err(error) => drop(error),
+    }
+    described
+}
+
+/// The same of an answer that its owner drops.
+fn described(
+    alloc: Global,
+    answer: &PResult<Script>,
+    faults: &[Error],
+) -> Result<String, AllocError> {
     let mut out = String::new(alloc);
-    match &answer {
+    match answer {
         Ok(script) => write_script(&mut out, script)?,
         Err(error) => write_fault(&mut out, error)?,
     }
-    for fault in faults.as_slice() {
+    for fault in faults {
         out.push_str(" beside ")?;
         write_fault(&mut out, fault)?;
     }

@@ -3,6 +3,7 @@
 use std::alloc::{AllocError, Global};
 use std::test::Fail;
 use swc_ecma_parser::Parser;
+use swc_ecma_parser::ast::{Module, ModuleItem, Program, Script, Stmt};
 use swc_ecma_parser::common::{BytePos, Spanned};
 use swc_ecma_parser::error::{Error, PResult};
 use swc_ecma_parser::headline::{
@@ -31,14 +32,64 @@ fn write_fault(out: &mut String, error: &Error) -> Result<(), AllocError> {
     write!(out, " {kind} {low}..{high}")
 }
 
+/// A tree, which is dropped as a whole: what is dropped otherwise is proved here for each type that stands in it.
+trait Tree: Spanned {
+    /// Drops it.
+    fn discard(self);
+}
+
+impl Tree for Script {
+    fn discard(self) {
+        Script::discard(self);
+    }
+}
+
+impl Tree for Module {
+    fn discard(self) {
+        Module::discard(self);
+    }
+}
+
+impl Tree for Program {
+    fn discard(self) {
+        Program::discard(self);
+    }
+}
+
+impl Tree for ModuleItem {
+    fn discard(self) {
+        ModuleItem::discard(self);
+    }
+}
+
+impl Tree for Stmt {
+    fn discard(self) {
+        Stmt::discard(self);
+    }
+}
+
 /// Where a tree stands, or why there is none; and each fault.
-fn told<X: Spanned + Drop>(
+fn told<X: Tree>(
     alloc: Global,
     answer: PResult<X>,
     faults: Vec<Error>,
 ) -> Result<String, AllocError> {
+    let described = described(alloc, &answer, faults.as_slice());
+    match answer {
+        Ok(tree) => tree.discard(),
+        Err(error) => drop(error),
+    }
+    described
+}
+
+/// The same of an answer that its owner drops.
+fn described<X: Spanned>(
+    alloc: Global,
+    answer: &PResult<X>,
+    faults: &[Error],
+) -> Result<String, AllocError> {
     let mut out = String::new(alloc);
-    match &answer {
+    match answer {
         Ok(tree) => {
             let span = tree.span();
             let low = span.lo.0;
@@ -50,7 +101,7 @@ fn told<X: Spanned + Drop>(
             write_fault(&mut out, error)?;
         }
     }
-    for fault in faults.as_slice() {
+    for fault in faults {
         write_fault(&mut out, fault)?;
     }
     Ok(out)

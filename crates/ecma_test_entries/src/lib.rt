@@ -1,6 +1,9 @@
-//! Tests of parsers that no row can be: what they hand out beside trees and faults.
+//! Tests of parsers that no row can be: what they hand out beside trees and faults, and how far they read ahead.
 #![tactic(auto)]
 
+mod counting;
+#[cfg(test)]
+mod draws;
 #[cfg(test)]
 mod forms;
 #[cfg(test)]
@@ -11,3 +14,5 @@ mod lists;
 mod parsers;
 #[cfg(test)]
 mod shapes;
+
+pub use counting::Counting;

@@ -9,7 +9,6 @@ use Rattle.swc_ecma_parser_model.specs.Tree.{Tree}
 use Rattle.swc_ecma_parser_reader.specs.State.{State, Outcome, and_then, pure, too_deep, GivesAs}
 use Rattle.swc_ecma_parser_reader.specs.Expressions as exprs
 use Rattle.swc_ecma_parser_reader.specs.Classes.{class_of}
-use Rattle.swc_ecma_parser_reader.specs.DecoratorLevels.{decorated_in}
 use Rattle.swc_ecma_parser_reader.specs.Members.{class_expr}
 use Rattle.swc_ecma_parser_reader.specs.Reader as rules
 use Rattle.swc_ecma_parser_reader.proofs.expressions.Loops.{cover_lowest, head_lowest, behind_lowest, cover_above, head_above, behind_above}
@@ -21,6 +20,12 @@ use Rattle.swc_ecma_parser_knot.specs.declared.covering.Covering.{Covering}
 use Rattle.swc_ecma_parser_knot.specs.declared.covering.Covering.TheVariants as covering
 use Rattle.swc_ecma_parser_knot.proofs.Refusals.{too_deep_as}
 use Rattle.swc_ecma_parser_reader.proofs.AwaitWords.{await_lowest, await_above}
+use Rattle.swc_ecma_parser_reader.proofs.decorators.Loops.{decorated_lowest, decorated_above}
+use Rattle.swc_ecma_parser_reader.proofs.Objects.{object_lowest, object_above}
+
+-- an expression that stays one
+abbrev pub as_done : Outcome Tree → Outcome exprs.Cover
+as_done o = and_then o (λ x. pure (exprs.done x))
 
 module _ (n : ℕ) (s : State) where
   pub covered_refused : (place : Covering) (e : Fault × State) → n ≡ 0 → ◌≡◌ {A = Outcome Tree} (too_deep s) (Err e) → covered n place s ≡ Err e
@@ -28,25 +33,21 @@ module _ (n : ℕ) (s : State) where
   covered_refused covering.Head e h k = head_lowest n s h ∙ too_deep_as {A = Tree} {B = exprs.Cover} s e k
   covered_refused (covering.Behind start) e h k = behind_lowest n start s h ∙ too_deep_as {A = Tree} {B = exprs.Cover} s e k
   covered_refused (covering.BehindAwait start) e h k = await_lowest n start s h ∙ too_deep_as {A = Tree} {B = exprs.Cover} s e k
+  covered_refused covering.Decorated e h k = ap as_done (decorated_lowest n s h ∙ k)
+  covered_refused covering.Object e h k = ap as_done (object_lowest n s h ∙ k)
 
   pub covered_above : (place : Covering) → 0 < n → covered n place s ≡ covered_level (n - 1) place s
   covered_above covering.Whole h = cover_above n s h
   covered_above covering.Head h = head_above n s h
   covered_above (covering.Behind start) h = behind_above n start s h
   covered_above (covering.BehindAwait start) h = await_above n start s h
+  covered_above covering.Decorated h = ap as_done (decorated_above n s h)
+  covered_above covering.Object h = ap as_done (object_above n s h)
 
   -- a class that is an expression, as what is read with it
   pub read_class : (asked : Reading) (o : Outcome Tree) → asked ≡ reading.Class → class_expr (rules.expr n left_side) (rules.member n) s ≡ o → read n asked s ≡ and_then o (λ x. pure (exprs.done x))
   unfolding rules.function rules.function_by
   read_class asked o e h = ap (λ a. read n a s) e ∙ ap (λ o. and_then o (λ x. pure (exprs.done x))) h
-
-  -- so is what stands behind the `@` of a decorator
-  pub read_decorated : (asked : Reading) (o : Outcome Tree) → asked ≡ reading.Decorated → decorated_in n s ≡ o → read n asked s ≡ and_then o (λ x. pure (exprs.done x))
-  read_decorated asked o e h = ap (λ a. read n a s) e ∙ ap (λ o. and_then o (λ x. pure (exprs.done x))) h
-
-  -- an object alone, as what is read with it
-  pub read_object : (asked : Reading) (o : Outcome Tree) → asked ≡ reading.Object → rules.object_alone n s ≡ o → read n asked s ≡ and_then o (λ x. pure (exprs.done x))
-  read_object asked o e h = ap (λ a. read n a s) e ∙ ap (λ o. and_then o (λ x. pure (exprs.done x))) h
 
   pub read_expr : (asked : Reading) (class : Class) (o : Outcome Tree) → asked ≡ reading.Expr class → rules.expr n (class_of class) s ≡ o → read n asked s ≡ and_then o (λ x. pure (exprs.done x))
   read_expr asked class o e h = ap (λ a. read n a s) e ∙ ap (λ o. and_then o (λ x. pure (exprs.done x))) h

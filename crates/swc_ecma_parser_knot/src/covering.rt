@@ -1,8 +1,8 @@
-//! Where something stands that may still become a pattern.
+//! What is read as something that may still become a pattern.
 
 use swc_ecma_parser_common::Span;
 
-/// Where something stands that may still become a pattern.
+/// What is read as something that may still become a pattern, by where it stands.
 #[derive(Clone, Copy)]
 pub enum Covering {
     /// Anywhere in an expression.
@@ -13,4 +13,8 @@ pub enum Covering {
     Behind(Span),
     /// At the beginning of a statement, but for the word `await`, which was taken: its span.
     BehindAwait(Span),
+    /// Behind the `@` of a decorator, where it stays an expression.
+    Decorated,
+    /// Where only an object may stand, whatever is behind it, as the attributes of an import; it stays an expression.
+    Object,
 }

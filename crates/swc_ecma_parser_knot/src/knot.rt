@@ -22,40 +22,67 @@ ghost use Rattle.swc_ecma_parser_reader.specs.Reader as rules;
 ghost use Rattle.swc_ecma_parser_reader.specs.State.{Gives, GivesAs};
 
 use crate::covering::Covering;
-use crate::levels::cover_level;
-use swc_ecma_parser_classes::class::{NamedClass, class_decl_with, class_expr_with};
+use crate::rule::{ClassRule, Rule};
+use crate::rules::{
+    ClassDeclaration, ClassExpression, DeclarationEnd, Declarators, Expression, FunctionParts,
+    LeadingDecorators, Member, ObjectAlone, Statement, Variables,
+};
+use swc_ecma_parser_classes::class::NamedClass;
 use swc_ecma_parser_classes::readers::ClassGrammar;
 use swc_ecma_parser_common::Span;
-use swc_ecma_parser_control::stmt::level;
 use swc_ecma_parser_cursor::{Cursor, Wanted};
 use swc_ecma_parser_error::{PResult, SyntaxError};
-use swc_ecma_parser_functions::function::{Manner, function_parts_with, function_word, star};
+use swc_ecma_parser_functions::function::{Manner, function_word, star};
 use swc_ecma_parser_grammar::{Class, Position};
-use swc_ecma_parser_literals::object::object_level;
-use swc_ecma_parser_members::decorators::{Leading, leading_decorators, misplaced};
-use swc_ecma_parser_members::member::member_level;
+use swc_ecma_parser_members::decorators::{Leading, misplaced};
 use swc_ecma_parser_model::VarDeclKind;
-use swc_ecma_parser_operators::decorator::decorated_level;
-use swc_ecma_parser_operators::operator::expr_level;
-use swc_ecma_parser_patterns::pat::{element_level, pattern_level};
-use swc_ecma_parser_recovery::recovery::declaration_end;
 use swc_ecma_parser_shared::cover::{Cover, Reading, done};
 use swc_ecma_parser_shared::grammar::{Grammar, Part};
-use swc_ecma_parser_shared::steps::{grown, since, with_in};
-use swc_ecma_parser_statements::variables::declarators;
+use swc_ecma_parser_shared::steps::grown;
 use swc_ecma_parser_token::TokenKind;
 use swc_ecma_parser_trees::{BuildsStatements, MakerOf};
 
-/// The readers of what stands in so many levels.
-macro_rules! readers {
-    ($depth:expr) => {
-        Grammar {
-            depth: $depth,
-            stmt: stmt::<P, T>,
-            expr: expr::<P, T>,
-            pat: pat::<P, T>,
-        }
+/// What is read by the readers of so many levels.
+#[cycle(knot)]
+#[inline(always)]
+fn descend<P: Cursor, T: BuildsStatements, R: Rule<P, T>>(
+    t: &MakerOf<T>,
+    p: &mut P,
+    depth: usize,
+    rule: R,
+    given: R::Given,
+) -> PResult<R::Answer>
+    requires { R.allowed rule (P.seen p.now) }
+    ensures { R.gives depth rule given (P.seen p.old) result (P.seen p.new) }
+{
+    let g = Grammar {
+        depth,
+        stmt: stmt::<P, T>,
+        expr: expr::<P, T>,
+        pat: pat::<P, T>,
     };
+    rule.read(given, &g, t, p)
+}
+
+/// What is read by the readers of a class in so many levels, behind its decorators.
+#[cycle(knot)]
+#[inline(always)]
+fn descend_class<P: Cursor, T: BuildsStatements, R: ClassRule<P, T>>(
+    t: &MakerOf<T>,
+    p: &mut P,
+    depth: usize,
+    rule: R,
+    decorators: Vec<T::Decorator>,
+) -> PResult<R::Answer>
+    ensures { R.gives depth rule (map T.decorator_of decorators.items) (P.seen p.old) result
+        (P.seen p.new) }
+{
+    let c = ClassGrammar {
+        depth,
+        expr: expression::<P, T>,
+        member: member::<P, T>,
+    };
+    rule.read(&c, t, p, decorators)
 }
 
 /// A statement in so many levels. It takes one level off, and decides whether decorators begin here.
@@ -100,8 +127,7 @@ pub fn plain_stmt<P: Cursor, T: BuildsStatements>(
     if p.sees(TokenKind::Class) {
         return class_statement::<P, T>(t, p, depth, at);
     }
-    let g = readers!(depth);
-    level(&g, t, p, at)
+    descend::<P, T, Statement>(t, p, depth, Statement { at }, ())
 }
 
 /// Whether decorators begin here.
@@ -131,8 +157,7 @@ pub fn leading<P: Cursor, T: BuildsStatements>(
     ensures { GivesAs (leading_of T.decorator_of)
         (decorators.leading (decorated_in depth) (P.seen p.old)) result (P.seen p.new) }
 {
-    let g = readers!(depth);
-    leading_decorators(&g, t, p)
+    descend::<P, T, LeadingDecorators>(t, p, depth, LeadingDecorators, ())
 }
 
 /// A statement that begins with decorators.
@@ -261,8 +286,8 @@ pub fn expr<P: Cursor, T: BuildsStatements>(
         Reading::Cover => covered::<P, T>(t, p, depth, Covering::Whole),
         Reading::Head => covered::<P, T>(t, p, depth, Covering::Head),
         Reading::Class => Ok(done(class_expression::<P, T>(t, p, depth)?)),
-        Reading::Decorated => Ok(done(decorated::<P, T>(t, p, depth)?)),
-        Reading::Object => Ok(done(object_alone::<P, T>(t, p, depth)?)),
+        Reading::Decorated => covered::<P, T>(t, p, depth, Covering::Decorated),
+        Reading::Object => covered::<P, T>(t, p, depth, Covering::Object),
         Reading::Behind(start) => covered::<P, T>(t, p, depth, Covering::Behind(start)),
         Reading::BehindAwait(start) => {
             covered::<P, T>(t, p, depth, Covering::BehindAwait(start))
@@ -286,8 +311,7 @@ pub fn expression<P: Cursor, T: BuildsStatements>(
     if depth == 0 {
         return Err(p.too_deep());
     }
-    let g = readers!(depth - 1);
-    expr_level(&g, t, p, class)
+    descend::<P, T, Expression>(t, p, depth - 1, Expression { class }, ())
 }
 
 /// The right operand of an operator behind an expression in so many levels: it stands one level deeper.
@@ -324,30 +348,10 @@ fn covered<P: Cursor, T: BuildsStatements>(
     if depth == 0 {
         return Err(p.too_deep());
     }
-    let g = readers!(depth - 1);
-    cover_level(&g, t, p, place)
-}
-
-/// What stands behind the `@` of a decorator, in so many levels.
-#[cycle(knot)]
-#[tactic(auto, using(swc_ecma_parser_reader::proofs::decorators::Loops::decorated_lowest, swc_ecma_parser_reader::proofs::decorators::Loops::decorated_above))]
-#[inline(never)]
-fn decorated<P: Cursor, T: BuildsStatements>(
-    t: &MakerOf<T>,
-    p: &mut P,
-    depth: usize,
-) -> PResult<T::Expr>
-    ensures { GivesAs T.expr_of (decorated_in depth (P.seen p.old)) result (P.seen p.new) }
-{
-    if depth == 0 {
-        return Err(p.too_deep());
-    }
-    let g = readers!(depth - 1);
-    decorated_level(&g, t, p)
+    descend::<P, T, Covering>(t, p, depth - 1, place, ())
 }
 
 /// An object alone, whatever stands behind it, in so many levels: what the attributes of an import are.
-#[cycle(knot)]
 #[tactic(auto, using(swc_ecma_parser_reader::proofs::Objects::object_lowest, swc_ecma_parser_reader::proofs::Objects::object_above))]
 #[inline(never)]
 pub fn object_alone<P: Cursor, T: BuildsStatements>(
@@ -360,8 +364,7 @@ pub fn object_alone<P: Cursor, T: BuildsStatements>(
     if depth == 0 {
         return Err(p.too_deep());
     }
-    let g = readers!(depth - 1);
-    object_level(&g, t, p)
+    descend::<P, T, ObjectAlone>(t, p, depth - 1, ObjectAlone, ())
 }
 
 /// A member of a class, in so many levels.
@@ -378,8 +381,7 @@ fn member<P: Cursor, T: BuildsStatements>(
     if depth == 0 {
         return Err(p.too_deep());
     }
-    let g = readers!(depth - 1);
-    member_level(&g, t, p)
+    descend::<P, T, Member>(t, p, depth - 1, Member, ())
 }
 
 /// A class as its parts, with what stands in it in so many levels.
@@ -409,12 +411,7 @@ pub fn inner_class_with<P: Cursor, T: BuildsStatements>(
         (dressed.class_expr_with (rules.expr depth left_side) (rules.member depth)
         (map T.decorator_of decorators.items) (P.seen p.old)) result (P.seen p.new) }
 {
-    let c = ClassGrammar {
-        depth,
-        expr: expression::<P, T>,
-        member: member::<P, T>,
-    };
-    class_expr_with(&c, t, p, decorators)
+    descend_class::<P, T, ClassExpression>(t, p, depth, ClassExpression, decorators)
 }
 
 /// A class that is declared, with what stands in it in so many levels.
@@ -446,12 +443,7 @@ pub fn declared_class_with<P: Cursor, T: BuildsStatements>(
         (dressed.class_decl_with (rules.expr depth left_side) (rules.member depth)
         (map T.decorator_of decorators.items) start (P.seen p.old)) result (P.seen p.new) }
 {
-    let c = ClassGrammar {
-        depth,
-        expr: expression::<P, T>,
-        member: member::<P, T>,
-    };
-    class_decl_with(&c, t, p, start, decorators)
+    descend_class::<P, T, ClassDeclaration>(t, p, depth, ClassDeclaration { start }, decorators)
 }
 
 /// A class as a statement behind decorators, where declarations are read or with a fault of its word.
@@ -529,11 +521,7 @@ pub fn pat<P: Cursor, T: BuildsStatements>(
     if depth == 0 {
         return Err(p.too_deep());
     }
-    let g = readers!(depth - 1);
-    match part {
-        Part::Pattern => pattern_level(&g, t, p),
-        Part::Element => element_level(&g, t, p),
-    }
+    descend::<P, T, Part>(t, p, depth - 1, part, ())
 }
 
 /// Whether a function begins here.
@@ -546,7 +534,6 @@ fn begins_function<P: Cursor>(p: &P) -> bool
 }
 
 /// The declarators of a declaration, in so many levels.
-#[cycle(knot)]
 pub fn inner_declarators<P: Cursor, T: BuildsStatements>(
     t: &MakerOf<T>,
     p: &mut P,
@@ -557,12 +544,10 @@ pub fn inner_declarators<P: Cursor, T: BuildsStatements>(
         (rules.declarators (rules.expr depth) (rules.pattern depth) false word (P.seen p.old))
         result (P.seen p.new) }
 {
-    let g = readers!(depth);
-    declarators(&g, t, p, false, word)
+    descend::<P, T, Declarators>(t, p, depth, Declarators { word }, ())
 }
 
 /// The end of a declaration, where what is dropped for want of one stands in so many levels.
-#[cycle(knot)]
 pub fn inner_declaration_end<P: Cursor, T: BuildsStatements>(
     t: &MakerOf<T>,
     p: &mut P,
@@ -571,8 +556,7 @@ pub fn inner_declaration_end<P: Cursor, T: BuildsStatements>(
     ensures { Gives (rules.declaration_end (rules.expr depth expression_class) (P.seen p.old))
         result (P.seen p.new) }
 {
-    let g = readers!(depth);
-    declaration_end(&g, t, p)
+    descend::<P, T, DeclarationEnd>(t, p, depth, DeclarationEnd, ())
 }
 
 /// A function from behind its name, in so many levels.
@@ -606,8 +590,7 @@ pub fn inner_function_with<P: Cursor, T: BuildsStatements>(
         (map T.decorator_of decorators.items) manner.is_async manner.is_generator start
         (P.seen p.old)) result (P.seen p.new) }
 {
-    let g = readers!(depth);
-    function_parts_with(&g, t, p, manner, start, decorators)
+    descend::<P, T, FunctionParts>(t, p, depth, FunctionParts { manner, start }, decorators)
 }
 
 /// A function that is declared, with the decorators before it, in so many levels.
@@ -675,7 +658,6 @@ pub fn declared_function<P: Cursor, T: BuildsStatements>(
 
 /// A declaration of `var`, in so many levels.
 #[cycle(knot)]
-#[tactic(auto, unfolding(swc_ecma_parser_reader::specs::Reader::variables, swc_ecma_parser_grammar::specs::Looks::spanned))]
 #[inline(never)]
 fn declared_variables<P: Cursor, T: BuildsStatements>(
     t: &MakerOf<T>,
@@ -686,13 +668,6 @@ fn declared_variables<P: Cursor, T: BuildsStatements>(
         (rules.variables (rules.expr depth) (rules.pattern depth) decl.Var (P.seen p.old)) result
         (P.seen p.new) }
 {
-    let start = p.span();
-    p.skip()?;
-    let outer = p.flags();
-    p.set_flags(with_in(outer));
-    let found = inner_declarators::<P, T>(t, p, depth, VarDeclKind::Var)?;
-    p.set_flags(outer);
-    inner_declaration_end::<P, T>(t, p, depth)?;
-    let span = since(p, start);
-    grown(p, T::var(t.alloc, span, VarDeclKind::Var, found))
+    let word = VarDeclKind::Var;
+    descend::<P, T, Variables>(t, p, depth, Variables { word }, ())
 }

@@ -5,3 +5,5 @@
 pub mod covering;
 pub mod knot;
 mod levels;
+mod rule;
+mod rules;

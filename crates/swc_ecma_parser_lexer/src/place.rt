@@ -37,7 +37,7 @@ pub struct Found<'a> {
 
 /// White space, a line terminator or a comment.
 #[tactic(auto, unfolding(crate::specs::Tokens::is_skipped))]
-pub fn is_skipped(state: State) -> bool
+fn is_skipped(state: State) -> bool
     ensures { result ≡ read.is_skipped state }
 {
     match state {
@@ -91,7 +91,7 @@ pub fn past<'a>(place: Place<'a>, piece: Piece<'a>) -> Place<'a>
 }
 
 /// The place behind the spaces and line breaks that are ASCII.
-pub fn past_blanks(first: Place<'_>) -> Place<'_>
+fn past_blanks(first: Place<'_>) -> Place<'_>
     requires { read.Fits first }
     ensures { blank.IsBehindBlanks first.entry result }
 {

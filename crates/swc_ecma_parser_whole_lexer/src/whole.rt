@@ -139,6 +139,7 @@ impl<'a> WholeLexer<'a> {
 
     /// Goes past a token of this kind. Whether it opens more than may be open: then nothing is opened.
     #[tactic(auto, unfolding(crate::specs::Whole::nest_settled))]
+    #[inline(always)]
     fn pass(&mut self, kind: TokenKind, name: &str) -> bool
         ensures deep { result ≡ nesting.is_too_deep (nesting.pass self.old.nest kind name.now) }
         ensures nest { self.new.nest
@@ -158,6 +159,7 @@ impl<'a> WholeLexer<'a> {
 
     /// Goes past a token, which stays as it is unless it opens more than may be open.
     #[tactic(auto, unfolding(crate::specs::Whole::settled))]
+    #[inline(always)]
     fn settle(&mut self, found: &mut TokenAndSpan)
         ensures found { found.new
             ≡ read.settled (read.nest_behind self.old.nest found.old.token) found.old }
@@ -303,7 +305,9 @@ impl<'a> Tokens for WholeLexer<'a> {
     {
         loop {
             let before = self.lexer.place();
-            let mut found = self.lexer.next()?;
+            let Some(mut found) = self.lexer.next() else {
+                return None;
+            };
             let rest = self.lexer.place().rest;
             if !may_change(&self.nest, &found.token, rest) {
                 self.settle(&mut found);

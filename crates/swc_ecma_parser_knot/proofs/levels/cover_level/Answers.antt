@@ -23,3 +23,13 @@ pub returns-in-BehindAwait : goal.returns-in-BehindAwait
 returns-in-BehindAwait g c =
     subst (λ a. GivesAs (cover_of g.T.Trees.expr_of) (covered_level (g.G.Readers.depth c.args.g.now) a (g.P.Cursor.seen c.args.p.now)) c.expr_behind_await.result (g.P.Cursor.seen c.expr_behind_await.new.p))
     (sym c.in-BehindAwait.is) c.expr_behind_await.ensures
+
+pub returns-in-Decorated : goal.returns-in-Decorated
+returns-in-Decorated g c =
+    subst (λ a. GivesAs (cover_of g.T.Trees.expr_of) (covered_level (g.G.Readers.depth c.args.g.now) a (g.P.Cursor.seen c.args.p.now)) c.decorated_cover.result (g.P.Cursor.seen c.decorated_cover.new.p))
+    (sym c.in-Decorated.is) c.decorated_cover.ensures
+
+pub returns-in-Object : goal.returns-in-Object
+returns-in-Object g c =
+    subst (λ a. GivesAs (cover_of g.T.Trees.expr_of) (covered_level (g.G.Readers.depth c.args.g.now) a (g.P.Cursor.seen c.args.p.now)) c.object_cover.result (g.P.Cursor.seen c.object_cover.new.p))
+    (sym c.in-Object.is) c.object_cover.ensures

@@ -3,13 +3,13 @@
 
 use crate::counting::Counting;
 use ecma_report::{show, show_item, show_module, show_program, show_statement};
-use ecma_texts::sources::{input, let_go};
 use std::alloc::{AllocError, Global};
 use std::test::Fail;
 use swc_ecma_parser::Parser;
+use swc_ecma_parser_common::BytePos;
 use swc_ecma_parser_error::PResult;
 use swc_ecma_parser_input::{Syntax, Tokens};
-use swc_ecma_parser_lexer::Lexer;
+use swc_ecma_parser_lexer::{Lexer, StringInput};
 
 /// One of the calls by which a parser reads.
 #[derive(Clone, Copy)]
@@ -52,6 +52,14 @@ fn last_answer<I: Tokens>(
     Ok(last)
 }
 
+/// Drops a source, which is proved to be dropped once.
+fn discard<T: Drop>(_: T) {}
+
+/// A text as an input at position 0.
+fn input(text: &str) -> StringInput<'_> {
+    StringInput::new(text, BytePos(0), BytePos(text.len() as u32))
+}
+
 /// A lexer of a text that counts.
 fn lexer(alloc: Global, text: &str) -> Counting<Lexer<'_>> {
     Counting::new(Lexer::new(alloc, Syntax::default(), input(text), false))
@@ -66,7 +74,7 @@ fn counting(alloc: Global, text: &str) -> Parser<Counting<Lexer<'_>>> {
 fn counts<I: Tokens>(parser: Parser<Counting<I>>) -> (usize, usize) {
     let source = parser.into_input();
     let counts = (source.tokens(), source.ends());
-    let_go(source);
+    discard(source);
     counts
 }
 
@@ -193,7 +201,7 @@ fn drawn<I: Tokens>(source: Counting<I>, times: u32) -> (bool, usize, usize) {
         is_none = source.next().is_none();
     }
     let counts = (is_none, source.tokens(), source.ends());
-    let_go(source);
+    discard(source);
     counts
 }
 

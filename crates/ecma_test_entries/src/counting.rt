@@ -3,7 +3,7 @@
 ghost use Rattle.std.specs.Prelude.{◌≡◌, [], IfOk, IfErr, OnOk};
 ghost use Rattle.swc_ecma_parser_error.specs.Kind.{IsOutOfMemory};
 ghost use Rattle.swc_ecma_parser_input.specs.TokenSource as source;
-ghost use Rattle.ecma_test_draws.specs.Counted.{tokens_with, ends_with};
+ghost use Rattle.ecma_test_entries.specs.Counted.{tokens_with, ends_with};
 
 use swc_ecma_parser_common::BytePos;
 use swc_ecma_parser_error::{Error, PResult};
