@@ -1,5 +1,0 @@
-pub mod After
-pub mod Arms
-pub mod Declared
-pub mod Firsts
-pub mod Holders

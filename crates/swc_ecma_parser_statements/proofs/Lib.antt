@@ -1,2 +1,0 @@
-mod Misused
-mod AwaitStmt

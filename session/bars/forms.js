@@ -1,0 +1,1 @@
+const s=require('fs').readFileSync('gen.js','utf8'); const a=s.indexOf('const FORMS = ['), b=s.indexOf('\n];', a); const FORMS=eval(s.slice(a+14,b+2)); require('fs').writeFileSync('fz/forms.json', JSON.stringify([...new Set(FORMS)])); console.log(FORMS.length);

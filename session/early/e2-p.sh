@@ -1,0 +1,1 @@
+RT_ALLOW_C=1 RT_JOBS=1 /work/h/hv python3 /tmp/e2-only-try.py /work/h/early2-try/p ecma_event_parts --only heads --only modules --only parts --only starts --allow-holes > /tmp/e2-p.log 2>&1; echo "rc $?" >> /tmp/e2-p.log

@@ -1,0 +1,1 @@
+{('ecma_situations', 'a_list_says_its_own_bracket'): ['situation::words'], ('ecma_sentences', 'a_setter_has_one_parameter'): ['sentences::sentence'], ('ecma_link', 'options_of_another_size_are_refused'): ['options::options_of']}

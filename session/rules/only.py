@@ -1,0 +1,34 @@
+#!/usr/bin/env python3
+"""only.py ROOT CRATE [flags..]: rattle check of CRATE with the crates below it as source where no library of them is proved."""
+import os, sys, subprocess, glob
+sys.path.insert(0,'/opt/rattle/bin')
+root, crate, flags = sys.argv[1], sys.argv[2], sys.argv[3:]
+deps={}
+for line in open(f'{root}/crates.txt'):
+    line=line.split('#')[0].strip()
+    if line:
+        n,_,b=line.partition(':'); deps[n.split()[0]]=b.split()
+order=[]
+def go(c):
+    for d in deps[c]:
+        if d in deps and d not in order: go(d); order.append(d)
+go(crate)
+def rlib(c):
+    p=f'{root}/crates/{c}/out/rlib/{c}.rlib'
+    return p if os.path.exists(p) else None
+have={c:rlib(c) for c in order}
+# a library counts only if those below it count
+ok={}
+for c in order: ok[c]=bool(have[c]) and all(ok[d] for d in deps[c] if d in deps)
+words=['/opt/rattle/bin/rattle','check','--crate-name',crate,'src/lib.rt','--extern','std=/opt/rattle/rlibs/std.rlib','-L','dependency=/opt/rattle/rlibs']
+for c in order:
+    if ok[c]: words+=['--extern',f'{c}={have[c]}','-L',f'dependency={os.path.dirname(have[c])}']
+for c in order:
+    if not ok[c]:
+        uses=dict.fromkeys(['std']+deps[c])
+        words+=['--lib',f"{c}:{','.join(uses)}={root}/crates/{c}/src/lib.rt"]
+inc=f'/tmp/wr-inc/{crate}'; os.makedirs(inc,exist_ok=True)
+words+=['--antt-project','/opt/rattle/rattle/logic/antt-project.json','--logic-built','/opt/rattle/logic_built','--jobs','2','--incremental',inc]+flags
+print('as source:',[c for c in order if not ok[c]],flush=True)
+os.chdir(f'{root}/crates/{crate}')
+sys.exit(subprocess.run(words).returncode)
