@@ -62,9 +62,10 @@ enum {
     ECMA_NO_EARLY_ERRORS = 0x1000 /* early errors found in the finished tree: docs/EARLY.md */
 };
 
-/* The language. All of ECMA-262 is parsed, or the plain language, which has no regular expressions, templates, optional chains, `new.target`,
- * `#a in b`, names with escapes, old octal forms or HTML-like comments. ECMA_IMPORT_ATTRIBUTES has an effect in the plain language alone:
- * all of ECMA-262 has import attributes. */
+/* The language. By default it is the whole one, which has the forms of ECMA-262, edition 2025, with its annex B, except those that
+ * docs/DIFFERENCES.md lists. The plain language has no regular expressions, templates, optional chains, `new.target`, `#a in b`, names with
+ * escapes, old octal forms or HTML-like comments. ECMA_IMPORT_ATTRIBUTES has an effect in the plain language alone: the whole one has
+ * import attributes. */
 enum {
     ECMA_PLAIN = 0x2000
 };

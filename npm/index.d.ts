@@ -26,7 +26,7 @@ export interface Options {
   flags?: Flag[];
   /**
    * Whether regular expressions, templates, optional chains, `new.target`, `#a in b`, names with escapes, old octal forms and comments as in
-   * HTML are left out, and import attributes are read by their flag alone. By default all of ECMA-262 is read.
+   * HTML are left out, and import attributes are read by their flag alone. By default all of these are read.
    */
   plain?: boolean;
   /** Whether nodes have `loc`: lines from 1, columns from 0. */

@@ -60,7 +60,7 @@ fn max_faults<'a>(alloc: Global) -> Arg<'a> {
         .long("max-faults")
         .value_name("N")
         .value_parser(clap::value_parser!(u32))
-        .help("how many faults and early errors are told of a file, 1000 by default; 0 for all")
+        .help("how many faults and early errors of a file are reported, 1000 by default; 0 for all")
 }
 
 /// Whether early errors are left out.
@@ -68,7 +68,7 @@ fn no_early<'a>(alloc: Global) -> Arg<'a> {
     flag(
         alloc,
         "no-early",
-        "tells what the parser records alone, and looks for no further early errors in a tree",
+        "reports only what the parser records, and looks for no early errors in a finished tree",
     )
 }
 
@@ -77,7 +77,7 @@ fn plain<'a>(alloc: Global) -> Arg<'a> {
     flag(
         alloc,
         "plain",
-        "reads no regular expressions, templates, optional chains, new.target, #a in b, names with escapes, old octal forms nor comments as in HTML, as ecma-parse does; without it all of ECMA-262 is read",
+        "parses the plain language, as ecma-parse does, which has no regular expressions, templates, optional chains, new.target, #a in b, names with escapes, old octal forms or HTML-like comments; without --plain these are parsed too",
     )
 }
 
@@ -88,7 +88,7 @@ fn enable<'a>(alloc: Global) -> Arg<'a> {
         .value_name("FLAG,..")
         .action(ArgAction::Append)
         .help(
-            "reads a proposal, or lets something pass: decorators, decorators-before-export, export-default-from, import-attributes, return-outside-function, auto-accessors, explicit-resource-management; import attributes are a flag with --plain alone",
+            "enables a proposal, or allows what is a fault without the flag: decorators, decorators-before-export, export-default-from, import-attributes, return-outside-function, auto-accessors, explicit-resource-management; import-attributes has an effect only with --plain",
         )
 }
 
@@ -106,7 +106,7 @@ fn files<'a>(alloc: Global) -> Arg<'a> {
     Arg::new(alloc, "FILE")
         .action(ArgAction::Append)
         .num_args(0..)
-        .help("the files; standard input, where none or - is given")
+        .help("the files; standard input for -, and if none is given")
 }
 
 /// The words that say what files are read as. Each excludes the others, which `settings_of` sees to.
@@ -114,32 +114,36 @@ fn with_goals<'a>(alloc: Global, command: Command<'a>) -> Result<Command<'a>, Al
     let script = flag(
         alloc,
         "script",
-        "reads each file as a script; without --script, --module and --program a file is a script or a module, whichever it can be read as",
+        "parses each file as a script; without --script, --module and --program a file is parsed as a script or as a module, whichever succeeds",
     );
     let program = flag(
         alloc,
         "program",
-        "reads each file as a module where one of its statements makes it one, and else as a script",
+        "parses each file as a module if one of its statements makes it one, else as a script",
     );
     command
         .arg(script)?
-        .arg(flag(alloc, "module", "reads each file as a module"))?
+        .arg(flag(alloc, "module", "parses each file as a module"))?
         .arg(program)
 }
 
 /// The words that say what a tree has besides its nodes.
 fn with_extras<'a>(alloc: Global, command: Command<'a>) -> Result<Command<'a>, AllocError> {
     command
-        .arg(flag(alloc, "locations", "writes lines and columns into a tree"))?
-        .arg(flag(alloc, "ranges", "writes ranges into a tree"))?
-        .arg(flag(alloc, "comments", "writes the comments behind a tree"))?
-        .arg(flag(alloc, "tokens", "writes the tokens behind a tree"))
+        .arg(flag(
+            alloc,
+            "locations",
+            "adds lines and columns to each node of a tree",
+        ))?
+        .arg(flag(alloc, "ranges", "adds ranges to each node of a tree"))?
+        .arg(flag(alloc, "comments", "adds the comments to a tree"))?
+        .arg(flag(alloc, "tokens", "adds the tokens to a tree"))
 }
 
 /// The command.
 fn command<'a>(alloc: Global) -> Result<Command<'a>, AllocError> {
     let command = Command::new(alloc, "ecma-check").version(VERSION).about(
-        "Tells the faults of JavaScript files, or writes their trees",
+        "Reports the faults of JavaScript files, or writes their trees",
     );
     let command = with_goals(alloc, command)?;
     let command = command

@@ -1,5 +1,6 @@
 -- How a call ends, by what it came to.
 use Rattle.std.proofs.Common.{◌≡◌, ◌∙◌, ◌+◌, ◌≤◌, ◌<◌, ℕ, List, ◌++◌, Err, None, Ok, Some, ap, arith, drop, inl, inr, length, refl, subst, sym}
+use Rattle.std.specs.List.{flat_map}
 use Rattle.std.specs.Prelude.{IsUtf8}
 use Rattle.ecma_answers.specs.declared.options.Options.{Options}
 use Rattle.ecma_answers.specs.declared.outcome.Outcome.{Outcome}
@@ -67,8 +68,9 @@ answered w given text outcome bytes items old new needed h same e fits front =
 pub called_faults : (given : EcmaOptions) (text chars : List ℕ) (o : Options) (r : Findings) (outcome : Outcome) (told slice : List Told)
     → (its : List EcmaFault) (words : List ℕ) (more : ℕ) → asked given ≡ Some o → chars ≡ text → IsUtf8 text → Finds o chars r
     → outcome ≡ outcome_of r.reading.tree r.reading.faults.items r.early.items → AllTold o.max_faults chars r told → slice ≡ told → faults.AreFaults words slice its
+    → words ≡ flat_map faults.words_of slice
     → more ≡ left_out o.max_faults (length r.reading.faults.items + length r.early.items) → faults.IsCall given text outcome its words more
-called_faults given text chars o r outcome told slice its words more e f utf8 finds out all same are left = (
+called_faults given text chars o r outcome told slice its words more e f utf8 finds out all same are spelled left = (
   utf8,
   (
     o,
@@ -77,7 +79,7 @@ called_faults given text chars o r outcome told slice its words more e f utf8 fi
       r,
       subst (λ it. Finds o it r) f finds,
       out,
-      (told, subst (λ it. AllTold o.max_faults it r told) f all, subst (λ it. faults.AreFaults words it its) same are),
+      (told, subst (λ it. AllTold o.max_faults it r told) f all, subst (λ it. faults.AreFaults words it its) same are, subst (λ it. words ≡ flat_map faults.words_of it) same spelled),
       left,
     ),
   ),

@@ -1,10 +1,11 @@
 -- The words of faults, one behind another.
 use Rattle.std.proofs.Common.{◌≡◌, ◌∙◌, ℕ, List, [], ◌∷◌, ◌++◌, ◌+◌, ◌≤◌, ◌<◌, ap, arith, append_assoc, drop, get_or, length, length-append, length-drop, refl, subst, sym, take}
-use Rattle.std.proofs.lemmas.List.{drop-append-le, drop_at, take-append-le, take_all, take_at, take_more}
+use Rattle.std.proofs.lemmas.List.{drop-append-le, drop_at, flat_map_more, take-append-le, take_all, take_at, take_more}
 use Rattle.std.proofs.lemmas.Slice.Zip.{all_zipped_more}
 use Rattle.ecma_answers.specs.declared.told.Told.{Told}
 use Rattle.ecma_link.specs.declared.faults.EcmaFault.{EcmaFault}
-use Rattle.ecma_link.specs.Faults.{AreFaults, IsFault, piece}
+use Rattle.std.specs.List.{flat_map}
+use Rattle.ecma_link.specs.Faults.{AreFaults, IsFault, piece, words_of}
 
 pub first_piece : (a b c : List ℕ) → piece (a ++ (b ++ c)) (length a) (length b) ≡ b
 first_piece a b c = ap (take (length b)) (drop_at a (b ++ c) _ refl) ∙ take_at b c _ refl
@@ -52,3 +53,9 @@ pub faults_more : (a c new : List ℕ) (ts : List Told) (fs : List EcmaFault) (i
 faults_more a c new ts fs i d f e b all one =
     let before = subst (λ it. AreFaults it (take i ts) fs) (sym e) (all_more a c (take i ts) fs all) in
     subst (λ it. AreFaults new it (fs ++ (f ∷ []))) (sym (take_more ts i d b)) (all_zipped_more (IsFault new) (take i ts) fs (get_or ts i d) f before one)
+
+-- the words of some faults and of one more
+pub words_more : (a new : List ℕ) (ts : List Told) (i : ℕ) (d : Told) → i < length ts → a ≡ flat_map words_of (take i ts) → new ≡ a ++ words_of (get_or ts i d)
+    → new ≡ flat_map words_of (take (i + 1) ts)
+words_more a new ts i d b e f =
+    f ∙ ap (λ it. it ++ words_of (get_or ts i d)) e ∙ flat_map_more words_of [] (take i ts) (get_or ts i d) ∙ ap (flat_map words_of) (sym (take_more ts i d b))

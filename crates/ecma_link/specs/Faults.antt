@@ -1,6 +1,6 @@
 -- Faults and early errors as C takes them.
 use Rattle.std.specs.Prelude.{◌≡◌, ◌+◌, ◌≤◌, ◌<◌, ◌⊎◌, ℕ, List, [], ◌++◌, Option, None, Result, Ok, Err, IsUtf8, Some, drop, length, string_bytes, take}
-use Rattle.std.specs.List.{AllZip}
+use Rattle.std.specs.List.{AllZip, flat_map}
 use Rattle.ecma_answers.specs.declared.options.Options.{Options}
 use Rattle.ecma_answers.specs.declared.outcome.Outcome.{Outcome}
 use Rattle.ecma_answers.specs.declared.findings.Findings.{Findings}
@@ -72,11 +72,11 @@ pub record IsFault (words : List ℕ) (told : Told) (it : EcmaFault) : Type 0 wh
 abbrev pub AreFaults : (words : List ℕ) → List Told → List EcmaFault → Type 0
 AreFaults words ts its = AllZip (IsFault words) ts its
 
--- a text that was read as it is asked for: how it comes out, the faults of it that are asked for and their words, and how many more there are
+-- a text that was read as it is asked for: how it comes out, the faults of it that are asked for, their words and nothing else, and how many more there are
 abbrev pub IsCall : EcmaOptions → List ℕ → Outcome → List EcmaFault → List ℕ → (more : ℕ) → Type 0
 IsCall given text outcome faults words more =
     IsUtf8 text × ((o : Options) × (asked given ≡ Some o) × ((f : Findings) × Finds o text f
-    × (outcome ≡ outcome_of f.reading.tree f.reading.faults.items f.early.items) × ((told : List Told) × AllTold o.max_faults text f told × AreFaults words told faults)
+    × (outcome ≡ outcome_of f.reading.tree f.reading.faults.items f.early.items) × ((told : List Told) × AllTold o.max_faults text f told × AreFaults words told faults × (words ≡ flat_map words_of told))
     × (more ≡ left_out o.max_faults (length f.reading.faults.items + length f.early.items))))
 
 -- some answer takes so much room

@@ -1,6 +1,7 @@
 //! What is told of a text, one by one.
 
 ghost use Rattle.std.specs.Prelude.{◌≡◌, ◌++◌, IfErr, IfOk, OnOk};
+ghost use Rattle.std.specs.List.{flat_map};
 ghost use Rattle.ecma_link.specs.Calls.{IsReason};
 ghost use Rattle.ecma_link.specs.Faults as list;
 ghost use Rattle.ecma_link.specs.Faults.{AreFaults, Ends, IsCall, IsFault, words_of};
@@ -176,6 +177,7 @@ fn listed(alloc: Global, outcome: Outcome, told: &[Told], more: usize) -> Result
     ensures outcome { IfOk result (λ it. it.outcome ≡ outcome) }
     ensures more { IfOk result (λ it. it.more ≡ more) }
     ensures faults { IfOk result (λ it. AreFaults it.words.items told.now it.faults.items) }
+    ensures words { IfOk result (λ it. it.words.items ≡ flat_map words_of told.now) }
 {
     let mut faults = Vec::new(alloc);
     let mut words = Vec::new(alloc);

@@ -33,11 +33,24 @@ begun b =
     if is_blank b then mode.Blank else if is_word b then mode.Word else if is_sign b then mode.Sign
     else if is_quote b then mode.Quoted b else if b == 47 then mode.Slash else mode.Mark
 
+-- in a class of a regular expression (91), which `]` ends and `/` does not
+unfoldable pub in_class : ℕ → Mode
+in_class b =
+    if b == 92 then mode.Escaped 91 else if b == 93 then mode.Quoted 47
+    else if is_newline b then mode.Blank else mode.Quoted 91
+
 -- in a string, a template (96) or a regular expression (47): a line's end ends all but templates
 unfoldable pub quoted : (quote : ℕ) → ℕ → Mode
 quoted q b =
-    if b == 92 then mode.Escaped q else if b == q then mode.Mark
+    if q == 91 then in_class b
+    else if b == 92 then mode.Escaped q else if b == q then mode.Mark
+    else if q == 47 && b == 91 then mode.Quoted 91
+    else if q == 96 && b == 36 then mode.Dollar
     else if is_newline b && not (q == 96) then mode.Blank else mode.Quoted q
+
+-- behind a `$` in a template: `{` opens a bracket
+unfoldable pub behind_dollar : ℕ → Mode
+behind_dollar b = if b == 123 then mode.Mark else quoted 96 b
 
 -- behind a `/`: a comment, a division, or a regular expression
 unfoldable pub behind_slash : (last : ℕ) → ℕ → Mode
@@ -55,6 +68,7 @@ next_mode mode.Block last b = in_block false b
 next_mode mode.Star last b = in_block true b
 next_mode (mode.Quoted q) last b = quoted q b
 next_mode (mode.Escaped q) last b = mode.Quoted q
+next_mode mode.Dollar last b = behind_dollar b
 next_mode mode.Slash last b = behind_slash last b
 next_mode _ last b = begun b
 
@@ -65,7 +79,12 @@ ends_before mode.Sign last b = not (is_sign b)
 ends_before mode.Mark last b = true
 ends_before mode.Slash last b = ends_operand last && not (b == 47) && not (b == 42)
 ends_before (mode.Quoted q) last b = is_newline b && not (q == 96)
+ends_before mode.Dollar last b = b == 123
 ends_before _ last b = false
+
+unfoldable pub is_dollar : Mode → Bool
+is_dollar mode.Dollar = true
+is_dollar _ = false
 
 unfoldable pub is_token : Mode → Bool
 is_token mode.Blank = false

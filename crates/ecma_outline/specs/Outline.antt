@@ -1,6 +1,6 @@
 -- The tokens of a text, and which brackets are open at each, told by single bytes.
 use Rattle.std.specs.Prelude.{◌≡◌, ℕ, List, [], ◌∷◌, ◌++◌, ◌+◌, ◌==◌, ◌&&◌, ◌||◌, Bool, true, false, not, cond, nat_lt, if◌then◌else◌, length, get_or}
-use Rattle.ecma_outline.specs.Bytes.{begun, ends_before, is_blank, is_newline, is_token, next_mode}
+use Rattle.ecma_outline.specs.Bytes.{begun, ends_before, is_blank, is_dollar, is_newline, is_token, next_mode}
 use Rattle.ecma_outline.specs.declared.bytes.Mode.{Mode}
 use Rattle.ecma_outline.specs.declared.bytes.Mode.TheVariants as mode
 use Rattle.ecma_outline.specs.declared.outline.Lexeme.{Lexeme}
@@ -9,7 +9,7 @@ use Rattle.ecma_outline.specs.declared.outline.Outline.{Outline}
 use Rattle.ecma_outline.specs.declared.outline.State.{State}
 
 abbrev pub no_open : Open
-no_open = record { at = 0; indent = 0; parent = 0; lexeme = 0; closed = 0 }
+no_open = record { at = 0; indent = 0; parent = 0; lexeme = 0; closed = 0; is_part = false }
 
 abbrev pub no_lexeme : Lexeme
 no_lexeme = record { start = 0; end = 0; top = 0; misfit = 0; closed = 0 }
@@ -42,7 +42,7 @@ abbrev pub indent_of : State → ℕ
 indent_of s = if s.last == 41 then s.hold else s.indent
 
 abbrev pub opened : State → (lexeme : ℕ) → Open
-opened s n = record { at = s.at; indent = indent_of s; parent = s.top; lexeme = n; closed = s.closed }
+opened s n = record { at = s.at; indent = indent_of s; parent = s.top; lexeme = n; closed = s.closed; is_part = is_dollar s.mode }
 
 -- The first bracket inside of what is open that one of another indentation closes. One that fits forgets those inside of it.
 abbrev pub misfit_behind : State → Open → ℕ
@@ -65,10 +65,14 @@ with_top s n = record {
   pending = s.pending;
 }
 
-abbrev with_closed : (before behind : State) → Open → State
-with_closed r s o = record {
+-- a template goes on behind the `}` that closes a bracket of its own
+abbrev pub mode_closed : Mode → Open → ℕ → Mode
+mode_closed m o b = if o.is_part && b == 125 then mode.Quoted 96 else m
+
+abbrev with_closed : (before behind : State) → Open → ℕ → State
+with_closed r s o b = record {
   at = s.at;
-  mode = s.mode;
+  mode = mode_closed s.mode o b;
   last = s.last;
   is_fresh = s.is_fresh;
   indent = s.indent;
@@ -81,10 +85,14 @@ with_closed r s o = record {
 
 -- the state behind a byte with its brackets, by that before the byte and the innermost bracket that was open there
 unfoldable pub with_brackets : (before behind : State) → Open → (count : ℕ) → ℕ → State
-with_brackets r s o n b = if opens r b then with_top s n else if closes r b then with_closed r s o else s
+with_brackets r s o n b = if opens r b then with_top s n else if closes r b then with_closed r s o b else s
 
-abbrev pub indent_behind : State → ℕ → ℕ
-indent_behind s b = if is_newline b then 0 else if s.is_fresh && is_blank b then s.indent + 1 else s.indent
+-- no line ends within a token, as in a template
+abbrev pub ends_line : Mode → ℕ → Bool
+ends_line m b = is_newline b && not (is_token m)
+
+abbrev pub indent_behind : State → Mode → ℕ → ℕ
+indent_behind s m b = if ends_line m b then 0 else if s.is_fresh && is_blank b then s.indent + 1 else s.indent
 
 abbrev pub last_behind : State → Mode → ℕ → ℕ
 last_behind s m b = if is_token m && not (b == 47) then b else s.last
@@ -94,8 +102,8 @@ along s b = record {
   at = s.at + 1;
   mode = next_mode s.mode s.last b;
   last = last_behind s (next_mode s.mode s.last b) b;
-  is_fresh = is_newline b || (s.is_fresh && not (begins s b));
-  indent = indent_behind s b;
+  is_fresh = ends_line (next_mode s.mode s.last b) b || (s.is_fresh && not (begins s b));
+  indent = indent_behind s (next_mode s.mode s.last b) b;
   hold = s.hold;
   top = s.top;
   misfit = s.misfit;

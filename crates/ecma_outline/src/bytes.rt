@@ -22,8 +22,10 @@ pub enum Mode {
     Block,
     /// A `*` in a block comment.
     Star,
-    /// A string, a template or a regular expression that this byte ends.
+    /// A string, a template or a regular expression that this byte ends. `[`: a class of a regular expression.
     Quoted(u8),
+    /// A `$` in a template.
+    Dollar,
     /// A backslash in one.
     Escaped(u8),
 }
@@ -98,15 +100,37 @@ fn begun(byte: u8) -> Mode
     }
 }
 
+/// What a byte in a class of a regular expression is part of. A `/` does not end the expression there.
+#[tactic(auto, unfolding(crate::specs::Bytes::in_class))]
+fn in_class(byte: u8) -> Mode
+    ensures { result ≡ bytes.in_class byte }
+{
+    if byte == b'\\' {
+        Mode::Escaped(b'[')
+    } else if byte == b']' {
+        Mode::Quoted(b'/')
+    } else if is_newline(byte) {
+        Mode::Blank
+    } else {
+        Mode::Quoted(b'[')
+    }
+}
+
 /// What a byte of a string is part of. Its line ends it too, but no template.
 #[tactic(auto, unfolding(crate::specs::Bytes::quoted))]
 fn quoted(quote: u8, byte: u8) -> Mode
     ensures { result ≡ bytes.quoted quote byte }
 {
-    if byte == b'\\' {
+    if quote == b'[' {
+        in_class(byte)
+    } else if byte == b'\\' {
         Mode::Escaped(quote)
     } else if byte == quote {
         Mode::Mark
+    } else if quote == b'/' && byte == b'[' {
+        Mode::Quoted(b'[')
+    } else if quote == b'`' && byte == b'$' {
+        Mode::Dollar
     } else if is_newline(byte) && quote != b'`' {
         Mode::Blank
     } else {
@@ -127,6 +151,18 @@ fn behind_slash(last: u8, byte: u8) -> Mode
         begun(byte)
     } else {
         quoted(b'/', byte)
+    }
+}
+
+/// What a byte behind a `$` in a template is part of: `{` opens a bracket.
+#[tactic(auto, unfolding(crate::specs::Bytes::behind_dollar))]
+fn behind_dollar(byte: u8) -> Mode
+    ensures { result ≡ bytes.behind_dollar byte }
+{
+    if byte == b'{' {
+        Mode::Mark
+    } else {
+        quoted(b'`', byte)
     }
 }
 
@@ -161,6 +197,7 @@ pub(crate) fn next_mode(mode: Mode, last: u8, byte: u8) -> Mode
         Mode::Star => in_block(true, byte),
         Mode::Quoted(quote) => quoted(quote, byte),
         Mode::Escaped(quote) => Mode::Quoted(quote),
+        Mode::Dollar => behind_dollar(byte),
         Mode::Slash => behind_slash(last, byte),
         Mode::Blank | Mode::Word | Mode::Sign | Mode::Mark => begun(byte),
     }
@@ -177,8 +214,17 @@ pub(crate) fn ends_before(mode: Mode, last: u8, byte: u8) -> bool
         Mode::Mark => true,
         Mode::Slash => ends_operand(last) && byte != b'/' && byte != b'*',
         Mode::Quoted(quote) => is_newline(byte) && quote != b'`',
+        Mode::Dollar => byte == b'{',
         Mode::Blank | Mode::Line | Mode::Block | Mode::Star | Mode::Escaped(_) => false,
     }
+}
+
+/// Whether it is a `$` in a template.
+#[tactic(auto, unfolding(crate::specs::Bytes::is_dollar))]
+pub(crate) fn is_dollar(mode: Mode) -> bool
+    ensures { result ≡ bytes.is_dollar mode }
+{
+    matches!(mode, Mode::Dollar)
 }
 
 /// Whether it is part of a token.
@@ -189,6 +235,6 @@ pub(crate) fn is_token(mode: Mode) -> bool
     match mode {
         Mode::Blank | Mode::Line | Mode::Block | Mode::Star => false,
         Mode::Word | Mode::Sign | Mode::Mark | Mode::Slash => true,
-        Mode::Quoted(_) | Mode::Escaped(_) => true,
+        Mode::Quoted(_) | Mode::Escaped(_) | Mode::Dollar => true,
     }
 }

@@ -4,7 +4,7 @@ ghost use Rattle.std.specs.Prelude.{◌≡◌, ◌++◌, ◌+◌, ◌<◌, ◌�
 ghost use Rattle.ecma_outline.specs.Outline as outline;
 ghost use Rattle.ecma_outline.specs.Outline.{IsOutline, scan, scanned, start, step};
 
-use crate::bytes::{Mode, ends_before, is_blank, is_newline, is_token, next_mode};
+use crate::bytes::{Mode, ends_before, is_blank, is_dollar, is_newline, is_token, next_mode};
 use std::alloc::{AllocError, Global};
 
 /// A token, and what stood open where it begins.
@@ -34,6 +34,8 @@ pub struct Open {
     pub lexeme: usize,
     /// Which token is the bracket that was closed last before it.
     pub closed: usize,
+    /// Whether it stands behind the `$` of a template, which goes on where it is closed.
+    pub is_part: bool,
 }
 
 /// What is known before a byte.
@@ -44,7 +46,7 @@ pub struct State {
     pub mode: Mode,
     /// The last byte of a token that is no `/`.
     pub last: u8,
-    /// Whether no token of the line has begun.
+    /// Whether no token of the line has begun. A line of a template is one with that before it.
     pub is_fresh: bool,
     /// How many blanks the line begins with.
     pub indent: usize,
@@ -67,6 +69,7 @@ pub(crate) fn no_open() -> Open
         parent: 0,
         lexeme: 0,
         closed: 0,
+        is_part: false,
     }
 }
 
@@ -178,6 +181,7 @@ fn opened(state: State, lexeme: usize) -> Open
         parent: state.top,
         lexeme,
         closed: state.closed,
+        is_part: is_dollar(state.mode),
     }
 }
 
@@ -201,6 +205,17 @@ fn misfit_behind(state: State, around: Open) -> usize
     }
 }
 
+/// What a bracket that closes another is part of: a template where a `}` closes one that stands in it.
+fn mode_closed(mode: Mode, around: Open, byte: u8) -> Mode
+    ensures { result ≡ outline.mode_closed mode around byte }
+{
+    if around.is_part && byte == b'}' {
+        Mode::Quoted(b'`')
+    } else {
+        mode
+    }
+}
+
 /// The same with the brackets that are open behind a byte; `around` is the innermost one before it, and `count` how many have opened before.
 #[tactic(auto, unfolding(crate::specs::Outline::with_brackets))]
 fn with_brackets(state: State, next: State, around: Open, count: usize, byte: u8) -> State
@@ -212,6 +227,7 @@ fn with_brackets(state: State, next: State, around: Open, count: usize, byte: u8
     if opens(state, byte) {
         next.top = count;
     } else if closes(state, byte) {
+        next.mode = mode_closed(next.mode, around, byte);
         next.hold = around.indent;
         next.top = around.parent;
         next.misfit = misfit_behind(state, around);
@@ -220,13 +236,20 @@ fn with_brackets(state: State, next: State, around: Open, count: usize, byte: u8
     next
 }
 
+/// Whether a byte ends a line, by what it is part of: none ends within a token, as in a template.
+fn ends_line(mode: Mode, byte: u8) -> bool
+    ensures { result ≡ outline.ends_line mode byte }
+{
+    is_newline(byte) && !is_token(mode)
+}
+
 /// The indentation of a line with a byte more.
-fn indent_behind(state: State, byte: u8) -> usize
+fn indent_behind(state: State, mode: Mode, byte: u8) -> usize
     requires { state.indent < 2 ^ 33 }
-    ensures value { result ≡ outline.indent_behind state byte }
+    ensures value { result ≡ outline.indent_behind state mode byte }
     ensures bound { result ≤ state.indent + 1 }
 {
-    if is_newline(byte) {
+    if ends_line(mode, byte) {
         0
     } else if state.is_fresh && is_blank(byte) {
         state.indent + 1
@@ -261,8 +284,8 @@ fn along(state: State, byte: u8) -> State
     next.at = state.at + 1;
     next.mode = mode;
     next.last = last_behind(state, mode, byte);
-    next.is_fresh = is_newline(byte) || state.is_fresh && !begins;
-    next.indent = indent_behind(state, byte);
+    next.is_fresh = ends_line(mode, byte) || state.is_fresh && !begins;
+    next.indent = indent_behind(state, mode, byte);
     if begins {
         next.pending = empty_at(state);
     }

@@ -1,8 +1,9 @@
 -- What is said of a fault: the words for its situation, with what was found and what stands around it.
 use Rattle.std.specs.Prelude.{ℕ, List, [], ◌++◌, ◌==◌, ◌||◌, nat_le, codes, chars, encode_utf8, flat_map, if◌then◌else◌, length}
 use Rattle.swc_ecma_parser_error.specs.declared.error.Error.{Error}
-use Rattle.swc_ecma_parser_error.specs.Kind.{Kind, kind_of, TS1107, TS1116, TS1005, DeclNotAllowed, Eof, Expected, Unexpected, ExpectedIdent, ExpectedSemiForExprStmt, ImportExportInScript, UnexpectedChar, InvalidNumber}
+use Rattle.swc_ecma_parser_error.specs.Kind.{Kind, kind_of, TS1107, TS1116, TS1005, DeclNotAllowed, Eof, Expected, Unexpected, ExpectedIdent, ExpectedSemiForExprStmt, ImportExportInScript, UnexpectedChar, InvalidNumber, InvalidStrEscape, InvalidPat, NotSimpleAssign}
 use Rattle.ecma_situations.specs.Decided.{character, declaration_end, expected, module_item, name, statement_end, unexpected}
+use Rattle.ecma_situations.specs.Forms.{escape, target}
 use Rattle.ecma_outline.specs.Piece.{is_boundary, piece}
 use Rattle.ecma_situations.specs.Looked.{Looked}
 use Rattle.ecma_sentences.specs.Look.{look_at}
@@ -27,6 +28,9 @@ situation_of ExpectedSemiForExprStmt l = statement_end l
 situation_of ImportExportInScript l = module_item l
 situation_of UnexpectedChar l = character l
 situation_of InvalidNumber l = number l.token
+situation_of InvalidStrEscape l = escape l
+situation_of InvalidPat l = target l
+situation_of NotSimpleAssign l = target l
 situation_of k l = situation.Kind
 
 -- the words for a situation; where there are none those for the kind

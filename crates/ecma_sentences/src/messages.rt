@@ -11,8 +11,8 @@ use crate::payload::inner_of;
 use crate::sentences::sentence;
 use ecma_outline::{Source, is_start, piece};
 use ecma_situations::{
-    Look, Situation, character, declaration_end, expected, module_item, name, number,
-    statement_end, unexpected, words,
+    Look, Situation, character, declaration_end, escape, expected, module_item, name, number,
+    statement_end, target, unexpected, words,
 };
 use std::alloc::{AllocError, Global};
 use swc_ecma_parser_error::{Error, SyntaxError};
@@ -45,9 +45,9 @@ pub(crate) fn situation_of(kind: &SyntaxError, l: &Look<'_>) -> Situation
             RestPatInSetter TrailingCommaInsideImport WithInStrict InvalidIdentInStrict
             LineBreakInThrow MultipleDefault PatVarWithoutInit AwaitForStmt ExportNotAllowed
             DecoratorOnExport TS8038 ReservedWordInImport ImportBindingIsString
-            PropertyNamedConstructor AsyncConstructor InvalidPat NotSimpleAssign AssignProperty
+            PropertyNamedConstructor AsyncConstructor AssignProperty
             NullishCoalescingWithLogicalOp UnaryInExp LineBreakBeforeArrow InvalidSuper WithLabel
-            OutOfMemory TooDeep UnterminatedStrLit UnterminatedBlockComment InvalidStrEscape
+            OutOfMemory TooDeep UnterminatedStrLit UnterminatedBlockComment
             UnterminatedRegxp UnterminatedTpl
         ],
         {
@@ -63,6 +63,9 @@ pub(crate) fn situation_of(kind: &SyntaxError, l: &Look<'_>) -> Situation
             SyntaxError::ImportExportInScript => module_item(l),
             SyntaxError::UnexpectedChar => character(l),
             SyntaxError::InvalidNumber => number(l.token),
+            SyntaxError::InvalidStrEscape => escape(l),
+            SyntaxError::InvalidPat => target(l),
+            SyntaxError::NotSimpleAssign => target(l),
         }
     )
 }

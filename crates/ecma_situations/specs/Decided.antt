@@ -1,6 +1,7 @@
 -- Which situation a fault is in, by what stands around its place.
 use Rattle.std.specs.Prelude.{ℕ, List, ◌&&◌, ◌||◌, Bool, not, if◌then◌else◌, codes}
 use Rattle.std.specs.Str.{bytes_eq}
+use Rattle.ecma_situations.specs.Forms.{form, is_form, is_in_template, is_name_form, name_form, slash}
 use Rattle.ecma_situations.specs.Looked.{Looked}
 use Rattle.ecma_situations.specs.Texts.{is_closer, is_dash, is_declaring, is_else_if, is_function_word, is_invisible, is_modifier, is_name, is_slash, is_smart_apostrophe, is_smart_quote, is_type_word, is_typed_head, is_value}
 use Rattle.ecma_situations.specs.declared.situation.Situation.{Situation}
@@ -56,7 +57,7 @@ is_element l = bytes_eq l.token (codes "<") && (bytes_eq l.after (codes ">") || 
 
 -- HTML that is no element
 unfoldable pub is_markup : Looked → Bool
-is_markup l = bytes_eq l.found (codes "<!") || bytes_eq l.found (codes "<!--") || bytes_eq l.found (codes "<?") || (bytes_eq l.before (codes "--") && bytes_eq l.token (codes ">"))
+is_markup l = bytes_eq l.found (codes "<!") || bytes_eq l.found (codes "<!--") || bytes_eq l.found (codes "<?") || (bytes_eq l.before (codes "--") && bytes_eq l.token (codes ">")) || (bytes_eq l.token (codes "<") && is_slash l.after)
 
 -- parentheses with nothing in them
 unfoldable pub is_empty_list : Looked → Bool
@@ -174,7 +175,9 @@ behind l =
 -- where a `}` is missing
 unfoldable pub in_braces : Looked → Situation
 in_braces l =
+    if l.is_end && is_in_template l then situation.TemplateNotClosed else
     if l.is_end then situation.BlockNotClosed else
+    if is_in_template l then situation.TemplateBrace else
     if is_in_switch l then situation.CaseOrBrace else
     situation.CommaOrBrace
 
@@ -259,7 +262,8 @@ word l =
 -- where an expression is missing
 unfoldable pub expression : Looked → Situation
 expression l =
-    if is_slash l.found then situation.RegularExpression else
+    if is_form l then form l else
+    if is_slash l.found then slash l else
     if bytes_eq l.token (codes "#") then hash l else
     if bytes_eq l.token (codes "@") then situation.Decorator else
     if l.is_end && is_at_start l then situation.Expression else
@@ -276,12 +280,13 @@ unexpected l =
 -- A fault of kind `ExpectedIdent`
 unfoldable pub name : Looked → Situation
 name l =
+    if is_name_form l then name_form l else
     if bytes_eq l.opener (codes "(") && (is_modifier l.found || bytes_eq l.after (codes ":")) then situation.TypeScript else
     if is_nameless l then situation.FunctionName else
     if bytes_eq l.before (codes "class") then situation.ClassName else
     if bytes_eq l.found (codes ",") && bytes_eq l.before (codes "}") then situation.ClassComma else
     if is_name l.found then situation.ReservedName else
-    if bytes_eq l.before (codes ".") || bytes_eq l.before (codes "#") then situation.NameBehind else
+    if bytes_eq l.before (codes ".") then situation.NameBehind else
     situation.Name
 
 -- where any statement must end

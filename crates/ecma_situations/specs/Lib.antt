@@ -1,4 +1,5 @@
 pub mod Decided
+pub mod Forms
 pub mod Looked
 pub mod Number
 pub mod Situation

@@ -20,5 +20,6 @@ ending near last =
 abbrev pub number : List ℕ → Situation
 number text =
     if byte_at text 0 == 48 && is_digit (byte_at text 1) then situation.OldOctal
+    else if byte_at text 0 == 48 && byte_at text 1 == 95 then situation.ZeroSeparator
     else if byte_at text 0 == 48 && is_base (byte_at text 1) then situation.Digits
     else ending (byte_from_end text 2) (byte_from_end text 1)

@@ -40,6 +40,14 @@ unfoldable pub is_closer : List ℕ → Bool
 is_closer w =
     bytes_eq w (codes ")") || bytes_eq w (codes "]") || bytes_eq w (codes "}")
 
+-- A word that an operand stands behind
+unfoldable pub is_operand_keyword : List ℕ → Bool
+is_operand_keyword w =
+    bytes_eq w (codes "return") || bytes_eq w (codes "typeof") || bytes_eq w (codes "case") || bytes_eq w (codes "do") || bytes_eq w (codes "else") || bytes_eq w (codes "in") || bytes_eq w (codes "instanceof") || bytes_eq w (codes "void") || bytes_eq w (codes "delete") || bytes_eq w (codes "throw") || bytes_eq w (codes "new") || bytes_eq w (codes "yield") || bytes_eq w (codes "await") || bytes_eq w (codes "of") || bytes_eq w (codes "extends") || bytes_eq w (codes "default")
+
+abbrev pub begins_with : List ℕ → ℕ → Bool
+begins_with text b = byte_at text 0 == b
+
 -- a byte of a text counted from its end, of which the last is 1; 0 where there is none
 abbrev pub byte_from_end : List ℕ → ℕ → ℕ
 byte_from_end text n = if nat_le n (length text) then byte_at text (length text - n) else 0

@@ -4,6 +4,7 @@ ghost use Rattle.std.specs.Prelude.{◌≡◌};
 ghost use Rattle.ecma_situations.specs.Decided as spec;
 ghost use Rattle.ecma_situations.specs.Looked.{looked};
 
+use crate::forms::{form, is_form, is_in_template, is_name_form, name_form, slash};
 use crate::look::Look;
 use crate::situation::Situation;
 use crate::texts::{
@@ -123,7 +124,11 @@ fn is_element(l: &Look<'_>) -> bool
 fn is_markup(l: &Look<'_>) -> bool
     ensures { result ≡ spec.is_markup (looked l.now) }
 {
-    l.found == "<!" || l.found == "<!--" || l.found == "<?" || l.before == "--" && l.token == ">"
+    l.found == "<!"
+        || l.found == "<!--"
+        || l.found == "<?"
+        || l.before == "--" && l.token == ">"
+        || l.token == "<" && is_slash(l.after)
 }
 
 /// Parentheses with nothing in them.
@@ -364,8 +369,12 @@ fn behind(l: &Look<'_>) -> Situation
 fn in_braces(l: &Look<'_>) -> Situation
     ensures { result ≡ spec.in_braces (looked l.now) }
 {
-    if l.is_end {
+    if l.is_end && is_in_template(l) {
+        Situation::TemplateNotClosed
+    } else if l.is_end {
         Situation::BlockNotClosed
+    } else if is_in_template(l) {
+        Situation::TemplateBrace
     } else if is_in_switch(l) {
         Situation::CaseOrBrace
     } else {
@@ -534,8 +543,10 @@ fn word(l: &Look<'_>) -> Situation
 fn expression(l: &Look<'_>) -> Situation
     ensures { result ≡ spec.expression (looked l.now) }
 {
-    if is_slash(l.found) {
-        Situation::RegularExpression
+    if is_form(l) {
+        form(l)
+    } else if is_slash(l.found) {
+        slash(l)
     } else if l.token == "#" {
         hash(l)
     } else if l.token == "@" {
@@ -568,7 +579,9 @@ pub fn unexpected(l: &Look<'_>) -> Situation
 pub fn name(l: &Look<'_>) -> Situation
     ensures { result ≡ spec.name (looked l.now) }
 {
-    if l.opener == "(" && (is_modifier(l.found) || l.after == ":") {
+    if is_name_form(l) {
+        name_form(l)
+    } else if l.opener == "(" && (is_modifier(l.found) || l.after == ":") {
         Situation::TypeScript
     } else if is_nameless(l) {
         Situation::FunctionName
@@ -578,7 +591,7 @@ pub fn name(l: &Look<'_>) -> Situation
         Situation::ClassComma
     } else if is_name(l.found) {
         Situation::ReservedName
-    } else if l.before == "." || l.before == "#" {
+    } else if l.before == "." {
         Situation::NameBehind
     } else {
         Situation::Name

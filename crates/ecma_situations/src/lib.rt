@@ -2,6 +2,7 @@
 #![tactic(auto)]
 
 mod decided;
+mod forms;
 mod look;
 mod numbers;
 mod situation;
@@ -10,6 +11,7 @@ mod texts;
 pub use decided::{
     character, declaration_end, expected, module_item, name, statement_end, unexpected,
 };
+pub use forms::{escape, target};
 pub use look::Look;
 pub use numbers::number;
 pub use situation::{Beside, Situation, place_beside, words};

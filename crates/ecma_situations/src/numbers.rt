@@ -41,6 +41,8 @@ pub fn number(text: &str) -> Situation
     let is_zero = byte_at(text, 0) == b'0';
     if is_zero && is_digit(byte_at(text, 1)) {
         Situation::OldOctal
+    } else if is_zero && byte_at(text, 1) == b'_' {
+        Situation::ZeroSeparator
     } else if is_zero && is_base(byte_at(text, 1)) {
         Situation::Digits
     } else {

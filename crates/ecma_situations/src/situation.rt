@@ -202,6 +202,40 @@ pub enum Situation {
     NumberForm,
     /// At a BigInt.
     BigIntNumber,
+    /// At `/` behind what it divides.
+    Division,
+    /// At a template behind an optional chain.
+    ChainTag,
+    /// At `?.` in what `new` constructs.
+    ChainNew,
+    /// Behind `?.`.
+    ChainBehind,
+    /// At an optional chain that is assigned to.
+    ChainTarget,
+    /// Behind a private name.
+    PrivateAlone,
+    /// At `in` behind one in the head of a `for`.
+    PrivateInHead,
+    /// At one where a name must stand.
+    PrivateName,
+    /// Behind `#` and a blank.
+    PrivateBlank,
+    /// Behind `new.`.
+    NewWhat,
+    /// Behind `import.`.
+    ImportWhat,
+    /// At `import` behind `new`.
+    NewImport,
+    /// Behind an expression in a template.
+    TemplateBrace,
+    /// At `}` in a template.
+    TemplateExpression,
+    /// At the end, inside of a template.
+    TemplateNotClosed,
+    /// At a template with an escape.
+    TemplateEscape,
+    /// At `_` behind the `0` of a number.
+    ZeroSeparator,
 }
 
 /// The words for a situation, from a list of all.
@@ -283,13 +317,13 @@ macro_rules! words {
             TypeScript: "this looks like TypeScript, which is not read",
             Jsx: "this looks like JSX, which is not read",
             Html: "this looks like HTML or XML, which is not read",
-            OptionalChain: "optional chains such as `a?.b` are not read",
-            RegularExpression: "regular expressions are not read",
-            Template: "template literals are not read",
-            NameEscape: "escapes in names are not read",
-            ImportAttributes: "import attributes are not read unless they are enabled",
-            PrivateIn: "`#a in b` is not read",
-            NewTarget: "`new.target` is not read",
+            OptionalChain: "the plain language has no optional chains such as `a?.b`",
+            RegularExpression: "the plain language has no regular expressions",
+            Template: "the plain language has no templates",
+            NameEscape: "this escape spells no character that a name can hold here; the plain language has no escapes in names",
+            ImportAttributes: "the plain language has import attributes only if they are enabled",
+            PrivateIn: "a private name stands only before `in` or after `.`; put `#a in b` in parentheses here (the plain language has no `#a in b`)",
+            NewTarget: "the plain language has no `new.target`",
             Decorator: "decorators are not read unless they are enabled",
             Shebang: "`#!` is read only at the start of the text",
             Hash: "`#` does not begin a statement; a comment begins with `//`",
@@ -309,12 +343,29 @@ macro_rules! words {
             Invisible: "this character is invisible; remove it",
             Character: "unexpected character ~",
             NameBehindNumber: "a name cannot follow a number directly",
-            OldOctal: "old octal numbers such as `010` are not read; write `0o10`",
+            OldOctal: "a number such as `010` has no `_`, no `n` and no letter, and the plain language has none at all; write `0o10`",
             Separator: "`_` in a number must be between two digits, and only once",
             Digits: "digits are missing after `0x`, `0o` or `0b`, or one is too large",
             Exponent: "digits are missing after the `e` of this number",
             NumberForm: "a name cannot follow the digits of a number, and `_` must be between two of them",
             BigIntNumber: "a BigInt has neither a fraction nor an exponent",
+            Division: "expected an expression, found `/`: no regular expression begins here; end the statement before it with `;` (the plain language has none)",
+            ChainTag: "an optional chain cannot be the tag of the template ~; put the chain in parentheses",
+            ChainNew: "unexpected `?.`: `new` cannot construct an optional chain; put the chain in parentheses, or write `.`",
+            ChainBehind: "expected a name, `(` or `[` after `?.`, found ~",
+            ChainTarget: "an optional chain cannot be assigned to; a member without `?.` can",
+            PrivateAlone: "expected `in` after the private name `^`, found ~; a member is written `this.^`",
+            PrivateInHead: "`^ in ..` needs parentheses in the head of a `for`",
+            PrivateName: "expected a name, found a private name; only members of classes have those",
+            PrivateBlank: "nothing stands between the `#` of a private name and the rest of it",
+            NewWhat: "expected `target` after `new.`, found ~",
+            ImportWhat: "expected `meta` after `import.`, found ~",
+            NewImport: "what `new` constructs cannot begin with `import`; put it in parentheses",
+            TemplateBrace: "expected `}` after the expression in this template, found ~",
+            TemplateExpression: "expected an expression before the `}` in this template",
+            TemplateNotClosed: "the text ends inside of a template: expected `}`",
+            TemplateEscape: "an escape in this template is invalid: `\\x` takes two hexadecimal digits, `\\u` four or `{..}` up to 10FFFF, and of digits there is only `\\0`",
+            ZeroSeparator: "`_` cannot follow the `0` that a number begins with",
         })
     };
 }
@@ -377,7 +428,9 @@ pub fn place_beside(situation: Situation) -> Beside
             ImportAttributes PrivateIn NewTarget Decorator Shebang Hash WordAnd WordOr WordNot
             NotEqual AtMost ThinArrow FunctionWord TypeWord ElseIf ForEach SmartQuote
             SmartApostrophe Dash Invisible Character NameBehindNumber OldOctal Separator Digits
-            Exponent NumberForm BigIntNumber
+            Exponent NumberForm BigIntNumber Division ChainTag ChainNew ChainBehind ChainTarget
+            PrivateAlone PrivateInHead PrivateName PrivateBlank NewWhat ImportWhat NewImport
+            TemplateExpression TemplateEscape ZeroSeparator
         ],
         {
             Kind => Kind,
@@ -401,6 +454,8 @@ pub fn place_beside(situation: Situation) -> Beside
             WrongCloser => Opener,
             ForHead => Opener,
             ForOf => Opener,
+            TemplateBrace => Opener,
+            TemplateNotClosed => Opener,
         }
     )
 }

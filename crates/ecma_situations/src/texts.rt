@@ -102,6 +102,39 @@ pub(crate) fn is_closer(word: &str) -> bool
     }
 }
 
+/// A word that an operand stands behind.
+#[tactic(auto, unfolding(crate::specs::Texts::is_operand_keyword))]
+pub(crate) fn is_operand_keyword(word: &str) -> bool
+    ensures { result ≡ spec.is_operand_keyword word.now }
+{
+    match word {
+        "return"
+        | "typeof"
+        | "case"
+        | "do"
+        | "else"
+        | "in"
+        | "instanceof"
+        | "void"
+        | "delete"
+        | "throw"
+        | "new"
+        | "yield"
+        | "await"
+        | "of"
+        | "extends"
+        | "default" => true,
+        _ => false,
+    }
+}
+
+/// Whether a text begins with a byte.
+pub(crate) fn begins_with(text: &str, byte: u8) -> bool
+    ensures { result ≡ spec.begins_with text.now byte }
+{
+    byte_at(text, 0) == byte
+}
+
 /// A byte of a text counted from its end, of which the last is 1; 0 where there is none.
 pub(crate) fn byte_from_end(text: &str, n: usize) -> u8
     ensures { result ≡ spec.byte_from_end text.now n }

@@ -35,6 +35,52 @@ fn a_slash_divides_behind_an_operand(rt: HostRuntime) {
 }
 
 #[test]
+fn a_slash_divides_behind_let(rt: HostRuntime) {
+    let wanted = "Let 0..3|Div 4..5|Ident 5..6|Div 6..7|Ident 7..8|";
+    reads(
+        &rt,
+        rt.alloc(),
+        Goal::Script,
+        Shown::Kinds,
+        "let\n/a/g",
+        wanted,
+    );
+    let wanted = "Let 0..3|PlusPlus 3..5|Div 6..7|Num 8..9|Div 10..11|Num 12..13|";
+    reads(
+        &rt,
+        rt.alloc(),
+        Goal::Script,
+        Shown::Kinds,
+        "let++ / 1 / 2",
+        wanted,
+    );
+}
+
+#[test]
+fn let_declares_patterns_and_names(rt: HostRuntime) {
+    let wanted =
+        "Let 0..3|LBrace 4..5|If 5..7|Colon 7..8|Ident 9..10|RBrace 10..11|Assign 12..13|Regex 14..17|";
+    reads(
+        &rt,
+        rt.alloc(),
+        Goal::Script,
+        Shown::Kinds,
+        "let {if: a} = /b/",
+        wanted,
+    );
+    let wanted =
+        "Let 0..3|Ident 4..9|Function 10..18|Ident 19..20|LParen 20..21|RParen 21..22|LBrace 23..24|RBrace 24..25|Regex 26..29|";
+    reads(
+        &rt,
+        rt.alloc(),
+        Goal::Script,
+        Shown::Kinds,
+        "let async\nfunction f() {} /a/",
+        wanted,
+    );
+}
+
+#[test]
 fn a_slash_begins_where_an_operand_must_come(rt: HostRuntime) {
     let wanted = "Ident 0..1|Assign 2..3|Regex 4..8|";
     reads(

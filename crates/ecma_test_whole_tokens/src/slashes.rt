@@ -23,15 +23,6 @@ fn a_slash_begins_behind_words_that_are_names(rt: HostRuntime) {
         "yield / 1 / 2",
         wanted,
     );
-    let wanted = "Let 0..3|Regex 4..9|Num 10..11|";
-    reads(
-        &rt,
-        rt.alloc(),
-        Goal::Script,
-        Shown::Kinds,
-        "let / 1 / 2",
-        wanted,
-    );
 }
 
 #[test]

@@ -8,12 +8,11 @@ ghost use Rattle.swc_ecma_parser_lexer.specs.Tokens.{Fits};
 
 use crate::comment::CommentList;
 use crate::input::StringInput;
-use crate::place::{Place, find, is_skipped, past, past_blanks, spelled};
+use crate::place::{Place, find, spelled};
 use std::alloc::Global;
 use swc_ecma_parser_common::{BytePos, Comment, Span};
 use swc_ecma_parser_error::{Error, PResult, SyntaxError};
 use swc_ecma_parser_input::{CommentSource, Context, FaultLists, Syntax, Tokens};
-use swc_ecma_parser_scan::{plain_mark, plain_name};
 use swc_ecma_parser_token::TokenAndSpan;
 
 /// A lexer: what it has still to read of its text, and what a source of tokens keeps.
@@ -136,36 +135,6 @@ impl<'a> Lexer<'a> {
     }
 }
 
-impl<'a> Lexer<'a> {
-    ghost use Rattle.swc_ecma_parser_lexer.specs.Collected.{IsReadOn, comments_at};
-    ghost use Rattle.swc_ecma_parser_lexer.specs.Tokens.{AreAlike, IsReadAt};
-
-    /// The next token, whatever stands before it.
-    #[inline(never)]
-    fn next_of_any(&mut self) -> Option<TokenAndSpan>
-        ensures drawn { source.Draws
-            (source_of self.old.place self.old.context self.old.syntax self.old.faults) result
-            (source_of self.new.place self.new.context self.new.syntax self.new.faults) }
-        ensures comments { IsReadOn self.old.comments self.old.place self.new.comments
-            self.new.place }
-        ensures ended { IfNone result (comments_at self.new.place ≡ []) }
-        ensures read { MatchOption result (AreAlike self.old.place self.new.place)
-            (λ t. IsReadAt self.old.place t self.new.place) }
-        ensures start { self.new.place.start ≡ self.old.place.start }
-    {
-        let found = find(self.place, &mut self.comments);
-        let Some(piece) = found.piece else {
-            self.place.at = found.place.at;
-            self.place.had_line_break = found.place.had_line_break;
-            self.place.rest = found.place.rest;
-            return None;
-        };
-        let token = spelled(self.alloc, found.place, piece);
-        self.place = past(found.place, piece);
-        Some(token)
-    }
-}
-
 impl<'a> Tokens for Lexer<'a> {
     ghost use Rattle.swc_ecma_parser_lexer.specs.Ordered.{ordered};
     ghost use Rattle.swc_ecma_parser_lexer.specs.Collected.{IsReadOn, comments_at};
@@ -187,20 +156,15 @@ impl<'a> Tokens for Lexer<'a> {
             (λ t. IsReadAt self.old.place t self.new.place) }
         ensures start { self.new.place.start ≡ self.old.place.start }
     {
-        let place = past_blanks(self.place);
-        if let Some(name) = plain_name(place.rest) {
-            let token = spelled(self.alloc, place, name);
-            self.place = past(place, name);
-            return Some(token);
-        }
-        if let Some(mark) = plain_mark(place.rest) {
-            if !is_skipped(mark.state) {
-                let token = spelled(self.alloc, place, mark);
-                self.place = past(place, mark);
-                return Some(token);
-            }
-        }
-        self.next_of_any()
+        let found = find(self.place, &mut self.comments);
+        let Some(piece) = found.piece else {
+            self.place.at = found.place.at;
+            self.place.had_line_break = found.place.had_line_break;
+            self.place.rest = found.place.rest;
+            return None;
+        };
+        self.place.go_past(found.place, piece);
+        Some(spelled(self.alloc, found.place, piece))
     }
 
     fn set_ctx(&mut self, context: Context)

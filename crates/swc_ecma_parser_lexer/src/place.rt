@@ -28,6 +28,22 @@ pub struct Place<'a> {
     pub rest: &'a str,
 }
 
+impl<'a> Place<'a> {
+    /// Goes past the token at a place further on. Behind it stands no line break yet.
+    #[inline(always)]
+    pub(crate) fn go_past(&mut self, place: Place<'a>, piece: Piece<'a>)
+        requires start { place.start ≡ self.old.start }
+        requires fits { read.Fits place }
+        requires piece { IsFirstPiece (place.at == 0) place.rest.now piece }
+        requires token { read.is_skipped piece.state ≡ false }
+        ensures { read.IsPast place.entry piece.entry self.new }
+    {
+        self.at = place.at + piece.text.len() as u32;
+        self.had_line_break = false;
+        self.rest = piece.rest;
+    }
+}
+
 /// A place and the token there, or the end of the text.
 #[derive(Clone, Copy)]
 pub struct Found<'a> {
@@ -37,7 +53,7 @@ pub struct Found<'a> {
 
 /// White space, a line terminator or a comment.
 #[tactic(auto, unfolding(crate::specs::Tokens::is_skipped))]
-pub fn is_skipped(state: State) -> bool
+fn is_skipped(state: State) -> bool
     ensures { result ≡ read.is_skipped state }
 {
     match state {
@@ -91,7 +107,7 @@ pub fn past<'a>(place: Place<'a>, piece: Piece<'a>) -> Place<'a>
 }
 
 /// The place behind the spaces and line breaks that are ASCII.
-pub fn past_blanks(first: Place<'_>) -> Place<'_>
+fn past_blanks(first: Place<'_>) -> Place<'_>
     requires { read.Fits first }
     ensures { blank.IsBehindBlanks first.entry result }
 {

@@ -25,6 +25,7 @@ is_ended ahead.Ended = true
 is_ended ahead.Async = true
 is_ended ahead.AsyncOperand = true
 is_ended ahead.BehindKey = true
+is_ended ahead.Let = true
 is_ended _ = false
 
 unfoldable pub is_name : Ahead → Bool
@@ -76,6 +77,7 @@ behind_word a top kind.Break name = ahead.Statement
 behind_word a top kind.Continue name = ahead.Statement
 behind_word a top kind.Debugger name = ahead.Statement
 behind_word a top kind.New name = ahead.New
+behind_word a top kind.Let name = ahead.Let
 behind_word a top kind.Export name = ahead.Exported
 behind_word a top kind.Default name = ahead.Exported
 behind_word a top kind.This name = ahead.Ended
@@ -147,6 +149,7 @@ brace ahead.Operand os = record { ahead = ahead.Key; stack = opened.Object ∷ o
 brace ahead.New os = record { ahead = ahead.Key; stack = opened.Object ∷ os }
 brace ahead.Exported os = record { ahead = ahead.Key; stack = opened.Object ∷ os }
 brace ahead.Head os = record { ahead = ahead.Key; stack = opened.Object ∷ os }
+brace ahead.Let os = record { ahead = ahead.Key; stack = opened.Object ∷ os }
 brace ahead.Ended os = body os
 brace ahead.Async os = body os
 brace ahead.AsyncOperand os = body os

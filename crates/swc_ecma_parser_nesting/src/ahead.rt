@@ -25,4 +25,6 @@ pub enum Ahead {
     AsyncOperand,
     /// What stands behind `export` and `default`.
     Exported,
+    /// What stands behind `let`: a declared name or pattern, or what goes on with the name `let`.
+    Let,
 }

@@ -30,7 +30,7 @@ fn is_ended(ahead: Ahead) -> bool
 {
     matches!(
         ahead,
-        Ahead::Ended | Ahead::Async | Ahead::AsyncOperand | Ahead::BehindKey
+        Ahead::Ended | Ahead::Async | Ahead::AsyncOperand | Ahead::BehindKey | Ahead::Let
     )
 }
 
@@ -127,6 +127,7 @@ fn behind_word(ahead: Ahead, top: Open, kind: TokenKind, name: &str) -> Ahead
         | TokenKind::Continue
         | TokenKind::Debugger => Ahead::Statement,
         TokenKind::New => Ahead::New,
+        TokenKind::Let => Ahead::Let,
         TokenKind::Export | TokenKind::Default => Ahead::Exported,
         TokenKind::Class
         | TokenKind::This
@@ -528,7 +529,7 @@ impl Nest {
         ensures { self.new ≡ read.brace self.old.ahead self.old.stack }
     {
         match self.ahead {
-            Ahead::Operand | Ahead::New | Ahead::Exported | Ahead::Head => {
+            Ahead::Operand | Ahead::New | Ahead::Exported | Ahead::Head | Ahead::Let => {
                 self.stack.push(Open::Object);
                 self.ahead = Ahead::Key;
             }

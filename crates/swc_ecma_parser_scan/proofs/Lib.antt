@@ -3,4 +3,3 @@ pub mod Bytes
 pub mod Runs
 pub mod Blanks
 pub mod Lone
-pub mod Plain

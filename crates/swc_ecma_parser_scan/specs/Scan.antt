@@ -50,7 +50,3 @@ pub record IsFirstPiece (is_first : Bool) (text : List ℕ) (piece : Piece) : Ty
   pub utf8 : IsUtf8 piece.text.now
   pub rest_utf8 : IsUtf8 piece.rest.now
   pub parts : text ≡ piece.text.now ++ piece.rest.now
-
--- the same, wherever the text stands
-abbrev pub IsPlainPiece : List ℕ → Piece → Type 0
-IsPlainPiece text piece = (is_first : Bool) → IsFirstPiece is_first text piece

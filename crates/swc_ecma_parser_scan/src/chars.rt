@@ -16,24 +16,6 @@ pub fn first_char(text: &str) -> Option<(char, &str)>
     Some((first, characters.as_str()))
 }
 
-/// The first character of a text, if it is ASCII, and the text behind it.
-#[inline(always)]
-pub(crate) fn first_ascii(text: &str) -> Option<(u8, &str)>
-    ensures first { IfSome result (λ first. class.IsFirst text.now first.0 first.1.now) }
-    ensures ascii { IfSome result (λ first. first.0 < 128) }
-{
-    let bytes = text.as_bytes();
-    if bytes.len() == 0 {
-        return None;
-    }
-    let byte = bytes[0];
-    if byte < 128 {
-        Some((byte, &text[1..]))
-    } else {
-        None
-    }
-}
-
 /// White space: ECMA-262, section 12.2.
 #[tactic(auto, unfolding(crate::specs::Chars::is_space))]
 pub fn is_space(c: char) -> bool

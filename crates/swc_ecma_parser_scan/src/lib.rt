@@ -10,5 +10,5 @@ mod state;
 mod step;
 
 pub use chars::{first_char, hex_digit, is_digit, is_line_break, is_name_part, is_name_start};
-pub use piece::{Piece, plain_mark, plain_name, scan};
+pub use piece::{Piece, scan};
 pub use state::{Base, Mark, Number, State};

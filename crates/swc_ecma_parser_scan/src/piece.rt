@@ -7,7 +7,7 @@ ghost use Rattle.swc_ecma_parser_scan.specs.Lone as lone;
 ghost use Rattle.swc_ecma_parser_scan.specs.Scan as read;
 ghost use Rattle.swc_ecma_parser_scan.specs.declared.state.State.TheVariants as state;
 
-use crate::chars::{first_ascii, first_char, is_name_start};
+use crate::chars::{first_char, is_name_start};
 use crate::run::past_run;
 use crate::state::{Mark, State};
 use crate::step::{begin, step};
@@ -263,54 +263,6 @@ fn whole(is_first: bool, c: char, behind: &str) -> Munched<'_>
     } else {
         long(is_first, c, behind)
     }
-}
-
-/// A name of ASCII at the start of a text, where nothing stands behind it, or ASCII.
-#[inline(always)]
-pub fn plain_name(text: &str) -> Option<Piece<'_>>
-    ensures plain { IfSome result (λ piece. read.IsPlainPiece text.now piece) }
-    ensures name { IfSome result (λ piece. piece.state ≡ state.Name) }
-{
-    let (byte, behind) = first_ascii(text)?;
-    if !is_name_start(byte as char) {
-        return None;
-    }
-    let rest = past_run(State::Name, behind);
-    if !is_ascii_ahead(rest) {
-        return None;
-    }
-    let name = before(text, rest);
-    Some(Piece {
-        state: State::Name,
-        text: name,
-        rest,
-    })
-}
-
-/// What a mark or an operator is that ends behind its one character.
-#[inline(always)]
-fn short_mark(c: char, behind: &str) -> Option<State>
-    ensures { IfSome result (λ found. lone.IsAt c (chars behind.now) found) }
-{
-    if let Some(mark) = lone_mark(c) {
-        return Some(State::Mark(mark));
-    }
-    mark_at(c, behind)
-}
-
-/// A mark or an operator of one character at the start of a text.
-#[inline(always)]
-pub fn plain_mark(text: &str) -> Option<Piece<'_>>
-    ensures { IfSome result (λ piece. read.IsPlainPiece text.now piece) }
-{
-    let (byte, behind) = first_ascii(text)?;
-    let state = short_mark(byte as char, behind)?;
-    let mark = before(text, behind);
-    Some(Piece {
-        state,
-        text: mark,
-        rest: behind,
-    })
 }
 
 /// The first piece of a text, if it is not empty. `is_first`: nothing stands before the text.

@@ -1,2 +1,3 @@
 mod Misused
 mod AwaitStmt
+mod Returned

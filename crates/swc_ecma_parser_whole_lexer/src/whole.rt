@@ -27,9 +27,9 @@ use swc_ecma_parser_token::{AssignOp, BinOpToken, Token, TokenAndSpan, TokenKind
 /// octal numbers and strings, and, in script code, comments as in HTML, beside what `Lexer` reads.
 ///
 /// It takes the tokens of a `Lexer`, and reads some of them anew. Whether `/` divides is told by the tokens before it. So it
-/// is taken for the beginning of a regular expression behind `await`, `yield` and `let` where these are names, and for a
-/// division at the beginning of a line behind a declared name without a value, a label of `break` or `continue`, and the
-/// string of an import or export.
+/// is taken for the beginning of a regular expression behind `await` and `yield` where these are names, and for a division
+/// at the beginning of a line behind a declared name without a value, a label of `break` or `continue`, and the string of an
+/// import or export.
 ///
 /// At most `swc_ecma_parser_nesting::LIMIT` brackets may be open; in the place of one more stands a fault of kind `TooDeep`.
 /// Where a regular expression or a template has no end, a fault of kind `UnterminatedRegxp` or `UnterminatedTpl` stands at
@@ -139,6 +139,7 @@ impl<'a> WholeLexer<'a> {
 
     /// Goes past a token of this kind. Whether it opens more than may be open: then nothing is opened.
     #[tactic(auto, unfolding(crate::specs::Whole::nest_settled))]
+    #[inline(always)]
     fn pass(&mut self, kind: TokenKind, name: &str) -> bool
         ensures deep { result ≡ nesting.is_too_deep (nesting.pass self.old.nest kind name.now) }
         ensures nest { self.new.nest
@@ -158,6 +159,7 @@ impl<'a> WholeLexer<'a> {
 
     /// Goes past a token, which stays as it is unless it opens more than may be open.
     #[tactic(auto, unfolding(crate::specs::Whole::settled))]
+    #[inline(always)]
     fn settle(&mut self, found: &mut TokenAndSpan)
         ensures found { found.new
             ≡ read.settled (read.nest_behind self.old.nest found.old.token) found.old }
@@ -303,7 +305,9 @@ impl<'a> Tokens for WholeLexer<'a> {
     {
         loop {
             let before = self.lexer.place();
-            let mut found = self.lexer.next()?;
+            let Some(mut found) = self.lexer.next() else {
+                return None;
+            };
             let rest = self.lexer.place().rest;
             if !may_change(&self.nest, &found.token, rest) {
                 self.settle(&mut found);
