@@ -1,6 +1,7 @@
 // A plugin for rollup that reads modules by `ecma-check`. A module that has no tree is left to rollup's own parser, with a warning.
 'use strict';
 const { Refusal, treeOf } = require('../common/program');
+const { annotate } = require('./annotations');
 
 const ADDRESS = /^#\s+sourceMappingURL=.+/;
 
@@ -33,7 +34,9 @@ function ecmaCheck(parse = (text) => treeOf(text, 'module', ['--comments'])) {
         transform(code) {
             try {
                 const { comments, ...ast } = parse(code);
-                if (!('attributes' in this.parse('export {};').body[0])) leaveOutAttributes(ast);
+                const [list, call] = this.parse('export {}; /*#__PURE__*/a();').body;
+                if (!('attributes' in list)) leaveOutAttributes(ast);
+                if (call.expression._rollupAnnotations?.[0]?.value === '#__PURE__') annotate(ast, comments, code);
                 return { code: withoutAddresses(code, comments), ast, map: null };
             } catch (error) {
                 if (!(error instanceof Refusal)) throw error;

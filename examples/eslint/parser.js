@@ -1,6 +1,7 @@
 // Parsers for ESLint over anything that reads a text as a tree and its faults.
 'use strict';
 const { unionWith } = require('eslint-visitor-keys');
+const { allComments } = require('../common/html');
 
 // The parts of nodes that ESLint has no keys for.
 const VISITOR_KEYS = unionWith({
@@ -52,14 +53,25 @@ function* nodesOf(tree) {
 }
 
 // ESLint has a text of a template with its marks: one character before it, and one or two behind it.
-function widenTemplates(program) {
+function widenText(element) {
+    const behind = element.tail ? 1 : 2;
+    element.start = element.range[0] -= 1;
+    element.end = element.range[1] += behind;
+    element.loc.start.column -= 1;
+    element.loc.end.column += behind;
+}
+
+// ESLint's own parser has one node for both names of a specifier that is written with one: a rule that tells of a node once tells of it once.
+function joinNames(specifier, first, second) {
+    if (specifier[first].start === specifier[second].start) specifier[second] = specifier[first];
+}
+
+// Makes the nodes of a tree those that ESLint's rules expect.
+function adapt(program) {
     for (const node of nodesOf(program)) {
-        if (node.type !== 'TemplateElement') continue;
-        const behind = node.tail ? 1 : 2;
-        node.start = node.range[0] -= 1;
-        node.end = node.range[1] += behind;
-        node.loc.start.column -= 1;
-        node.loc.end.column += behind;
+        if (node.type === 'TemplateElement') widenText(node);
+        else if (node.type === 'ImportSpecifier') joinNames(node, 'imported', 'local');
+        else if (node.type === 'ExportSpecifier') joinNames(node, 'local', 'exported');
     }
 }
 
@@ -74,8 +86,9 @@ function parserOver(read) {
     return function parseForESLint(text, options = {}) {
         const { tree, faults, refusal } = read(text, askedBy(options));
         if (refusal) throw refused(refusal);
+        tree.comments = allComments(text, tree);
         trim(tree);
-        widenTemplates(tree);
+        adapt(tree);
         return { ast: tree, services: { faults }, visitorKeys: VISITOR_KEYS };
     };
 }

@@ -41,6 +41,22 @@ is_of_undeclared kind.MisplacedNewTarget = false
 is_of_undeclared kind.OldNumberInStrict = false
 is_of_undeclared kind.OldEscapeInStrict = false
 is_of_undeclared kind.WrongFlags = false
+is_of_undeclared (kind.InvalidPattern e) = false
+is_of_undeclared kind.ImportArguments = false
+is_of_undeclared kind.ImportPhase = false
+is_of_undeclared kind.DecoratedFunction = false
+is_of_undeclared kind.MisplacedUsing = false
+is_of_undeclared kind.MisplacedBreak = false
+is_of_undeclared kind.MisplacedContinue = false
+is_of_undeclared kind.MisplacedReturn = false
+is_of_undeclared kind.MisplacedFunction = false
+is_of_undeclared kind.MisplacedLet = false
+is_of_undeclared kind.MisplacedAsync = false
+is_of_undeclared kind.HeadInitializer = false
+is_of_undeclared kind.MisplacedIn = false
+is_of_undeclared kind.WrongAttribute = false
+is_of_undeclared kind.SecondAttribute = false
+is_of_undeclared kind.LoneSurrogate = false
 
 -- those that are told: where a part of the text stands in no tree, it may declare a name
 abbrev pub kept : (is_part_dropped : Bool) → List EarlyError → List EarlyError

@@ -88,7 +88,23 @@ fn is_of_undeclared(kind: EarlyErrorKind) -> bool
         | EarlyErrorKind::MisplacedNewTarget
         | EarlyErrorKind::OldNumberInStrict
         | EarlyErrorKind::OldEscapeInStrict
-        | EarlyErrorKind::WrongFlags => false,
+        | EarlyErrorKind::WrongFlags
+        | EarlyErrorKind::InvalidPattern(_)
+        | EarlyErrorKind::ImportArguments
+        | EarlyErrorKind::ImportPhase
+        | EarlyErrorKind::DecoratedFunction
+        | EarlyErrorKind::MisplacedUsing
+        | EarlyErrorKind::MisplacedBreak
+        | EarlyErrorKind::MisplacedContinue
+        | EarlyErrorKind::MisplacedReturn
+        | EarlyErrorKind::MisplacedFunction
+        | EarlyErrorKind::MisplacedLet
+        | EarlyErrorKind::MisplacedAsync
+        | EarlyErrorKind::HeadInitializer
+        | EarlyErrorKind::MisplacedIn
+        | EarlyErrorKind::WrongAttribute
+        | EarlyErrorKind::SecondAttribute
+        | EarlyErrorKind::LoneSurrogate => false,
     }
 }
 

@@ -64,7 +64,7 @@ one = record sum.empty { files = 1 }
 module _ (o : Options) (text : List ℕ) (before after : Option (List ℕ)) where
   -- what is written of a text whose tree was read without a fault, and the line that sums up
   pub shown : (f : Format) (frame : Frame) (x : Tree) (out notes : List ℕ) → IsPrinted f o frame (codes "-") text (Ok x) [] [] out notes
-      → Appends before after (out ++ summed f one) → (all : List ℕ) × ShowsIn f o text (view_tree x) all × Appends before after all
+      → Appends before after (out ++ summed f one) → (all : List ℕ) × ShowsIn frame f o text (view_tree x) all × Appends before after all
   shown format.Text frame x out notes p h =
       let empty = p.0 ∙ nothing_told format.Text o.max_faults (lined text) (codes "-") x in
       (sum.line one, refl, subst (λ z. Appends before after (z ++ sum.line one)) empty h)
@@ -75,7 +75,7 @@ module _ (o : Options) (text : List ℕ) (before after : Option (List ℕ)) wher
   shown format.Html frame x out notes p h =
       let q = p.0 in (
         out,
-        record { frame = frame; page = q.page; name = q.name; source = q.source; tree = q.tree_data; faults = q.faults ∙ nothing_told format.Html o.max_faults (lined text) (codes "-") x; bytes = q.bytes },
+        record { page = q.page; name = q.name; source = q.source; tree = q.tree_data; faults = q.faults ∙ nothing_told format.Html o.max_faults (lined text) (codes "-") x; bytes = q.bytes },
         subst (Appends before after) (append-nil out) h,
       )
 

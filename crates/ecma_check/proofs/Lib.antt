@@ -1,3 +1,4 @@
+mod Arguments
 mod Clean
 mod Files
 mod Marks

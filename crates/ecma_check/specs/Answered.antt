@@ -23,8 +23,7 @@ summed format.Estree s = []
 summed format.Html s = []
 
 -- a page of standard input with its tree, of which nothing is told
-pub record ShowsPage (o : Options) (text : List ℕ) (x : Tree) (out : List ℕ) : Type 0 where
-  pub frame : Frame
+pub record ShowsPage (frame : Frame) (o : Options) (text : List ℕ) (x : Tree) (out : List ℕ) : Type 0 where
   pub page : Page
   pub name : page.name.now ≡ quoted (codes "-")
   pub source : page.source.now ≡ quoted text
@@ -33,11 +32,11 @@ pub record ShowsPage (o : Options) (text : List ℕ) (x : Tree) (out : List ℕ)
   pub bytes : out ≡ page_text frame page
 
 -- what is written of standard input, whose text is clean
-abbrev pub ShowsIn : Format → Options → (text : List ℕ) → Tree → List ℕ → Type 0
-ShowsIn format.Text o text x out = out ≡ sum.line (record sum.empty { files = 1 })
-ShowsIn format.Json o text x out = out ≡ []
-ShowsIn format.Estree o text x out = (told : List ℕ) × IsEstree o text x told × (out ≡ told ++ codes "\n")
-ShowsIn format.Html o text x out = ShowsPage o text x out
+abbrev pub ShowsIn : Frame → Format → Options → (text : List ℕ) → Tree → List ℕ → Type 0
+ShowsIn frame format.Text o text x out = out ≡ sum.line (record sum.empty { files = 1 })
+ShowsIn frame format.Json o text x out = out ≡ []
+ShowsIn frame format.Estree o text x out = (told : List ℕ) × IsEstree o text x told × (out ≡ told ++ codes "\n")
+ShowsIn frame format.Html o text x out = ShowsPage frame o text x out
 
-abbrev pub Shows : Settings → (text : List ℕ) → Tree → (before after : Option (List ℕ)) → Type 0
-Shows s text x before after = (out : List ℕ) × ShowsIn s.format s.options text x out × Appends before after out
+abbrev pub Shows : Settings → Frame → (text : List ℕ) → Tree → (before after : Option (List ℕ)) → Type 0
+Shows s frame text x before after = (out : List ℕ) × ShowsIn frame s.format s.options text x out × Appends before after out

@@ -1,6 +1,6 @@
 -- The words that a run is called with.
-use Rattle.std.specs.Prelude.{◌≡◌, ◌≤◌, ◌<◌, ◌^◌, ℕ, Bool, true, false, List, [], ◌∷◌, ◌==◌, ◌&&◌, ◌||◌, not, Option, Some, None, option_map, if◌then◌else◌, min, codes}
-use Rattle.std.specs.List.{flat_map, slice_split}
+use Rattle.std.specs.Prelude.{◌≡◌, ◌⊎◌, ◌≤◌, ◌<◌, ◌^◌, ℕ, Bool, true, false, List, [], ◌∷◌, ◌==◌, ◌&&◌, ◌||◌, not, Option, Some, None, option_map, if◌then◌else◌, min, codes}
+use Rattle.std.specs.List.{flat_map, list_all, slice_split}
 use Rattle.std.specs.Str.{bytes_eq}
 use Rattle.std.specs.Str.Parse.{IsNumeral, digits_value, without_leading_plus}
 use Rattle.clap.specs.Matches.{first_value, matched_of, one_text, raw_values}
@@ -17,6 +17,8 @@ use Rattle.ecma_answers.specs.declared.options.Options.{Options}
 use Rattle.ecma_check.specs.declared.command.Format.{Format}
 use Rattle.ecma_check.specs.declared.command.Format.TheVariants as format
 use Rattle.ecma_check.specs.declared.command.Settings.{Settings}
+use Rattle.ecma_check.specs.declared.fault.Fault.{Fault}
+use Rattle.ecma_check.specs.declared.fault.Fault.TheVariants as fault
 
 -- whether a word stands there that has no value
 abbrev pub IsSet : Found → (name : List ℕ) → Type 0
@@ -68,6 +70,19 @@ abbrev pub all_enabled : EsSyntax → (names : List (List ℕ)) → EsSyntax
 all_enabled s [] = s
 all_enabled s (name ∷ names) = all_enabled (enabled s name) names
 
+-- whether all of some names are known
+abbrev pub are_flags : (names : List (List ℕ)) → Bool
+are_flags names = list_all is_flag names
+
+-- the names that words enable; none, where no word does
+abbrev pub names_enabled : Option (List (List ℕ)) → List (List ℕ)
+names_enabled None = []
+names_enabled (Some words) = names_in words
+
+-- why names are not turned on: one of them is not known, or memory ran out
+abbrev pub IsUnknown : (names : List (List ℕ)) → Fault → Type 0
+IsUnknown names f = (f ≡ fault.OutOfMemory) ⊎ ((f ≡ fault.UnknownFlag) × (are_flags names ≡ false))
+
 -- what is read besides ECMA-262, with all that words name
 abbrev pub syntax_named : Option (List (List ℕ)) → Syntax
 syntax_named None = plain
@@ -94,6 +109,12 @@ pub record IsOneGoal (f : Found) : Type 0 where
   pub no_module : IsSet f (codes "script") → IsSet f (codes "module") → ⊥
   pub no_program : IsSet f (codes "script") → IsSet f (codes "program") → ⊥
   pub no_module_program : IsSet f (codes "module") → IsSet f (codes "program") → ⊥
+
+-- two words say what files are read as
+abbrev pub AreManyGoals : Found → Type 0
+AreManyGoals f =
+    (¬ IsUnset f (codes "script") × ¬ IsUnset f (codes "module"))
+    ⊎ ((¬ IsUnset f (codes "script") × ¬ IsUnset f (codes "program")) ⊎ (¬ IsUnset f (codes "module") × ¬ IsUnset f (codes "program")))
 
 -- how many levels a number asks for: a thousand at most
 abbrev pub levels : (word : List ℕ) → ℕ
@@ -135,4 +156,12 @@ pub record IsCheck (f : Found) (s : Settings) (named : List (List ℕ)) : Type 0
   pub format : s.format ≡ format_named (first_value f (codes "format"))
   pub options : AreOptions f s.options
   pub goals : IsOneGoal f
+  pub known : are_flags (names_enabled (option_map raw_values (matched_of f (codes "enable")))) ≡ true
   pub files : named ≡ files_named (option_map raw_values (matched_of f (codes "FILE")))
+
+-- why words that the command takes name nothing to check: two of them say what files are read as, or a name is not known; or memory ran out
+abbrev pub IsWrong : Found → Fault → Type 0
+IsWrong f fault.ManyGoals = AreManyGoals f
+IsWrong f fault.UnknownFlag = are_flags (names_enabled (option_map raw_values (matched_of f (codes "enable")))) ≡ false
+IsWrong f fault.OutOfMemory = Unit {0}
+IsWrong f _ = ⊥

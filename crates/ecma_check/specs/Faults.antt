@@ -24,6 +24,10 @@ sentence fault.OutOfMemory = codes "out of memory"
 unfoldable pub fault_line : (name : List ℕ) → Fault → List ℕ
 fault_line name f = name_text name ++ (codes ": " ++ (sentence f ++ codes "\n"))
 
+-- a word that is not UTF-8: NUL stands before its escaped bytes
+abbrev pub IsMarked : (word : List ℕ) → Type 0
+IsMarked word = (rest : List ℕ) × (word ≡ 0 ∷ rest)
+
 -- a word as it is told: of one that is not UTF-8 the escaped bytes, which stand behind NUL
 abbrev pub IsShown : (word name : List ℕ) → Type 0
 IsShown word name = (word ≡ 0 ∷ name) ⊎ (((rest : List ℕ) → word ≢ 0 ∷ rest) × (name ≡ word))

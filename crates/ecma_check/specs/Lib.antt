@@ -5,3 +5,4 @@ pub mod Printed
 pub mod Sum
 pub mod Answered
 pub mod Runs
+pub mod Arguments

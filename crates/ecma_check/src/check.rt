@@ -1,7 +1,6 @@
 //! One text: what it comes to, and what is printed of it.
 
 ghost use Rattle.std.specs.Prelude.{◌≡◌, ◌<◌, ◌^◌, length, IfOk};
-ghost use Rattle.ecma_page.specs.declared.frame.Frame.{Frame as PageFrame};
 ghost use Rattle.ecma_check.specs.Printed.{IsChecked, IsCheckedFinding, IsPrinted, IsTreeLine};
 
 use crate::command::{Format, Settings};
@@ -9,7 +8,7 @@ use crate::fault::Fault;
 use crate::page::page_of;
 use crate::told::told;
 use ecma_answers::{Findings, Options, Outcome, Tree, find, write};
-use ecma_page::{FRAME, Frame};
+use ecma_page::Frame;
 use std::alloc::{AllocError, Global};
 use swc_ecma_parser::error::PResult;
 
@@ -130,13 +129,18 @@ fn checked_of(
     checked
 }
 
-/// Reads a text, and tells or writes what is asked for.
-pub fn check(alloc: Global, settings: Settings, file: &str, text: &str) -> Result<Checked, Fault>
-    ensures { IfOk result
-        (λ it. (frame : PageFrame) × IsChecked settings frame file.now text.now it) }
+/// Reads a text, and tells or writes what is asked for. A page has the frame that is given.
+pub fn check(
+    alloc: Global,
+    frame: &Frame,
+    settings: Settings,
+    file: &str,
+    text: &str,
+) -> Result<Checked, Fault>
+    ensures { IfOk result (IsChecked settings frame.now file.now text.now) }
 {
     if text.len() > u32::MAX as usize {
         return Err(Fault::TooLong);
     }
-    Ok(checked_of(alloc, &FRAME, settings, file, text)?)
+    Ok(checked_of(alloc, frame, settings, file, text)?)
 }

@@ -1,12 +1,16 @@
 //! The words that a run is called with.
 
-ghost use Rattle.std.specs.Prelude.{◌≡◌, ◌==◌, IfErr, IfOk, OnOk, codes, map, option_map, true};
+ghost use Rattle.std.specs.Prelude.{◌≡◌, ◌==◌, ℕ, List, IfErr, IfOk, OnOk, codes, map, false, option_map, string_bytes, true};
+ghost use Rattle.std.specs.Borrow.{Bor};
 ghost use Rattle.std.specs.List.{slice_split};
-ghost use Rattle.clap.specs.Words.{first_value, found_of, matched_of, raw_values};
+ghost use Rattle.clap.specs.Words.{app_of, first_value, found_of, kind_of, matched_of, raw_values, rule_of};
+ghost use Rattle.ecma_check.specs.Arguments as arguments;
+ghost use Rattle.ecma_check.specs.Arguments.{AreFormats, AreTaken, IsFound};
 ghost use Rattle.ecma_check.specs.Command as spec;
-ghost use Rattle.ecma_check.specs.Command.{AreOptions, IsGoal, IsLanguage, IsLimit, IsMost, IsOneGoal, names_in, syntax_named};
+ghost use Rattle.ecma_check.specs.Command.{AreManyGoals, AreOptions, IsGoal, IsLanguage, IsLimit, IsMost, IsOneGoal, IsUnknown, IsWrong, are_flags, names_enabled, names_in, syntax_named};
 
 use crate::fault::Fault;
+use clap::error::ErrorKind;
 use clap::{Arg, ArgAction, ArgMatches, Command, Error};
 use ecma_answers::{Goal, Language, MAX_FAULTS, MAX_LIMIT, Options};
 use ecma_estree_text::Extras;
@@ -38,7 +42,10 @@ pub struct Settings {
 }
 
 /// A word that is there or not.
-fn flag<'a>(alloc: Global, name: &'a str, help: &'a str) -> Arg<'a> {
+fn flag<'a>(alloc: Global, name: &'a str, help: &'a str) -> Arg<'a>
+    ensures rule { rule_of result ≡ arguments.flag name.now }
+    ensures local { result.global ≡ false }
+{
     Arg::new(alloc, name)
         .long(name)
         .action(ArgAction::SetTrue)
@@ -46,7 +53,10 @@ fn flag<'a>(alloc: Global, name: &'a str, help: &'a str) -> Arg<'a> {
 }
 
 /// How many levels deep a file may nest.
-fn limit<'a>(alloc: Global) -> Arg<'a> {
+fn limit<'a>(alloc: Global) -> Arg<'a>
+    ensures rule { rule_of result ≡ arguments.number (codes "limit") }
+    ensures local { result.global ≡ false }
+{
     Arg::new(alloc, "limit")
         .long("limit")
         .value_name("N")
@@ -55,7 +65,10 @@ fn limit<'a>(alloc: Global) -> Arg<'a> {
 }
 
 /// How many faults are told of a file.
-fn max_faults<'a>(alloc: Global) -> Arg<'a> {
+fn max_faults<'a>(alloc: Global) -> Arg<'a>
+    ensures rule { rule_of result ≡ arguments.number (codes "max-faults") }
+    ensures local { result.global ≡ false }
+{
     Arg::new(alloc, "max-faults")
         .long("max-faults")
         .value_name("N")
@@ -64,7 +77,10 @@ fn max_faults<'a>(alloc: Global) -> Arg<'a> {
 }
 
 /// Whether early errors are left out.
-fn no_early<'a>(alloc: Global) -> Arg<'a> {
+fn no_early<'a>(alloc: Global) -> Arg<'a>
+    ensures rule { rule_of result ≡ arguments.flag (codes "no-early") }
+    ensures local { result.global ≡ false }
+{
     flag(
         alloc,
         "no-early",
@@ -73,7 +89,10 @@ fn no_early<'a>(alloc: Global) -> Arg<'a> {
 }
 
 /// Whether the language is the plain one.
-fn plain<'a>(alloc: Global) -> Arg<'a> {
+fn plain<'a>(alloc: Global) -> Arg<'a>
+    ensures rule { rule_of result ≡ arguments.flag (codes "plain") }
+    ensures local { result.global ≡ false }
+{
     flag(
         alloc,
         "plain",
@@ -82,7 +101,10 @@ fn plain<'a>(alloc: Global) -> Arg<'a> {
 }
 
 /// What is read besides ECMA-262.
-fn enable<'a>(alloc: Global) -> Arg<'a> {
+fn enable<'a>(alloc: Global) -> Arg<'a>
+    ensures rule { rule_of result ≡ arguments.enable }
+    ensures local { result.global ≡ false }
+{
     Arg::new(alloc, "enable")
         .long("enable")
         .value_name("FLAG,..")
@@ -93,7 +115,11 @@ fn enable<'a>(alloc: Global) -> Arg<'a> {
 }
 
 /// What is printed.
-fn format_word<'a>(alloc: Global) -> Arg<'a> {
+fn format_word<'a>(alloc: Global) -> Arg<'a>
+    ensures rule { (names : Bor (List (Bor (List ℕ)))) × AreFormats names
+        × (rule_of result ≡ arguments.format names) }
+    ensures local { result.global ≡ false }
+{
     Arg::new(alloc, "format")
         .long("format")
         .value_name("FORMAT")
@@ -102,7 +128,10 @@ fn format_word<'a>(alloc: Global) -> Arg<'a> {
 }
 
 /// The files.
-fn files<'a>(alloc: Global) -> Arg<'a> {
+fn files<'a>(alloc: Global) -> Arg<'a>
+    ensures rule { rule_of result ≡ arguments.operands }
+    ensures local { result.global ≡ false }
+{
     Arg::new(alloc, "FILE")
         .action(ArgAction::Append)
         .num_args(0..)
@@ -110,7 +139,10 @@ fn files<'a>(alloc: Global) -> Arg<'a> {
 }
 
 /// The words that say what files are read as. Each excludes the others, which `settings_of` sees to.
-fn with_goals<'a>(alloc: Global, command: Command<'a>) -> Result<Command<'a>, AllocError> {
+fn with_goals<'a>(alloc: Global, command: Command<'a>) -> Result<Command<'a>, AllocError>
+    ensures { IfOk result
+        (λ it. app_of it ≡ arguments.with_arguments (app_of command.entry) arguments.goals) }
+{
     let script = flag(
         alloc,
         "script",
@@ -128,7 +160,10 @@ fn with_goals<'a>(alloc: Global, command: Command<'a>) -> Result<Command<'a>, Al
 }
 
 /// The words that say what a tree has besides its nodes.
-fn with_extras<'a>(alloc: Global, command: Command<'a>) -> Result<Command<'a>, AllocError> {
+fn with_extras<'a>(alloc: Global, command: Command<'a>) -> Result<Command<'a>, AllocError>
+    ensures { IfOk result
+        (λ it. app_of it ≡ arguments.with_arguments (app_of command.entry) arguments.extras) }
+{
     command
         .arg(flag(
             alloc,
@@ -140,19 +175,38 @@ fn with_extras<'a>(alloc: Global, command: Command<'a>) -> Result<Command<'a>, A
         .arg(flag(alloc, "tokens", "adds the tokens to a tree"))
 }
 
-/// The command.
-fn command<'a>(alloc: Global) -> Result<Command<'a>, AllocError> {
-    let command = Command::new(alloc, "ecma-check").version(VERSION).about(
-        "Reports the faults of JavaScript files, or writes their trees",
-    );
-    let command = with_goals(alloc, command)?;
-    let command = command
+/// The words that say how files are read and what is printed.
+fn with_settings<'a>(alloc: Global, command: Command<'a>) -> Result<Command<'a>, AllocError>
+    ensures { IfOk result
+        (λ it. (formats : Bor (List (Bor (List ℕ)))) × AreFormats formats
+        × (app_of it ≡ arguments.with_arguments (app_of command.entry) (arguments.settings formats))) }
+{
+    command
         .arg(plain(alloc))?
         .arg(limit(alloc))?
         .arg(max_faults(alloc))?
         .arg(no_early(alloc))?
         .arg(enable(alloc))?
-        .arg(format_word(alloc))?;
+        .arg(format_word(alloc))
+}
+
+/// The program, without its words.
+fn program<'a>(alloc: Global) -> Command<'a>
+    ensures { app_of result ≡ arguments.program }
+{
+    Command::new(alloc, "ecma-check").version(VERSION).about(
+        "Reports the faults of JavaScript files, or writes their trees",
+    )
+}
+
+/// The command.
+fn command<'a>(alloc: Global) -> Result<Command<'a>, AllocError>
+    ensures { IfOk result
+        (λ it. (formats : Bor (List (Bor (List ℕ)))) × AreFormats formats
+        × (app_of it ≡ arguments.command formats)) }
+{
+    let command = with_goals(alloc, program(alloc))?;
+    let command = with_settings(alloc, command)?;
     with_extras(alloc, command)?.arg(files(alloc))
 }
 
@@ -166,7 +220,8 @@ fn is_at_most_one(first: bool, second: bool, third: bool) -> bool
 /// Whether one word at most says what files are read as.
 #[tactic(auto, using(crate::proofs::Names::one_goal))]
 fn has_one_goal(matches: &ArgMatches<'_>) -> bool
-    ensures { result ≡ true → IsOneGoal (found_of matches.now) }
+    ensures one { result ≡ true → IsOneGoal (found_of matches.now) }
+    ensures many { result ≡ false → AreManyGoals (found_of matches.now) }
 {
     let is_script = matches.get_flag("script");
     let is_module = matches.get_flag("module");
@@ -295,10 +350,13 @@ fn enabled(settings: EsSyntax, name: &str) -> EsSyntax
 }
 
 /// Turns on what some names say, if all of them are known.
+#[tactic(auto, using(crate::proofs::Names::flags_more, crate::proofs::Names::flag_unknown))]
 fn all_enabled(settings: EsSyntax, names: &[&str]) -> Result<EsSyntax, Fault>
     ensures enabled { IfOk result
         (λ it. it ≡ spec.all_enabled settings (map (λ name. name.now) names.now)) }
-    ensures unknown { IfErr result (λ fault. fault ≡ Fault.UnknownFlag) }
+    ensures known { OnOk result (are_flags (map (λ name. name.now) names.now) ≡ true) }
+    ensures unknown { IfErr result (IsUnknown (map (λ name. name.now) names.now)) }
+    ensures fault { IfErr result (λ fault. fault ≡ Fault.UnknownFlag) }
 {
     let mut settings = settings;
     for name in names {
@@ -312,17 +370,23 @@ fn all_enabled(settings: EsSyntax, names: &[&str]) -> Result<EsSyntax, Fault>
 
 /// Turns on what some words name, if all of it is known.
 fn with_named(alloc: Global, settings: EsSyntax, words: &[&str]) -> Result<EsSyntax, Fault>
-    ensures { IfOk result
+    ensures enabled { IfOk result
         (λ it. it ≡ spec.all_enabled settings (names_in (map (λ word. word.now) words.now))) }
+    ensures known { OnOk result (are_flags (names_in (map (λ word. word.now) words.now)) ≡ true) }
+    ensures unknown { IfErr result (IsUnknown (names_in (map (λ word. word.now) words.now))) }
 {
     let names = names_of(alloc, words)?;
     all_enabled(settings, names.as_slice())
 }
 
 /// What is read besides ECMA-262.
-#[tactic(auto, using(crate::proofs::Names::named))]
+#[tactic(auto, using(crate::proofs::Names::named, crate::proofs::Names::enabled_known, crate::proofs::Names::none_enabled, crate::proofs::Names::enabled_unknown))]
 fn syntax_of(alloc: Global, matches: &ArgMatches<'_>) -> Result<Syntax, Fault>
-    ensures { IfOk result
+    ensures known { OnOk result
+        (are_flags (names_enabled (option_map raw_values (matched_of (found_of matches.now) (codes "enable")))) ≡ true) }
+    ensures unknown { IfErr result
+        (IsUnknown (names_enabled (option_map raw_values (matched_of (found_of matches.now) (codes "enable"))))) }
+    ensures syntax { IfOk result
         (λ it. it
         ≡ syntax_named (option_map raw_values (matched_of (found_of matches.now) (codes "enable")))) }
 {
@@ -376,12 +440,16 @@ fn options_of(matches: &ArgMatches<'_>, syntax: Syntax) -> Options
 }
 
 /// What is asked for, but for the files.
+#[tactic(auto, using(crate::proofs::Names::wrong_names))]
 pub fn settings_of(alloc: Global, matches: &ArgMatches<'_>) -> Result<Settings, Fault>
     ensures format { IfOk result
         (λ it. it.format
         ≡ spec.format_named (first_value (found_of matches.now) (codes "format"))) }
     ensures options { IfOk result (λ it. AreOptions (found_of matches.now) it.options) }
     ensures goals { OnOk result (IsOneGoal (found_of matches.now)) }
+    ensures known { OnOk result
+        (are_flags (names_enabled (option_map raw_values (matched_of (found_of matches.now) (codes "enable")))) ≡ true) }
+    ensures wrong { IfErr result (IsWrong (found_of matches.now)) }
 {
     if !has_one_goal(matches) {
         return Err(Fault::ManyGoals);
@@ -393,7 +461,13 @@ pub fn settings_of(alloc: Global, matches: &ArgMatches<'_>) -> Result<Settings, 
     })
 }
 
-/// What the words ask for.
-pub fn matches_of<'a>(alloc: Global, words: &'a [String]) -> Result<ArgMatches<'a>, Error> {
+/// What the command finds in the words.
+pub fn matches_of<'a>(alloc: Global, words: &'a [String]) -> Result<ArgMatches<'a>, Error>
+    ensures found { IfOk result
+        (λ it. IsFound (map (λ word. string_bytes word) words.now) (found_of it)) }
+    ensures taken { IfErr result
+        (λ e. AreTaken (map (λ word. string_bytes word) words.now)
+        → kind_of e ≡ ErrorKind.OutOfMemory) }
+{
     command(alloc)?.try_get_matches_from(words)
 }

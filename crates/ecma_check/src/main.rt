@@ -13,12 +13,14 @@ mod tell;
 mod told;
 mod words;
 
+use ecma_page::FRAME;
 use std::process::ExitCode;
 
 fn main(rt: HostRuntime) -> ExitCode {
     let words = words::words(&rt);
     let status = run::run(
         &rt,
+        &FRAME,
         &call::asked(rt.alloc(), &words),
         &mut rt.stdin(),
         &mut rt.stdout(),

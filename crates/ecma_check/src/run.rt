@@ -1,12 +1,13 @@
 //! A run, from what the words ask for to its status.
 
-ghost use Rattle.std.specs.Prelude.{◌≡◌, ◌≤◌, ◌⊎◌, ℕ, List, IfOk, IfErr, IfSome, OnOk, Ok, Err, codes, map};
-ghost use Rattle.std.specs.Io.KnownBytes.{Appends};
-ghost use Rattle.ecma_page.specs.declared.frame.Frame.{Frame as PageFrame};
+ghost use Rattle.std.specs.Prelude.{◌≡◌, ◌≢◌, ◌≤◌, ◌⊎◌, ℕ, List, IfOk, IfErr, IfSome, OnOk, Ok, Err, codes, map};
+ghost use Rattle.std.specs.Io.KnownBytes.{Appends, IsAtEnd};
+ghost use Rattle.std.specs.List.{All};
 ghost use Rattle.ecma_check.specs.Answered.{summed};
 ghost use Rattle.ecma_check.specs.Faults.{IsShown, fault_line};
 ghost use Rattle.ecma_check.specs.Printed.{IsChecked};
-ghost use Rattle.ecma_check.specs.Runs.{AreAnswered, Ends, EndsRun, IsRun};
+ghost use Rattle.ecma_check.specs.Runs.{AreAnswered, Ends, EndsRun, IsRun, IsSilent, Leaves};
+ghost use Rattle.ecma_check.specs.Runs as runs;
 ghost use Rattle.ecma_check.specs.Sum as spec;
 
 use crate::call::Call;
@@ -18,6 +19,7 @@ use crate::sum::{Sum, added, empty, line, status};
 use crate::tell::{cut_off, tell, write_bytes, write_fault, write_notes};
 use crate::words::shown;
 use ecma_answers::Outcome;
+use ecma_page::Frame;
 use std::alloc::Global;
 use std::io::{Read, Write};
 use std::rt::Files;
@@ -25,17 +27,20 @@ use std::rt::Files;
 /// What a file, or standard input for `-`, comes to. Nothing is written.
 fn checked_file<R: Files + AllocGlobal, I: Read>(
     rt: &R,
+    frame: &Frame,
     settings: Settings,
     file: &str,
     input: &mut I,
 ) -> Result<Checked, Fault>
-    ensures { IfOk result
+    ensures read { IfOk result
         (λ it. (text : List ℕ)
-        × (file.now ≡ codes "-" → IfSome (I.remaining input.old) (λ xs. text ≡ xs))
-        × ((frame : PageFrame) × IsChecked settings frame file.now text it)) }
+        × (file.now ≡ codes "-" → IfSome (I.remaining input.old) (λ xs. text ≡ xs)
+        × IsAtEnd (I.remaining input.new))
+        × IsChecked settings frame.now file.now text it) }
+    ensures named { file.now ≢ codes "-" → I.remaining input.new ≡ I.remaining input.old }
 {
     let text = text_of(rt, input, file)?;
-    check(rt.alloc(), settings, file, text.as_str())
+    check(rt.alloc(), frame, settings, file, text.as_str())
 }
 
 /// What a file comes to: how its text comes out, and how many faults and early errors there are.
@@ -118,20 +123,23 @@ fn ended<E: Write>(alloc: Global, errors: &mut E, sum: Result<Sum, Fault>) -> u8
 #[tactic(auto, using(crate::proofs::Files::answered_none))]
 fn answers<R: Files + AllocGlobal, I: Read, W: Write, E: Write>(
     rt: &R,
+    frame: &Frame,
     settings: Settings,
     files: &[&str],
     input: &mut I,
     output: &mut W,
     errors: &mut E,
 ) -> Result<Sum, Fault>
-    ensures { IfOk result
-        (AreAnswered settings (map (λ file. file.now) files.now) (I.remaining input.old)
+    ensures answered { IfOk result
+        (AreAnswered settings frame.now (map (λ file. file.now) files.now) (I.remaining input.old)
         (I.remaining input.new) (W.contents output.old) (W.contents output.new)
         (E.contents errors.old) (E.contents errors.new)) }
+    ensures named { All (λ file. file.now ≢ codes "-") files.now
+        → I.remaining input.new ≡ I.remaining input.old }
 {
     let mut sum = empty();
     for file in files {
-        let checked = checked_file(rt, settings, file, input);
+        let checked = checked_file(rt, frame, settings, file, input);
         write_answer(rt.alloc(), output, errors, file, &checked)?;
         sum = added(sum, answer_of(&checked));
     }
@@ -141,34 +149,47 @@ fn answers<R: Files + AllocGlobal, I: Read, W: Write, E: Write>(
 /// The same, and the line that sums up.
 fn summed_answers<R: Files + AllocGlobal, I: Read, W: Write, E: Write>(
     rt: &R,
+    frame: &Frame,
     settings: Settings,
     files: &[&str],
     input: &mut I,
     output: &mut W,
     errors: &mut E,
 ) -> Result<Sum, Fault>
-    ensures { IfOk result
-        (IsRun settings (map (λ file. file.now) files.now) (I.remaining input.old)
-        (W.contents output.old) (W.contents output.new) (E.contents errors.old)
-        (E.contents errors.new)) }
+    ensures run { IfOk result
+        (IsRun settings frame.now (map (λ file. file.now) files.now) (I.remaining input.old)
+        (I.remaining input.new) (W.contents output.old) (W.contents output.new)
+        (E.contents errors.old) (E.contents errors.new)) }
+    ensures named { All (λ file. file.now ≢ codes "-") files.now
+        → I.remaining input.new ≡ I.remaining input.old }
 {
-    let sum = answers(rt, settings, files, input, output, errors)?;
+    let sum = answers(rt, frame, settings, files, input, output, errors)?;
     finish(rt.alloc(), output, settings.format, sum)?;
     Ok(sum)
 }
 
 /// Whether what is asked for is of one file alone.
-fn is_of_one_file(format: Format) -> bool {
+fn is_of_one_file(format: Format) -> bool
+    ensures { result ≡ runs.is_of_one_file format }
+{
     match format {
         Format::Text | Format::Json => false,
         Format::Estree | Format::Html => true,
     }
 }
 
+/// Whether that is asked for of none or of many files.
+fn is_in_vain(format: Format, files: usize) -> bool
+    ensures { result ≡ runs.is_in_vain format files }
+{
+    is_of_one_file(format) && files != 1
+}
+
 /// A run over files. It answers the status, which is 3 where the run comes to no end.
-#[tactic(auto, using(crate::proofs::Files::cut_run))]
+#[tactic(auto, using(crate::proofs::Files::vain_run))]
 fn run_files<R: Files + AllocGlobal, I: Read, W: Write, E: Write>(
     rt: &R,
+    frame: &Frame,
     settings: Settings,
     files: &[&str],
     input: &mut I,
@@ -176,14 +197,16 @@ fn run_files<R: Files + AllocGlobal, I: Read, W: Write, E: Write>(
     errors: &mut E,
 ) -> u8
     ensures bound { result ≤ 3 }
-    ensures ends { EndsRun settings (map (λ file. file.now) files.now) (I.remaining input.old)
-        (W.contents output.old) (W.contents output.new) (E.contents errors.old)
-        (E.contents errors.new) result }
+    ensures named { All (λ file. file.now ≢ codes "-") files.now
+        → I.remaining input.new ≡ I.remaining input.old }
+    ensures ends { EndsRun settings frame.now (map (λ file. file.now) files.now) (I.remaining input.old)
+        (I.remaining input.new) (W.contents output.old) (W.contents output.new)
+        (E.contents errors.old) (E.contents errors.new) result }
 {
-    if is_of_one_file(settings.format) && files.len() != 1 {
+    if is_in_vain(settings.format, files.len()) {
         return cut_off(rt.alloc(), errors, Fault::ManyFiles);
     }
-    let sum = summed_answers(rt, settings, files, input, output, errors);
+    let sum = summed_answers(rt, frame, settings, files, input, output, errors);
     ended(rt.alloc(), errors, sum)
 }
 
@@ -199,22 +222,34 @@ fn print<W: Write, E: Write>(alloc: Global, output: &mut W, errors: &mut E, text
     }
 }
 
-/// Does what the words ask for, with a reader and two writers. It answers the status: 0 where each file is clean, 1 where one has faults or early errors, 2 where
+/// Does what the words ask for, with a reader and two writers. A page has the frame that is given. It answers the status: 0 where each file is clean, 1 where one has faults or early errors, 2 where
 /// one has no tree, 3 where one cannot be read, nothing can be written, or the words are no command.
 pub fn run<R: Files + AllocGlobal, I: Read, W: Write, E: Write>(
     rt: &R,
+    frame: &Frame,
     call: &Call<'_>,
     input: &mut I,
     output: &mut W,
     errors: &mut E,
 ) -> u8
     ensures status { result ≤ 3 }
-    ensures ends { Ends call.now (I.remaining input.old) (W.contents output.old)
-        (W.contents output.new) (E.contents errors.old) (E.contents errors.new) result }
+    ensures unread { Leaves call.now (I.remaining input.old) (I.remaining input.new) }
+    ensures silent { IsSilent call.now (W.contents output.old) (W.contents output.new) }
+    ensures ends { Ends frame.now call.now (I.remaining input.old) (I.remaining input.new)
+        (W.contents output.old) (W.contents output.new) (E.contents errors.old)
+        (E.contents errors.new) result }
 {
     match call {
         Call::Check(settings, files) => {
-            run_files(rt, *settings, files.as_slice(), input, output, errors)
+            run_files(
+                rt,
+                frame,
+                *settings,
+                files.as_slice(),
+                input,
+                output,
+                errors,
+            )
         }
         Call::Print(text) => print(rt.alloc(), output, errors, text.as_slice()),
         Call::Refuse(text) => {

@@ -1,15 +1,17 @@
 //! The words that the program is called with.
 
-ghost use Rattle.std.specs.Prelude.{◌≡◌, IfOk, IsUtf8, string_bytes};
-ghost use Rattle.ecma_check.specs.Faults.{IsShown};
+ghost use Rattle.std.specs.Prelude.{◌≡◌, ◌↔◌, IfOk, IsUtf8, string_bytes, true};
+ghost use Rattle.ecma_check.specs.Faults.{IsMarked, IsShown};
 
 use std::alloc::{AllocError, Global};
 use std::env::FillError;
 use std::rt::Env;
 
 /// Whether a word is none of UTF-8: NUL stands before its escaped bytes. The system ends words by NUL, so none holds it.
-pub fn is_marked(word: &str) -> bool {
-    word.starts_with('\0')
+pub fn is_marked(word: &str) -> bool
+    ensures { (result ≡ true) ↔ IsMarked word.now }
+{
+    word.strip_prefix('\0').is_some()
 }
 
 /// A word as it is told: of one that is not UTF-8 the escaped bytes.

@@ -3,11 +3,12 @@
 ghost use Rattle.std.specs.Prelude.{◌≡◌, ◌∷◌, ◌++◌, [], map, IfOk, OnOk};
 ghost use Rattle.ecma_contexts.specs.Contexts as rule;
 ghost use Rattle.ecma_contexts.specs.Contexts.{errors_of, next, told};
-ghost use Rattle.ecma_events.specs.Event.{event_of};
+ghost use Rattle.ecma_events.specs.Event as steps;
+ghost use Rattle.ecma_events.specs.Event.{event_of, flow_of};
 
 use crate::context::{Context, Contexts};
 use crate::words::{is_restricted, is_strict_word};
-use ecma_events::{Binding, EarlyError, EarlyErrorKind, Event, Role};
+use ecma_events::{Binding, EarlyError, EarlyErrorKind, EarlyErrorKind as Kind, Event, Flow, Role};
 use std::alloc::{AllocError, Global};
 use swc_ecma_parser_common::Span;
 use swc_ecma_parser_model::Ident;
@@ -122,66 +123,89 @@ fn tell_name(
     }
 }
 
+/// Tells a label that the code around reserves.
+fn tell_label(errors: &mut Vec<EarlyError>, c: Context, flow: Flow<'_>) -> Result<(), AllocError>
+    ensures { OnOk result
+        (errors.new.items ≡ errors.old.items ++ rule.flow_told c (flow_of flow.entry)) }
+{
+    match flow {
+        Flow::Label(_, name) => tell_reserved(errors, c, name),
+        Flow::Loop
+        | Flow::End
+        | Flow::Break(_)
+        | Flow::Continue(_)
+        | Flow::BreakTo(_, _)
+        | Flow::ContinueTo(_, _)
+        | Flow::Return(_) => Ok(()),
+    }
+}
+
+/// Tells a function behind a label.
+fn tell_labeled(errors: &mut Vec<EarlyError>, c: Context, span: Span) -> Result<(), AllocError>
+    ensures { OnOk result
+        (errors.new.items ≡ errors.old.items ++ told c (steps.labeled_function span)) }
+{
+    tell_if(errors, c.is_module, EarlyErrorKind::MisplacedFunction, span)
+}
+
+/// Tells an initializer before `in`.
+fn tell_head_init(
+    errors: &mut Vec<EarlyError>,
+    c: Context,
+    is_name: bool,
+    span: Span,
+) -> Result<(), AllocError>
+    ensures { OnOk result
+        (errors.new.items ≡ errors.old.items ++ told c (steps.head_init is_name span)) }
+{
+    let is_wrong = c.is_module || !is_name && !c.is_strict;
+    tell_if(errors, is_wrong, EarlyErrorKind::HeadInitializer, span)
+}
+
 /// Tells what is wrong at an event.
 fn tell(errors: &mut Vec<EarlyError>, c: Context, event: &Event<'_>) -> Result<(), AllocError>
     ensures { OnOk result (errors.new.items ≡ errors.old.items ++ told c (event_of event.now)) }
 {
     match *event {
         Event::Name(role, name) => tell_name(errors, c, role, name),
-        Event::DeleteName(span) => {
-            tell_if(errors, c.is_strict, EarlyErrorKind::NameDeleted, span)
-        }
-        Event::DeletePrivate(span) => {
-            tell_if(errors, true, EarlyErrorKind::PrivateDeleted, span)
-        }
+        Event::DeleteName(span) => tell_if(errors, c.is_strict, Kind::NameDeleted, span),
+        Event::DeletePrivate(span) => tell_if(errors, true, Kind::PrivateDeleted, span),
         Event::With(span) => {
             let is_wrong = c.is_strict && !c.is_module;
-            tell_if(errors, is_wrong, EarlyErrorKind::WithInStrict, span)
+            tell_if(errors, is_wrong, Kind::WithInStrict, span)
         }
-        Event::SuperCall(span) => {
-            tell_if(
-                errors,
-                !c.super_calls,
-                EarlyErrorKind::MisplacedSuperCall,
-                span,
-            )
+        Event::Using(span) => tell_if(errors, c.bans_using, Kind::MisplacedUsing, span),
+        Event::SuperCall(span) => tell_if(errors, !c.super_calls, Kind::MisplacedSuperCall, span),
+        Event::SuperMember(span) => tell_if(errors, !c.super_members, Kind::MisplacedSuper, span),
+        Event::Await(span) => {
+            let is_wrong = c.bans_await && c.takes_await;
+            tell_if(errors, is_wrong, Kind::MisplacedAwait, span)
         }
-        Event::SuperMember(span) => {
-            tell_if(
-                errors,
-                !c.super_members,
-                EarlyErrorKind::MisplacedSuper,
-                span,
-            )
-        }
-        Event::Await(span) => tell_if(errors, c.bans_await, EarlyErrorKind::MisplacedAwait, span),
-        Event::Yield(span) => tell_if(errors, c.bans_yield, EarlyErrorKind::MisplacedYield, span),
+        Event::Awaits(span) => tell_if(errors, c.bans_await, Kind::MisplacedAwait, span),
+        Event::Yield(span) => tell_if(errors, c.bans_yield, Kind::MisplacedYield, span),
         Event::NewTarget(span) => {
-            tell_if(
-                errors,
-                !c.has_new_target,
-                EarlyErrorKind::MisplacedNewTarget,
-                span,
-            )
+            tell_if(errors, !c.has_new_target, Kind::MisplacedNewTarget, span)
         }
-        Event::OldNumber(span) => {
-            tell_if(errors, c.is_strict, EarlyErrorKind::OldNumberInStrict, span)
-        }
-        Event::OldString(span) => {
-            tell_if(errors, c.is_strict, EarlyErrorKind::OldEscapeInStrict, span)
-        }
-        Event::WrongFlags(span) => tell_if(errors, true, EarlyErrorKind::WrongFlags, span),
-        Event::Prototype(span) => tell_if(errors, true, EarlyErrorKind::StaticPrototype, span),
-        Event::SecondProto(span) => tell_if(errors, true, EarlyErrorKind::SecondProto, span),
+        Event::OldNumber(span) => tell_if(errors, c.is_strict, Kind::OldNumberInStrict, span),
+        Event::OldString(span) => tell_if(errors, c.is_strict, Kind::OldEscapeInStrict, span),
+        Event::Wrong(kind, span) => tell_if(errors, true, kind, span),
+        Event::Flow(flow) => tell_label(errors, c, flow),
+        Event::LabeledFunction(span) => tell_labeled(errors, c, span),
+        Event::HeadInit(is_name, span) => tell_head_init(errors, c, is_name, span),
+        Event::Prototype(span) => tell_if(errors, true, Kind::StaticPrototype, span),
+        Event::SecondProto(span) => tell_if(errors, true, Kind::SecondProto, span),
         Event::Enter(_, _)
         | Event::Leave
         | Event::Body
+        | Event::Members
         | Event::Bare(_)
         | Event::PrivateMember(_, _, _)
         | Event::PrivateUse(_)
         | Event::Export(_, _)
         | Event::ExportDefault(_)
-        | Event::ExportLocal(_, _) => Ok(()),
+        | Event::ExportLocal(_, _)
+        | Event::Attributes(_)
+        | Event::Attribute(_, _) => Ok(()),
     }
 }
 
@@ -194,25 +218,33 @@ fn follow(contexts: &mut Contexts, event: &Event<'_>) -> Result<(), AllocError>
         Event::Body => contexts.enter_body(),
         Event::Leave => contexts.leave(),
         Event::Name(_, _)
+        | Event::Members
         | Event::Bare(_)
         | Event::DeleteName(_)
         | Event::DeletePrivate(_)
         | Event::With(_)
+        | Event::Using(_)
         | Event::SuperCall(_)
         | Event::SuperMember(_)
         | Event::Await(_)
+        | Event::Awaits(_)
         | Event::Yield(_)
         | Event::NewTarget(_)
         | Event::OldNumber(_)
         | Event::OldString(_)
-        | Event::WrongFlags(_)
+        | Event::Wrong(_, _)
         | Event::PrivateMember(_, _, _)
         | Event::PrivateUse(_)
         | Event::Prototype(_)
         | Event::SecondProto(_)
         | Event::Export(_, _)
         | Event::ExportDefault(_)
-        | Event::ExportLocal(_, _) => {}
+        | Event::ExportLocal(_, _)
+        | Event::Flow(_)
+        | Event::LabeledFunction(_)
+        | Event::HeadInit(_, _)
+        | Event::Attributes(_)
+        | Event::Attribute(_, _) => {}
     }
     Ok(())
 }

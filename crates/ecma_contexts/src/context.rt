@@ -23,11 +23,16 @@ pub(crate) struct Context {
     pub(crate) has_new_target: bool,
     pub(crate) bans_arguments: bool,
     pub(crate) bans_await: bool,
+    /// Whether the parser takes the operator `await` here, and tells no fault of it.
+    pub(crate) takes_await: bool,
     pub(crate) bans_yield: bool,
     /// Whether nothing is named `await`, as in the parameters of an async arrow.
     pub(crate) bans_await_names: bool,
+    /// Whether `using` declares nothing right here.
+    pub(crate) bans_using: bool,
     /// The same of the body, in the parameters of a function.
     pub(crate) body_bans_await: bool,
+    pub(crate) body_takes_await: bool,
     pub(crate) body_bans_yield: bool,
 }
 
@@ -56,10 +61,12 @@ fn in_function(c: Context, code: Code, super_calls: bool, super_members: bool) -
         super_members,
         has_new_target: true,
         bans_arguments: false,
-        bans_await: false,
+        bans_await: true,
+        takes_await: false,
         bans_yield: code.is_generator,
         bans_await_names: false,
-        body_bans_await: false,
+        body_bans_await: !code.is_async,
+        body_takes_await: code.is_async,
         body_bans_yield: false,
         ..c
     }
@@ -76,7 +83,8 @@ fn in_code(c: Context, code: Code) -> Context
                 bans_await: true,
                 bans_yield: true,
                 bans_await_names: code.is_async || c.bans_await_names,
-                body_bans_await: !code.is_async && c.bans_await,
+                body_bans_await: !code.is_async,
+                body_takes_await: code.is_async,
                 body_bans_yield: c.bans_yield,
                 ..c
             }
@@ -84,7 +92,7 @@ fn in_code(c: Context, code: Code) -> Context
         CodeKind::Method => in_function(c, code, false, true),
         CodeKind::Constructor => {
             Context {
-                bans_await: true,
+                takes_await: c.takes_await,
                 bans_yield: true,
                 ..in_function(c, code, c.is_derived, true)
             }
@@ -108,9 +116,26 @@ fn in_field(c: Context) -> Context
     }
 }
 
-/// What is known of the code of a region.
-fn inside(c: Context, region: Region) -> Context
-    ensures { result ≡ rule.inside c region }
+/// Whether `using` declares nothing right in a region.
+fn bans_using(region: Region) -> bool
+    ensures { result ≡ rule.bans_using region }
+{
+    match region {
+        Region::Script(_) | Region::Switch => true,
+        Region::Module
+        | Region::Function(_)
+        | Region::Class(_)
+        | Region::Field
+        | Region::StaticBlock
+        | Region::Block
+        | Region::Loop
+        | Region::Catch => false,
+    }
+}
+
+/// What a region changes.
+fn changed(c: Context, region: Region) -> Context
+    ensures { result ≡ rule.changed c region }
 {
     match region {
         Region::Script(is_directed) => {
@@ -140,6 +165,16 @@ fn inside(c: Context, region: Region) -> Context
     }
 }
 
+/// What is known of the code of a region.
+fn inside(c: Context, region: Region) -> Context
+    ensures { result ≡ rule.inside c region }
+{
+    Context {
+        bans_using: bans_using(region),
+        ..changed(c, region)
+    }
+}
+
 impl Contexts {
     /// What is around before all.
     pub(crate) fn new(alloc: Global) -> Contexts
@@ -155,9 +190,12 @@ impl Contexts {
                 has_new_target: false,
                 bans_arguments: false,
                 bans_await: false,
+                takes_await: true,
                 bans_yield: false,
                 bans_await_names: false,
+                bans_using: false,
                 body_bans_await: false,
+                body_takes_await: false,
                 body_bans_yield: false,
             },
             around: VecDeque::new(alloc),
@@ -187,6 +225,7 @@ impl Contexts {
         ensures { let c = self.old in self.new ≡ record c { here = rule.in_body c.here } }
     {
         self.here.bans_await = self.here.body_bans_await;
+        self.here.takes_await = self.here.body_takes_await;
         self.here.bans_yield = self.here.body_bans_yield;
         self.here.bans_await_names = false;
     }

@@ -256,24 +256,32 @@ fn step<'a>(
         Event::Name(role, x) => name(errors, scopes, role, x),
         Event::Bare(span) => tell_bare(errors, scopes, span),
         Event::Body
+        | Event::Members
         | Event::DeleteName(_)
         | Event::DeletePrivate(_)
         | Event::With(_)
+        | Event::Using(_)
         | Event::SuperCall(_)
         | Event::SuperMember(_)
         | Event::Await(_)
+        | Event::Awaits(_)
         | Event::Yield(_)
         | Event::NewTarget(_)
         | Event::OldNumber(_)
         | Event::OldString(_)
-        | Event::WrongFlags(_)
+        | Event::Wrong(_, _)
         | Event::PrivateMember(_, _, _)
         | Event::PrivateUse(_)
         | Event::Prototype(_)
         | Event::SecondProto(_)
         | Event::Export(_, _)
         | Event::ExportDefault(_)
-        | Event::ExportLocal(_, _) => Ok(()),
+        | Event::ExportLocal(_, _)
+        | Event::Flow(_)
+        | Event::LabeledFunction(_)
+        | Event::HeadInit(_, _)
+        | Event::Attributes(_)
+        | Event::Attribute(_, _) => Ok(()),
     }
 }
 

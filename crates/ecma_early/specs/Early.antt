@@ -5,13 +5,14 @@ use Rattle.ecma_declarations.specs.Declarations as declarations
 use Rattle.ecma_event_exprs.specs.Events.{events_of}
 use Rattle.ecma_events.specs.Event.{Event}
 use Rattle.ecma_exports.specs.Exports as exports
+use Rattle.ecma_jumps.specs.Jumps as jumps
 use Rattle.ecma_private_names.specs.PrivateNames as private_names
 use Rattle.ecma_events.specs.declared.early_error.EarlyError.{EarlyError}
 use Rattle.swc_ecma_parser_model.specs.Tree.{Tree}
 
 -- what the rules find, one group of rules after the other
 abbrev pub found_in : List Event → List EarlyError
-found_in es = ((declarations.errors_of es ++ contexts.errors_of es) ++ private_names.errors_of es) ++ exports.errors_of es
+found_in es = (((declarations.errors_of es ++ contexts.errors_of es) ++ private_names.errors_of es) ++ exports.errors_of es) ++ jumps.errors_of es
 
 -- where an error stands
 abbrev pub place : EarlyError → ℕ

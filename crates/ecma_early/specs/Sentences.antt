@@ -3,6 +3,8 @@
 use Rattle.std.specs.Prelude.{ℕ, List, codes}
 use Rattle.ecma_events.specs.declared.early_error.EarlyErrorKind.{EarlyErrorKind}
 use Rattle.ecma_events.specs.declared.early_error.EarlyErrorKind.TheVariants as kind
+use Rattle.ecma_patterns.specs.declared.pattern.PatternError.{PatternError}
+use Rattle.ecma_patterns.specs.declared.pattern.PatternError.TheVariants as pattern
 
 abbrev pub name_of : EarlyErrorKind → List ℕ
 name_of kind.DeclaredTwice = codes "DeclaredTwice"
@@ -24,12 +26,48 @@ name_of kind.MisplacedNewTarget = codes "MisplacedNewTarget"
 name_of kind.OldNumberInStrict = codes "OldNumberInStrict"
 name_of kind.OldEscapeInStrict = codes "OldEscapeInStrict"
 name_of kind.WrongFlags = codes "WrongFlags"
+name_of (kind.InvalidPattern e) = codes "InvalidPattern"
 name_of kind.StaticPrototype = codes "StaticPrototype"
 name_of kind.SecondProto = codes "SecondProto"
+name_of kind.ImportArguments = codes "ImportArguments"
+name_of kind.ImportPhase = codes "ImportPhase"
+name_of kind.DecoratedFunction = codes "DecoratedFunction"
+name_of kind.MisplacedUsing = codes "MisplacedUsing"
+name_of kind.MisplacedBreak = codes "MisplacedBreak"
+name_of kind.MisplacedContinue = codes "MisplacedContinue"
+name_of kind.MisplacedReturn = codes "MisplacedReturn"
+name_of kind.MisplacedFunction = codes "MisplacedFunction"
+name_of kind.MisplacedLet = codes "MisplacedLet"
+name_of kind.MisplacedAsync = codes "MisplacedAsync"
+name_of kind.HeadInitializer = codes "HeadInitializer"
+name_of kind.MisplacedIn = codes "MisplacedIn"
+name_of kind.WrongAttribute = codes "WrongAttribute"
+name_of kind.SecondAttribute = codes "SecondAttribute"
+name_of kind.LoneSurrogate = codes "LoneSurrogate"
 name_of kind.PrivateTwice = codes "PrivateTwice"
 name_of kind.PrivateUndeclared = codes "PrivateUndeclared"
 name_of kind.ExportedTwice = codes "ExportedTwice"
 name_of kind.ExportUndeclared = codes "ExportUndeclared"
+
+-- what is wrong with the pattern of a regular expression
+abbrev pub pattern_sentence_of : PatternError → List ℕ
+pattern_sentence_of pattern.NothingToRepeat = codes "a quantifier of this regular expression has nothing to repeat; write `\\*` or `\\+` for the character itself (ECMA-262, 22.2.1)"
+pattern_sentence_of pattern.NumbersOutOfOrder = codes "the first number of a quantifier is greater than the second; swap the two (ECMA-262, 22.2.1.1)"
+pattern_sentence_of pattern.LoneBracket = codes "with the flag `u` or `v` a regular expression has to escape `{`, `}` and `]`; put a `\\` before it (ECMA-262, 22.2.1)"
+pattern_sentence_of pattern.UnclosedGroup = codes "a `(` of this regular expression is never closed; close it with `)`, or write `\\(` (ECMA-262, 22.2.1)"
+pattern_sentence_of pattern.UnopenedGroup = codes "a `)` of this regular expression closes nothing; remove it, or write `\\)` (ECMA-262, 22.2.1)"
+pattern_sentence_of pattern.InvalidGroup = codes "expected `:`, `=`, `!`, `<` or modifiers such as `i:` after `(?` of this regular expression (ECMA-262, 22.2.1)"
+pattern_sentence_of pattern.InvalidGroupName = codes "expected the name of a group and `>` after `(?<` of this regular expression (ECMA-262, 22.2.1)"
+pattern_sentence_of pattern.InvalidNameReference = codes "expected `<`, the name of a group and `>` after `\\k` of this regular expression (ECMA-262, 22.2.1)"
+pattern_sentence_of pattern.InvalidReference = codes "this regular expression has no group of the number after its `\\`; count its `(`, or write `\\x01` for the character (ECMA-262, 22.2.1.1)"
+pattern_sentence_of pattern.InvalidEscape = codes "a `\\` of this regular expression begins no escape; remove it, or complete the escape (ECMA-262, 22.2.1)"
+pattern_sentence_of pattern.InvalidProperty = codes "no Unicode property has the name after `\\p` or `\\P`; write one such as `\\p{L}` or `\\p{Script=Greek}` (ECMA-262, 22.2.1)"
+pattern_sentence_of pattern.UnclosedClass = codes "a `[` of this regular expression is never closed; close it with `]`, or write `\\[` (ECMA-262, 22.2.1)"
+pattern_sentence_of pattern.RangeOutOfOrder = codes "a range of this regular expression ends before it begins; swap its ends, or write `\\-` (ECMA-262, 22.2.1.1)"
+pattern_sentence_of pattern.SetInRange = codes "a range of this regular expression begins or ends with more than one character; write `\\-` for a `-` (ECMA-262, 22.2.1.1)"
+pattern_sentence_of pattern.InvalidSetCharacter = codes "with the flag `v` a class has to escape `(`, `)`, `[`, `]`, `{`, `}`, `/`, `-`, `|` and marks that stand twice, such as `!!` (ECMA-262, 22.2.1)"
+pattern_sentence_of pattern.InvalidSetOperation = codes "an operator of this class, `-`, `--` or `&&`, lacks an operand or stands beside another one; put brackets around each operation (ECMA-262, 22.2.1)"
+pattern_sentence_of pattern.StringsInNegatedSet = codes "a class that begins with `^` cannot have strings of several characters; remove the strings (ECMA-262, 22.2.1.1)"
 
 abbrev pub sentence_of : EarlyErrorKind → List ℕ
 sentence_of kind.DeclaredTwice = codes "this name is already declared; rename one of the two, or assign to it (ECMA-262, 14.2.1)"
@@ -51,8 +89,24 @@ sentence_of kind.MisplacedNewTarget = codes "`new.target` outside of functions, 
 sentence_of kind.OldNumberInStrict = codes "a number cannot begin with 0 and a digit in strict code; write `0o10` for 8, or remove the 0 (ECMA-262, 12.9.3.1)"
 sentence_of kind.OldEscapeInStrict = codes "an old escape such as `\\1` is not allowed in strict code; write `\\x01` for the character, or remove the `\\` (ECMA-262, 12.9.4.1)"
 sentence_of kind.WrongFlags = codes "the flags of a regular expression are d, g, i, m, s, u, v and y, each at most once, and `u` and `v` exclude each other (ECMA-262, 13.2.7.1)"
+sentence_of (kind.InvalidPattern e) = pattern_sentence_of e
 sentence_of kind.StaticPrototype = codes "a static member cannot be named `prototype`; choose another name (ECMA-262, 15.7.1)"
 sentence_of kind.SecondProto = codes "this object already has a `__proto__`; remove one of the two (ECMA-262, 13.2.5.1)"
+sentence_of kind.ImportArguments = codes "`import(..)` takes one or two arguments, none of them spread (ECMA-262, 13.3.10)"
+sentence_of kind.ImportPhase = codes "an import has no word `defer` or `source` before its names; remove the word (ECMA-262, 16.2.2)"
+sentence_of kind.DecoratedFunction = codes "decorators are allowed on classes and their members, not on a function (the decorators proposal)"
+sentence_of kind.MisplacedUsing = codes "`using` is not allowed directly in a script or in a clause of a `switch`; put a block around it (the explicit resource management proposal)"
+sentence_of kind.MisplacedBreak = codes "`break` outside of a loop or a `switch`, or its label names no statement around it (ECMA-262, 14.9.1)"
+sentence_of kind.MisplacedContinue = codes "`continue` outside of a loop, or its label names no loop around it (ECMA-262, 14.8.1)"
+sentence_of kind.MisplacedReturn = codes "`return` in a static block; move this code into a method (ECMA-262, 15.7)"
+sentence_of kind.MisplacedFunction = codes "a function is not allowed as the body of this statement, or behind this label; put a block around it (ECMA-262, 14.5 and 14.13.1)"
+sentence_of kind.MisplacedLet = codes "an expression cannot begin with `let` here; choose another name, or put parentheses around it (ECMA-262, 14.5 and 14.7.5)"
+sentence_of kind.MisplacedAsync = codes "`async` alone cannot stand before `of`; choose another name, or put parentheses around it (ECMA-262, 14.7.5)"
+sentence_of kind.HeadInitializer = codes "a variable before `in` cannot have an initializer; assign to it before the loop (ECMA-262, 14.7.5)"
+sentence_of kind.MisplacedIn = codes "`in` is not an operator in the head of a `for`; put parentheses around it (ECMA-262, 14.7.4)"
+sentence_of kind.WrongAttribute = codes "an attribute of an import is a name or a string, with a string as its value (ECMA-262, 16.2.2)"
+sentence_of kind.SecondAttribute = codes "this attribute is already given; remove one of the two (ECMA-262, 16.2.2)"
+sentence_of kind.LoneSurrogate = codes "a string that names an import or an export cannot have half of a surrogate pair; write both halves (ECMA-262, 16.2.1.1)"
 sentence_of kind.PrivateTwice = codes "this class already declares this private name; rename one of the two (ECMA-262, 15.7.1)"
 sentence_of kind.PrivateUndeclared = codes "no class around this declares this private name; declare it, or correct its spelling (ECMA-262, 16.1.1)"
 sentence_of kind.ExportedTwice = codes "this name is already exported; remove one of the two (ECMA-262, 16.2.1.1)"
@@ -61,4 +115,5 @@ sentence_of kind.ExportUndeclared = codes "this module does not declare this nam
 abbrev pub note_of : EarlyErrorKind → List ℕ
 note_of kind.ExportedTwice = codes "first exported here"
 note_of kind.EqualParameters = codes "the other parameter"
+note_of kind.SecondAttribute = codes "first given here"
 note_of _ = codes "declared here"

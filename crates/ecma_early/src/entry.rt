@@ -11,6 +11,7 @@ use ecma_declarations::declaration_errors;
 use ecma_event_walk::{module_events, script_events};
 use ecma_events::{EarlyError, Event};
 use ecma_exports::export_errors;
+use ecma_jumps::jump_errors;
 use ecma_private_names::private_name_errors;
 use std::alloc::{AllocError, Global};
 use swc_ecma_parser_ast::{Module, Program, Script};
@@ -34,6 +35,7 @@ fn told(alloc: Global, events: &[Event<'_>]) -> Result<Vec<EarlyError>, AllocErr
     errors.append(&mut context_errors(alloc, events)?)?;
     errors.append(&mut private_name_errors(alloc, events)?)?;
     errors.append(&mut export_errors(alloc, events)?)?;
+    errors.append(&mut jump_errors(alloc, events)?)?;
     in_order(errors)
 }
 

@@ -1,15 +1,17 @@
 //! What is wrong, in a sentence for each kind of early error, and where ECMA-262 (edition 2025) says so.
 
 ghost use Rattle.std.specs.Prelude.{◌≡◌};
-ghost use Rattle.ecma_early.specs.Sentences.{name_of, note_of, sentence_of};
+ghost use Rattle.ecma_early.specs.Sentences.{name_of, note_of, pattern_sentence_of, sentence_of};
 
 use ecma_events::EarlyErrorKind;
+use ecma_patterns::PatternError;
 
 /// The sentence of a kind, from a list of all.
 macro_rules! sentence_among {
     ($of:expr, { $($kind:ident: $sentence:literal,)* }) => {
         match $of {
             $(EarlyErrorKind::$kind => $sentence,)*
+            EarlyErrorKind::InvalidPattern(wrong) => pattern_sentence(wrong),
         }
     };
 }
@@ -39,12 +41,86 @@ macro_rules! sentence {
             WrongFlags: "the flags of a regular expression are d, g, i, m, s, u, v and y, each at most once, and `u` and `v` exclude each other (ECMA-262, 13.2.7.1)",
             StaticPrototype: "a static member cannot be named `prototype`; choose another name (ECMA-262, 15.7.1)",
             SecondProto: "this object already has a `__proto__`; remove one of the two (ECMA-262, 13.2.5.1)",
+            ImportArguments: "`import(..)` takes one or two arguments, none of them spread (ECMA-262, 13.3.10)",
+            ImportPhase: "an import has no word `defer` or `source` before its names; remove the word (ECMA-262, 16.2.2)",
+            DecoratedFunction: "decorators are allowed on classes and their members, not on a function (the decorators proposal)",
+            MisplacedUsing: "`using` is not allowed directly in a script or in a clause of a `switch`; put a block around it (the explicit resource management proposal)",
+            MisplacedBreak: "`break` outside of a loop or a `switch`, or its label names no statement around it (ECMA-262, 14.9.1)",
+            MisplacedContinue: "`continue` outside of a loop, or its label names no loop around it (ECMA-262, 14.8.1)",
+            MisplacedReturn: "`return` in a static block; move this code into a method (ECMA-262, 15.7)",
+            MisplacedFunction: "a function is not allowed as the body of this statement, or behind this label; put a block around it (ECMA-262, 14.5 and 14.13.1)",
+            MisplacedLet: "an expression cannot begin with `let` here; choose another name, or put parentheses around it (ECMA-262, 14.5 and 14.7.5)",
+            MisplacedAsync: "`async` alone cannot stand before `of`; choose another name, or put parentheses around it (ECMA-262, 14.7.5)",
+            HeadInitializer: "a variable before `in` cannot have an initializer; assign to it before the loop (ECMA-262, 14.7.5)",
+            MisplacedIn: "`in` is not an operator in the head of a `for`; put parentheses around it (ECMA-262, 14.7.4)",
+            WrongAttribute: "an attribute of an import is a name or a string, with a string as its value (ECMA-262, 16.2.2)",
+            SecondAttribute: "this attribute is already given; remove one of the two (ECMA-262, 16.2.2)",
+            LoneSurrogate: "a string that names an import or an export cannot have half of a surrogate pair; write both halves (ECMA-262, 16.2.1.1)",
             PrivateTwice: "this class already declares this private name; rename one of the two (ECMA-262, 15.7.1)",
             PrivateUndeclared: "no class around this declares this private name; declare it, or correct its spelling (ECMA-262, 16.1.1)",
             ExportedTwice: "this name is already exported; remove one of the two (ECMA-262, 16.2.1.1)",
             ExportUndeclared: "this module does not declare this name; declare it, or write `from` and the module that it comes from (ECMA-262, 16.2.1.1)",
         })
     };
+}
+
+/// What is wrong with a pattern, and what would be right.
+fn pattern_sentence(wrong: PatternError) -> &'static str
+    ensures { result.now ≡ pattern_sentence_of wrong }
+{
+    match wrong {
+        PatternError::NothingToRepeat => {
+            "a quantifier of this regular expression has nothing to repeat; write `\\*` or `\\+` for the character itself (ECMA-262, 22.2.1)"
+        }
+        PatternError::NumbersOutOfOrder => {
+            "the first number of a quantifier is greater than the second; swap the two (ECMA-262, 22.2.1.1)"
+        }
+        PatternError::LoneBracket => {
+            "with the flag `u` or `v` a regular expression has to escape `{`, `}` and `]`; put a `\\` before it (ECMA-262, 22.2.1)"
+        }
+        PatternError::UnclosedGroup => {
+            "a `(` of this regular expression is never closed; close it with `)`, or write `\\(` (ECMA-262, 22.2.1)"
+        }
+        PatternError::UnopenedGroup => {
+            "a `)` of this regular expression closes nothing; remove it, or write `\\)` (ECMA-262, 22.2.1)"
+        }
+        PatternError::InvalidGroup => {
+            "expected `:`, `=`, `!`, `<` or modifiers such as `i:` after `(?` of this regular expression (ECMA-262, 22.2.1)"
+        }
+        PatternError::InvalidGroupName => {
+            "expected the name of a group and `>` after `(?<` of this regular expression (ECMA-262, 22.2.1)"
+        }
+        PatternError::InvalidNameReference => {
+            "expected `<`, the name of a group and `>` after `\\k` of this regular expression (ECMA-262, 22.2.1)"
+        }
+        PatternError::InvalidReference => {
+            "this regular expression has no group of the number after its `\\`; count its `(`, or write `\\x01` for the character (ECMA-262, 22.2.1.1)"
+        }
+        PatternError::InvalidEscape => {
+            "a `\\` of this regular expression begins no escape; remove it, or complete the escape (ECMA-262, 22.2.1)"
+        }
+        PatternError::InvalidProperty => {
+            "no Unicode property has the name after `\\p` or `\\P`; write one such as `\\p{L}` or `\\p{Script=Greek}` (ECMA-262, 22.2.1)"
+        }
+        PatternError::UnclosedClass => {
+            "a `[` of this regular expression is never closed; close it with `]`, or write `\\[` (ECMA-262, 22.2.1)"
+        }
+        PatternError::RangeOutOfOrder => {
+            "a range of this regular expression ends before it begins; swap its ends, or write `\\-` (ECMA-262, 22.2.1.1)"
+        }
+        PatternError::SetInRange => {
+            "a range of this regular expression begins or ends with more than one character; write `\\-` for a `-` (ECMA-262, 22.2.1.1)"
+        }
+        PatternError::InvalidSetCharacter => {
+            "with the flag `v` a class has to escape `(`, `)`, `[`, `]`, `{`, `}`, `/`, `-`, `|` and marks that stand twice, such as `!!` (ECMA-262, 22.2.1)"
+        }
+        PatternError::InvalidSetOperation => {
+            "an operator of this class, `-`, `--` or `&&`, lacks an operand or stands beside another one; put brackets around each operation (ECMA-262, 22.2.1)"
+        }
+        PatternError::StringsInNegatedSet => {
+            "a class that begins with `^` cannot have strings of several characters; remove the strings (ECMA-262, 22.2.1.1)"
+        }
+    }
 }
 
 /// The name of a kind, as the code spells it.
@@ -71,8 +147,24 @@ pub fn name(kind: EarlyErrorKind) -> &'static str
         EarlyErrorKind::OldNumberInStrict => "OldNumberInStrict",
         EarlyErrorKind::OldEscapeInStrict => "OldEscapeInStrict",
         EarlyErrorKind::WrongFlags => "WrongFlags",
+        EarlyErrorKind::InvalidPattern(_) => "InvalidPattern",
         EarlyErrorKind::StaticPrototype => "StaticPrototype",
         EarlyErrorKind::SecondProto => "SecondProto",
+        EarlyErrorKind::ImportArguments => "ImportArguments",
+        EarlyErrorKind::ImportPhase => "ImportPhase",
+        EarlyErrorKind::DecoratedFunction => "DecoratedFunction",
+        EarlyErrorKind::MisplacedUsing => "MisplacedUsing",
+        EarlyErrorKind::MisplacedBreak => "MisplacedBreak",
+        EarlyErrorKind::MisplacedContinue => "MisplacedContinue",
+        EarlyErrorKind::MisplacedReturn => "MisplacedReturn",
+        EarlyErrorKind::MisplacedFunction => "MisplacedFunction",
+        EarlyErrorKind::MisplacedLet => "MisplacedLet",
+        EarlyErrorKind::MisplacedAsync => "MisplacedAsync",
+        EarlyErrorKind::HeadInitializer => "HeadInitializer",
+        EarlyErrorKind::MisplacedIn => "MisplacedIn",
+        EarlyErrorKind::WrongAttribute => "WrongAttribute",
+        EarlyErrorKind::SecondAttribute => "SecondAttribute",
+        EarlyErrorKind::LoneSurrogate => "LoneSurrogate",
         EarlyErrorKind::PrivateTwice => "PrivateTwice",
         EarlyErrorKind::PrivateUndeclared => "PrivateUndeclared",
         EarlyErrorKind::ExportedTwice => "ExportedTwice",
@@ -94,6 +186,7 @@ pub fn note(kind: EarlyErrorKind) -> &'static str
     match kind {
         EarlyErrorKind::ExportedTwice => "first exported here",
         EarlyErrorKind::EqualParameters => "the other parameter",
+        EarlyErrorKind::SecondAttribute => "first given here",
         _ => "declared here",
     }
 }

@@ -12,6 +12,11 @@ pub arm : {X E : Type 0} (res : Result X E) (q rest : List Event) (r : Role) (wh
     → whole ≡ part → OnOk res (q ≡ events r part rest) → OnOk res (q ≡ events r whole rest)
 arm res q rest r whole part e h = subst (λ t. OnOk res (q ≡ events r t rest)) (sym e) h
 
+-- the same of anything that is told of a tree
+pub arm_of : {X E : Type 0} (f : Tree → List Event → List Event) (res : Result X E) (q rest : List Event) (whole part : Tree)
+    → whole ≡ part → OnOk res (q ≡ f part rest) → OnOk res (q ≡ f whole rest)
+arm_of f res q rest whole part e h = subst (λ t. OnOk res (q ≡ f t rest)) (sym e) h
+
 -- the same of a piece of work
 pub work_arm : {X E : Type 0} (res : Result X E) (q rest : List Event) (whole part : Work)
     → whole ≡ part → OnOk res (q ≡ work_events part rest) → OnOk res (q ≡ work_events whole rest)

@@ -3,7 +3,8 @@
 use Rattle.std.proofs.Common.{◌≡◌, Bool, true, false, List, Result, Ok, Err, OnOk, refl, ◌∙◌, sym}
 use Rattle.ecma_events.specs.Event.{Event}
 use Rattle.ecma_events.specs.declared.event.Role.{Role}
-use Rattle.ecma_event_exprs.specs.Events.{events, declared_events, arrow_events, head_events, deleted, is_directed, used, assigned}
+use Rattle.ecma_event_exprs.specs.Events.{events, declared_events, arrow_events, head_events, deleted, import_arguments, is_directed, used, assigned}
+use Rattle.swc_ecma_parser_common.specs.declared.span.Span.{Span}
 use Rattle.swc_ecma_parser_ast.specs.Parts.{as_expr, marked}
 use Rattle.swc_ecma_parser_ast.specs.View.{view_decl, view_lit, view_pat}
 use Rattle.swc_ecma_parser_ast.specs.declared.decl.Decl.{Decl}
@@ -47,6 +48,15 @@ arrow_as_expr plain _ rest = refl
 pub arrow_on_ok : {X E : Type 0} (res : Result X E) (x : Tree) (rest q : List Event)
     → OnOk res (q ≡ events used x rest) → OnOk res (q ≡ arrow_events (events used (as_expr x) rest) (as_expr x) rest)
 arrow_on_ok res x rest q h = on_ok res q _ _ (arrow_as_expr (events used (as_expr x) rest) x rest ∙ marked_events (is_expr x) used x rest) h
+
+-- what is called and is an expression imports nothing
+pub imports_nothing : (x args : Tree) (s : Span) (rest : List Event) → rest ≡ import_arguments (as_expr x) args s rest
+imports_nothing (tree.import_callee t) args s rest = refl
+imports_nothing _ args s rest = refl
+
+pub imports_on_ok : {X E : Type 0} (res : Result X E) (x args : Tree) (s : Span) (rest q : List Event)
+    → OnOk res (q ≡ rest) → OnOk res (q ≡ import_arguments (as_expr x) args s rest)
+imports_on_ok res x args s rest q h = on_ok res q _ _ (sym (imports_nothing x args s rest)) h
 
 -- what is no block has no directive
 pub no_directive : (x : Tree) → false ≡ is_directed (as_expr x)

@@ -2,6 +2,7 @@
 -- the part's events with what follows behind them.
 use Rattle.std.specs.Prelude.{Bool, true, false, not, ◌&&◌, ◌||◌, if◌then◌else◌, List, [], ◌∷◌, Option, Some, None, codes}
 use Rattle.std.specs.Str.{bytes_eq}
+use Rattle.ecma_events.specs.declared.early_error.EarlyErrorKind.TheVariants as error
 use Rattle.ecma_events.specs.declared.event.Binding.{Binding}
 use Rattle.ecma_events.specs.declared.event.Binding.TheVariants as binding
 use Rattle.ecma_events.specs.declared.event.Code.{Code}
@@ -13,8 +14,15 @@ use Rattle.ecma_events.specs.declared.event.Role.{Role}
 use Rattle.ecma_events.specs.declared.event.Role.TheVariants as role
 use Rattle.ecma_events.specs.Event as event
 use Rattle.ecma_events.specs.Event.{Event}
-use Rattle.ecma_event_exprs.specs.Literals.{are_flags, has_old_escape, is_old_number}
+use Rattle.ecma_event_exprs.specs.declared.work.PartOf.TheVariants as part
+use Rattle.ecma_event_exprs.specs.Literals.{are_flags, has_old_escape, is_old_number, pattern_flags}
+use Rattle.ecma_event_exprs.specs.Misplaced.{head_init, head_inits, of_head, part_events}
+use Rattle.ecma_patterns.specs.Patterns.{pattern_error}
+use Rattle.ecma_patterns.specs.declared.pattern.PatternError.{PatternError}
+use Rattle.ecma_surrogates.specs.Surrogates.{has_lone_surrogate}
 use Rattle.swc_ecma_parser_common.specs.declared.span.Span.{Span}
+use Rattle.swc_ecma_parser_model.specs.declared.leaves.ImportPhase.{ImportPhase}
+use Rattle.swc_ecma_parser_model.specs.declared.leaves.ImportPhase.TheVariants as import_phase
 use Rattle.swc_ecma_parser_model.specs.declared.leaves.MetaPropKind.{MetaPropKind}
 use Rattle.swc_ecma_parser_model.specs.declared.leaves.MetaPropKind.TheVariants as meta
 use Rattle.swc_ecma_parser_model.specs.declared.leaves.MethodKind.TheVariants as method
@@ -87,9 +95,9 @@ is_const _ = false
 abbrev pub bare : Role → Span → (init : Tree) → List Event → List Event
 bare r s init rest = if is_absent init && is_const r then event.bare s ∷ rest else rest
 
--- `for await` and `await using` await as the operator does
+-- `for await` and `await using`
 abbrev pub awaited : (is_await : Bool) → Span → List Event → List Event
-awaited is_await s rest = if is_await then event.await s ∷ rest else rest
+awaited is_await s rest = if is_await then event.awaits s ∷ rest else rest
 
 -- a number and a string in old forms (12.9.3, 12.9.4)
 abbrev pub number : Span → (raw : Text) → List Event → List Event
@@ -104,9 +112,34 @@ literal_key (tree.str s value raw) rest = string s raw rest
 literal_key (tree.num s raw) rest = number s raw rest
 literal_key _ rest = rest
 
--- a regular expression with wrong flags (13.2.7.1)
-abbrev pub regex : Span → (flags : Text) → List Event → List Event
-regex s flags rest = if are_flags flags then rest else event.wrong_flags s ∷ rest
+-- what is wrong with a pattern
+abbrev pub pattern : Span → Option PatternError → List Event → List Event
+pattern s None rest = rest
+pattern s (Some e) rest = event.wrong (error.InvalidPattern e) s ∷ rest
+
+-- a regular expression with wrong flags, or with a wrong pattern (13.2.7.1)
+abbrev pub regex : Span → (exp flags : Text) → List Event → List Event
+regex s exp flags rest =
+    if are_flags flags then pattern s (pattern_error (pattern_flags flags) exp) rest else event.wrong error.WrongFlags s ∷ rest
+
+-- a loop, behind labels or not (8.3.3)
+abbrev pub is_loop : Tree → Bool
+is_loop (tree.while s test body) = true
+is_loop (tree.do_while s test body) = true
+is_loop (tree.for s init test next body) = true
+is_loop (tree.for_in s left right body) = true
+is_loop (tree.for_of s is_await left right body) = true
+is_loop (tree.labeled s label body) = is_loop body
+is_loop _ = false
+
+-- jumps, with a label or without
+abbrev pub break_events : Span → (label : Tree) → List Event → List Event
+break_events s (tree.ident t text) rest = event.flow (event.break_to s text) ∷ rest
+break_events s _ rest = event.flow (event.break s) ∷ rest
+
+abbrev pub continue_events : Span → (label : Tree) → List Event → List Event
+continue_events s (tree.ident t text) rest = event.flow (event.continue_to s text) ∷ rest
+continue_events s _ rest = event.flow (event.continue s) ∷ rest
 
 abbrev pub meta_prop : MetaPropKind → Span → List Event → List Event
 meta_prop meta.NewTarget s rest = event.new_target s ∷ rest
@@ -145,6 +178,38 @@ abbrev pub private_field : (is_static : Bool) → (key : Tree) → List Event �
 private_field is_static (tree.private_name s word text) rest = event.private_member method.Method is_static s text ∷ rest
 private_field is_static key rest = rest
 
+-- the arguments of `import(..)`: one or two, none of them spread (13.3.10)
+abbrev pub is_spread : Tree → Bool
+is_spread (tree.element (Some dots) e) = true
+is_spread _ = false
+
+abbrev pub are_one_or_two : Trees → Bool
+are_one_or_two none = false
+are_one_or_two (also x none) = not (is_spread x)
+are_one_or_two (also x (also y none)) = not (is_spread x) && not (is_spread y)
+are_one_or_two _ = false
+
+abbrev pub are_import_arguments : Tree → Bool
+are_import_arguments (tree.list xs) = are_one_or_two xs
+are_import_arguments _ = false
+
+abbrev pub import_arguments : (callee args : Tree) → Span → List Event → List Event
+import_arguments (tree.import_callee t) args s rest = if are_import_arguments args then rest else event.wrong error.ImportArguments s ∷ rest
+import_arguments _ args s rest = rest
+
+-- an import with a word that says when or whether the module is run
+abbrev pub phased : ImportPhase → Span → List Event → List Event
+phased import_phase.Evaluation s rest = rest
+phased _ s rest = event.wrong error.ImportPhase s ∷ rest
+
+-- decorators stand before classes and members, and before no function
+abbrev pub are_some : Tree → Bool
+are_some (tree.list (also x xs)) = true
+are_some _ = false
+
+abbrev pub decorated : CodeKind → Span → (decorators : Tree) → List Event → List Event
+decorated k s decorators rest = if is_function k && are_some decorators then event.wrong error.DecoratedFunction s ∷ rest else rest
+
 -- `__proto__: value`
 abbrev pub is_proto : Tree → Bool
 is_proto (tree.key_value_prop s key value) = is_proto_key key
@@ -152,6 +217,44 @@ is_proto _ = false
 
 abbrev pub second_proto : (seen : Bool) → Tree → List Event → List Event
 second_proto seen p rest = if is_proto p && seen then event.second_proto (span_of p) ∷ rest else rest
+
+-- a string that names what is imported or exported, with a lone surrogate (16.2.1.1) and with escapes in old forms
+abbrev pub lone_surrogate : Span → (raw : Text) → List Event → List Event
+lone_surrogate s raw rest = if has_lone_surrogate raw then event.wrong error.LoneSurrogate s ∷ rest else rest
+
+abbrev pub module_name : Tree → List Event → List Event
+module_name (tree.str s value raw) rest = lone_surrogate s raw (string s raw rest)
+module_name _ rest = rest
+
+-- The attributes of an import: each is a word or a string with a string (16.2.2).
+abbrev pub is_string : Tree → Bool
+is_string (tree.str s value raw) = true
+is_string _ = false
+
+abbrev pub attribute_key : Tree → List Event → List Event
+attribute_key (tree.ident s text) rest = event.attribute s text ∷ rest
+attribute_key (tree.str s value raw) rest = event.attribute s value ∷ string s raw rest
+attribute_key key rest = event.wrong error.WrongAttribute (span_of key) ∷ rest
+
+abbrev pub attribute_value : Tree → List Event → List Event
+attribute_value value rest = if is_string value then literal_key value rest else event.wrong error.WrongAttribute (span_of value) ∷ rest
+
+abbrev pub attribute_events : Tree → List Event → List Event
+attribute_events (tree.key_value_prop s key value) rest = attribute_key key (attribute_value value rest)
+attribute_events (tree.spread_prop dots e) rest = event.wrong error.WrongAttribute dots ∷ rest
+attribute_events p rest = event.wrong error.WrongAttribute (span_of p) ∷ rest
+
+abbrev pub all_attribute_events : Trees → List Event → List Event
+all_attribute_events none rest = rest
+all_attribute_events (also p ps) rest = attribute_events p (all_attribute_events ps rest)
+
+abbrev pub attributes : Tree → List Event → List Event
+attributes (tree.object s (tree.list ps)) rest = event.attributes s ∷ all_attribute_events ps rest
+attributes _ rest = rest
+
+-- what stands behind the names of an import or export: the module, and attributes
+abbrev pub source : (src given : Tree) → List Event → List Event
+source src given rest = literal_key src (attributes given rest)
 
 -- a name that is exported
 abbrev pub exported : Tree → List Event → List Event
@@ -167,10 +270,10 @@ local _ rest = rest
 
 -- names that are exported: the second name where there is one; of this module where there is no source
 abbrev pub specifier : (is_local : Bool) → Tree → List Event → List Event
-specifier is_local (tree.export_namespace s name) rest = exported name rest
+specifier is_local (tree.export_namespace s name) rest = exported name (module_name name rest)
 specifier is_local (tree.export_default name) rest = exported name rest
 specifier is_local (tree.export_specifier s orig name) rest =
-    let following = exported (if is_absent name then orig else name) rest in
+    let following = exported (if is_absent name then orig else name) (module_name orig (module_name name rest)) in
     if is_local then local orig following else following
 specifier is_local _ rest = rest
 
@@ -189,7 +292,7 @@ abbrev mutual
   events r (tree.null s) rest = rest
   events r (tree.num s raw) rest = number s raw rest
   events r (tree.big_int s raw) rest = rest
-  events r (tree.regex s exp flags) rest = regex s flags rest
+  events r (tree.regex s exp flags) rest = regex s exp flags rest
   -- further primary expressions
   events r (tree.this s) rest = rest
   events r (tree.array s elems) rest = events used elems rest
@@ -210,7 +313,7 @@ abbrev mutual
   -- members and calls
   events r (tree.member s obj prop) rest = events used obj (key_events prop rest)
   events r (tree.super_prop s word prop) rest = event.super_member word ∷ key_events prop rest
-  events r (tree.call s callee args) rest = events used callee (events used args rest)
+  events r (tree.call s callee args) rest = import_arguments callee args s (events used callee (events used args rest))
   events r (tree.new s callee args) rest = events used callee (events used args rest)
   -- templates and links of optional chains
   events r (tree.tpl s exprs quasis) rest = events used exprs rest
@@ -274,18 +377,21 @@ abbrev mutual
   events r (tree.class_decl name body) rest = named (declared binding.Class) name (class_events name body rest)
   events r (tree.fn_decl name fn) rest = named (declared (function_binding fn)) name (function_events kind.Function name fn rest)
   events r (tree.var s k ds) rest = events (declared (binding_of k)) ds rest
-  events r (tree.using s is_await ds) rest = awaited is_await s (events (declared binding.Using) ds rest)
+  events r (tree.using s is_await ds) rest = event.using s ∷ awaited is_await s (events (declared binding.Using) ds rest)
   events r (tree.declarator s name init) rest = events r name (bare r s init (events used init rest))
   -- statements
   events r (tree.block s stmts) rest = event.enter region.Block s ∷ events used stmts (event.leave ∷ rest)
   events r (tree.empty s) rest = rest
   events r (tree.debugger s) rest = rest
-  events r (tree.with s obj body) rest = event.with s ∷ events used obj (events used body rest)
-  events r (tree.return s arg) rest = events used arg rest
+  events r (tree.with s obj body) rest = event.with s ∷ events used obj (part_events part.Statement body (events used body rest))
+  events r (tree.return s arg) rest = event.flow (event.return s) ∷ events used arg rest
+  events r (tree.labeled s (tree.ident t text) body) rest =
+      event.flow (event.label (is_loop body) t text) ∷ part_events part.Label body (events used body (event.flow event.end ∷ rest))
   events r (tree.labeled s label body) rest = events used body rest
-  events r (tree.break s label) rest = rest
-  events r (tree.continue s label) rest = rest
-  events r (tree.if_stmt s test cons alt) rest = events used test (events used cons (events used alt rest))
+  events r (tree.break s label) rest = break_events s label rest
+  events r (tree.continue s label) rest = continue_events s label rest
+  events r (tree.if_stmt s test cons alt) rest =
+      events used test (part_events part.Statement cons (events used cons (part_events part.Statement alt (events used alt rest))))
   events r (tree.switch s discriminant cases) rest = events used discriminant (event.enter region.Switch s ∷ events used cases (event.leave ∷ rest))
   events r (tree.case s test cons) rest = events used test (events used cons rest)
   events r (tree.throw s arg) rest = events used arg rest
@@ -293,28 +399,31 @@ abbrev mutual
   -- what a `catch` binds and what its block declares are names of one region
   events r (tree.catch s p body) rest =
       event.enter region.Catch s ∷ events (declared (catch_binding p)) p (body_events body (event.leave ∷ rest))
-  events r (tree.while s test body) rest = events used test (events used body rest)
-  events r (tree.do_while s test body) rest = events used body (events used test rest)
+  events r (tree.while s test body) rest =
+      events used test (event.flow event.loop ∷ part_events part.Statement body (events used body (event.flow event.end ∷ rest)))
+  events r (tree.do_while s test body) rest =
+      event.flow event.loop ∷ part_events part.Statement body (events used body (event.flow event.end ∷ events used test rest))
   events r (tree.for s init test next body) rest =
-      event.enter region.Loop s ∷ events used init (events used test (events used next (events used body (event.leave ∷ rest))))
+      let following = event.flow event.loop ∷ part_events part.Statement body (events used body (event.flow event.end ∷ event.leave ∷ rest)) in
+      event.enter region.Loop s ∷ head_inits init (events used init (events used test (events used next following)))
   events r (tree.for_in s left right body) rest =
-      let following = events used right (events used body (event.leave ∷ rest)) in
-      event.enter region.Loop s ∷ head_events (events assigned left following) left following
+      let following = events used right (event.flow event.loop ∷ part_events part.Statement body (events used body (event.flow event.end ∷ event.leave ∷ rest))) in
+      head_init left (event.enter region.Loop s ∷ head_events (events assigned left following) left following)
   events r (tree.for_of s is_await left right body) rest =
-      let following = events used right (events used body (event.leave ∷ rest)) in
-      awaited is_await s (event.enter region.Loop s ∷ head_events (events assigned left following) left following)
+      let following = events used right (event.flow event.loop ∷ part_events part.Statement body (events used body (event.flow event.end ∷ event.leave ∷ rest))) in
+      awaited is_await s (of_head is_await left (event.enter region.Loop s ∷ head_events (events assigned left following) left following))
   events r (tree.expr_stmt s e) rest = events used e rest
   -- imports and exports
-  events r (tree.import s names src attributes phase) rest = events (declared binding.Import) names rest
-  events r (tree.import_named s name imported) rest = events r name rest
+  events r (tree.import s names src given phase) rest = phased phase s (events (declared binding.Import) names (source src given rest))
+  events r (tree.import_named s name imported) rest = events r name (module_name imported rest)
   events r (tree.import_default s name) rest = events r name rest
   events r (tree.import_namespace s name) rest = events r name rest
   events r (tree.export_decl s d) rest = declared_events true d rest
-  events r (tree.export_named s (tree.list names) src attributes) rest = specifiers (is_absent src) names rest
-  events r (tree.export_named s names src attributes) rest = rest
+  events r (tree.export_named s (tree.list names) src given) rest = specifiers (is_absent src) names (source src given rest)
+  events r (tree.export_named s names src given) rest = rest
   events r (tree.export_default_decl s d) rest = event.export_default s ∷ default_events d rest
   events r (tree.export_default_expr s e) rest = event.export_default s ∷ events used e rest
-  events r (tree.export_all s src attributes) rest = rest
+  events r (tree.export_all s src given) rest = source src given rest
   events r (tree.export_namespace s name) rest = rest
   events r (tree.export_default name) rest = rest
   events r (tree.export_specifier s orig name) rest = rest
@@ -360,14 +469,14 @@ abbrev mutual
   -- a function with its own name
   pub function_events : CodeKind → (name : Tree) → Tree → List Event → List Event
   function_events k name (tree.function s decorators params body is_async is_generator) rest =
-      events used decorators (event.enter (region.Function (code_of k params body is_async is_generator)) s
-      ∷ named role.Own name (events (declared binding.Parameter) params (event.body ∷ body_events body (event.leave ∷ rest))))
+      decorated k s decorators (events used decorators (event.enter (region.Function (code_of k params body is_async is_generator)) s
+      ∷ named role.Own name (events (declared binding.Parameter) params (event.body ∷ body_events body (event.leave ∷ rest)))))
   function_events k name _ rest = rest
 
   -- a class with its own name
   pub class_events : (name : Tree) → Tree → List Event → List Event
   class_events name (tree.class s decorators body super_class) rest =
-      events used decorators (event.enter (region.Class (not (is_absent super_class))) s ∷ named role.Own name (events used super_class (events used body (event.leave ∷ rest))))
+      events used decorators (event.enter (region.Class (not (is_absent super_class))) s ∷ named role.Own name (events used super_class (event.members ∷ events used body (event.leave ∷ rest))))
   class_events name _ rest = rest
 
   -- what stands before `in` and `of`, given the events of one that declares nothing
@@ -382,7 +491,7 @@ abbrev mutual
   declared_events is_exported (tree.fn_decl name fn) rest =
       named (role.Declared (function_binding fn) is_exported) name (function_events kind.Function name fn rest)
   declared_events is_exported (tree.var s k ds) rest = events (role.Declared (binding_of k) is_exported) ds rest
-  declared_events is_exported (tree.using s is_await ds) rest = awaited is_await s (events (role.Declared binding.Using is_exported) ds rest)
+  declared_events is_exported (tree.using s is_await ds) rest = event.using s ∷ awaited is_await s (events (role.Declared binding.Using is_exported) ds rest)
   declared_events is_exported _ rest = rest
 
   -- what is declared and exported by default, where it has a name
@@ -390,6 +499,10 @@ abbrev mutual
   default_events (tree.fn_expr s name fn) rest = named (declared (function_binding fn)) name (function_events kind.Function name fn rest)
   default_events (tree.class_expr s name body) rest = named (declared binding.Class) name (class_events name body rest)
   default_events _ rest = rest
+
+-- the body of a loop
+abbrev pub loop_events : (body : Tree) → List Event → List Event
+loop_events body rest = event.flow event.loop ∷ part_events part.Statement body (events used body (event.flow event.end ∷ rest))
 
 -- the events of a script, a module or a program
 abbrev pub events_of : Tree → List Event

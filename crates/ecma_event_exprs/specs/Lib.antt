@@ -1,3 +1,4 @@
 pub mod Events
 pub mod Literals
+pub mod Misplaced
 pub mod Pending

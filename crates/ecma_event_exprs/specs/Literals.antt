@@ -1,5 +1,6 @@
 -- How literals are written: numbers and escapes in old forms, and the flags of a regular expression.
 use Rattle.std.specs.Prelude.{ℕ, Bool, true, false, not, ◌&&◌, ◌||◌, ◌==◌, nat_lt, List, [], ◌∷◌}
+use Rattle.ecma_patterns.specs.declared.pattern.PatternFlags.{PatternFlags}
 
 -- a decimal digit
 abbrev pub is_digit : ℕ → Bool
@@ -38,6 +39,14 @@ excludes_any a (b ∷ bs) = excludes a b || excludes_any a bs
 -- a flag that may stand beside those behind it
 unfoldable pub may_precede : ℕ → List ℕ → Bool
 may_precede b bs = is_flag b && not (excludes_any b bs)
+
+abbrev pub has_flag : ℕ → List ℕ → Bool
+has_flag a [] = false
+has_flag a (b ∷ bs) = b == a || has_flag a bs
+
+-- the flags that the grammar of a pattern depends on: `u` and `v`
+abbrev pub pattern_flags : List ℕ → PatternFlags
+pattern_flags bs = record { unicode = has_flag 117 bs; unicode_sets = has_flag 118 bs }
 
 -- whether each is a flag that may stand beside the others (13.2.7.2)
 abbrev pub are_flags : List ℕ → Bool

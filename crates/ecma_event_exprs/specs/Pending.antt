@@ -3,7 +3,8 @@ use Rattle.std.specs.Prelude.{List, [], ◌∷◌, map}
 use Rattle.ecma_event_exprs.specs.declared.work.Work.{Work}
 use Rattle.ecma_event_exprs.specs.declared.work.Work.TheVariants as w
 use Rattle.ecma_events.specs.Event.{Event, event_of}
-use Rattle.ecma_event_exprs.specs.Events.{events, all_events, body_events, deleted, key_events, property_events, specifiers, used, declared}
+use Rattle.ecma_event_exprs.specs.Events.{all_attribute_events, all_events, attribute_events, attribute_value, body_events, declared, deleted, events, key_events, property_events, specifiers, used}
+use Rattle.ecma_event_exprs.specs.Misplaced.{all_init_events, in_events, init_events, part_events, start_events}
 use Rattle.ecma_events.specs.declared.event.Binding.TheVariants as binding
 use Rattle.swc_ecma_parser_ast.specs.Parts.{view_option}
 use Rattle.swc_ecma_parser_ast.specs.View.{view_block_stmt, view_catch_clause, view_class_member, view_declarator, view_decorator, view_export_specifier, view_expr_or_spread, view_import_specifier, view_member_prop, view_module_item, view_object_pat_prop, view_param, view_param_or_ts_param_prop, view_pat, view_prop_name, view_prop_or_spread, view_stmt, view_switch_case}
@@ -49,6 +50,14 @@ work_events (w.Items xs) rest = all_events used (trees (map view_module_item xs.
 work_events (w.Import x) rest = events (declared binding.Import) (view_import_specifier x.now) rest
 work_events (w.Imports xs) rest = all_events (declared binding.Import) (trees (map view_import_specifier xs.now)) rest
 work_events (w.Exports is_local xs) rest = specifiers is_local (trees (map view_export_specifier xs.now)) rest
+work_events (w.Part p x) rest = part_events p x.now.node.tree rest
+work_events (w.Start is_head is_before_bracket x) rest = start_events is_head is_before_bracket x.now.node.tree rest
+work_events (w.In x) rest = in_events x.now.node.tree rest
+work_events (w.Init x) rest = init_events (view_declarator x.now) rest
+work_events (w.Attribute x) rest = attribute_events (view_prop_or_spread x.now) rest
+work_events (w.Attributes xs) rest = all_attribute_events (trees (map view_prop_or_spread xs.now)) rest
+work_events (w.AttributeValue x) rest = attribute_value x.now.node.tree rest
+work_events (w.Inits xs) rest = all_init_events (trees (map view_declarator xs.now)) rest
 
 -- the stack's top is its first
 abbrev pub pending : List Work → List Event

@@ -22,10 +22,13 @@ fn inner<'a>(walk: &mut Walk<'a>, x: &'a Class) -> Result<(), AllocError>
     ensures { OnOk result
         (walk.new
         ≡ events used (view_option (λ b. b.node.tree) x.now.super_class)
-        (events used (listed (map view_class_member x.now.body.items)) (steps.leave ∷ walk.old))) }
+        (steps.members ∷ events used (listed (map view_class_member x.now.body.items)) (steps.leave ∷ walk.old))) }
 {
-    walk.event(Event::Leave)?;
-    walk.push(Work::Members(x.body.as_slice()))?;
+    walk.three(
+        Work::Event(Event::Members),
+        Work::Members(x.body.as_slice()),
+        Work::Event(Event::Leave),
+    )?;
     optional_expr(walk, &x.super_class)
 }
 

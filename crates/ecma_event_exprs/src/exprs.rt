@@ -2,7 +2,7 @@
 
 ghost use Rattle.std.specs.Prelude.{◌≡◌, ◌∷◌, OnOk, map};
 ghost use Rattle.ecma_events.specs.Event as steps;
-ghost use Rattle.ecma_event_exprs.specs.Events.{assigned, deleted, deleted_link, deleted_prop, events, key_events, meta_prop, used};
+ghost use Rattle.ecma_event_exprs.specs.Events.{are_import_arguments, assigned, deleted, deleted_link, deleted_prop, events, import_arguments, key_events, meta_prop, used};
 ghost use Rattle.swc_ecma_parser_ast.specs.Parts.{as_expr, view_option};
 ghost use Rattle.swc_ecma_parser_ast.specs.View.{view_assign_expr, view_assign_target, view_call_expr, view_callee, view_expr, view_expr_or_spread, view_member_expr, view_member_prop, view_new_expr, view_opt_call, view_opt_chain_base, view_super_prop, view_super_prop_expr, view_tagged_tpl, view_unary_expr};
 ghost use Rattle.swc_ecma_parser_model.specs.Tree.{listed};
@@ -13,7 +13,7 @@ use crate::literals::literal;
 use crate::patterns::{array_pat, object_pat};
 use crate::walk::Walk;
 use crate::work::Work;
-use ecma_events::{Event, Role};
+use ecma_events::{EarlyErrorKind, Event, Role};
 use std::alloc::AllocError;
 use swc_ecma_parser_ast::{
     AssignExpr, AssignTarget, AssignTargetPat, CallExpr, Callee, Expr, ExprBox, ExprOrSpread,
@@ -264,7 +264,42 @@ fn call<'a>(walk: &mut Walk<'a>, x: &'a CallExpr) -> Result<(), AllocError>
     ensures { OnOk result (walk.new ≡ events used (view_call_expr x.now) walk.old) }
 {
     walk.push(Work::Arguments(x.args.as_slice()))?;
-    callee(walk, &x.callee)
+    callee(walk, &x.callee)?;
+    import_arguments(walk, x.span, &x.callee, x.args.as_slice())
+}
+
+/// Whether they are one or two, and none is spread.
+fn are_import_arguments(args: &[ExprOrSpread]) -> bool
+    ensures { result ≡ are_import_arguments (listed (map view_expr_or_spread args.now)) }
+{
+    match args {
+        [first] => first.spread.is_none(),
+        [first, second] => first.spread.is_none() && second.spread.is_none(),
+        _ => false,
+    }
+}
+
+/// Tells wrong arguments of `import(..)`.
+#[tactic(auto, using(crate::proofs::Declared::imports_nothing))]
+fn import_arguments(
+    walk: &mut Walk<'_>,
+    span: Span,
+    callee: &Callee,
+    args: &[ExprOrSpread],
+) -> Result<(), AllocError>
+    ensures { OnOk result
+        (walk.new
+        ≡ import_arguments (view_callee callee.now) (listed (map view_expr_or_spread args.now)) span walk.old) }
+{
+    match callee {
+        Callee::Import(_) => {
+            if are_import_arguments(args) {
+                return Ok(());
+            }
+            walk.event(Event::Wrong(EarlyErrorKind::ImportArguments, span))
+        }
+        Callee::Super(_) | Callee::Expr(_) => Ok(()),
+    }
 }
 
 fn callee<'a>(walk: &mut Walk<'a>, x: &'a Callee) -> Result<(), AllocError>

@@ -2,7 +2,7 @@
 
 ghost use Rattle.std.specs.Prelude.{◌≡◌, ◌∷◌, false, map, OnOk};
 ghost use Rattle.ecma_events.specs.Event as steps;
-ghost use Rattle.ecma_event_exprs.specs.Events.{arrow_events, body_events, code_of, declared, events, function_binding, function_events, is_directed, is_function, named, used};
+ghost use Rattle.ecma_event_exprs.specs.Events.{are_some, arrow_events, body_events, code_of, declared, decorated, events, function_binding, function_events, is_directed, is_function, named, used};
 ghost use Rattle.ecma_events.specs.declared.event.Binding.TheVariants as binding;
 ghost use Rattle.ecma_events.specs.declared.event.CodeKind.TheVariants as code_kind;
 ghost use Rattle.ecma_events.specs.declared.event.Region.TheVariants as region;
@@ -14,9 +14,11 @@ ghost use Rattle.swc_ecma_parser_model.specs.Tree.{listed};
 use crate::directives::{are_plain, is_block_directed, is_body_directed};
 use crate::walk::Walk;
 use crate::work::Work;
-use ecma_events::{Binding, Code, CodeKind, Event, Region, Role};
+use ecma_events::{Binding, Code, CodeKind, EarlyErrorKind, Event, Region, Role};
 use std::alloc::AllocError;
-use swc_ecma_parser_ast::{ArrowExpr, BlockStmt, BlockStmtOrExpr, FnExpr, Function, Ident, Span};
+use swc_ecma_parser_ast::{
+    ArrowExpr, BlockStmt, BlockStmtOrExpr, Decorator, FnExpr, Function, Ident, Span,
+};
 
 /// The body of a function, with its end.
 pub(crate) fn body<'a>(walk: &mut Walk<'a>, body: &'a Option<BlockStmt>) -> Result<(), AllocError>
@@ -83,9 +85,10 @@ pub(crate) fn outer<'a>(
 ) -> Result<(), AllocError>
     ensures { OnOk result
         (walk.new
-        ≡ events used (listed (map view_decorator x.now.decorators.items))
+        ≡ decorated kind x.now.span (listed (map view_decorator x.now.decorators.items))
+        (events used (listed (map view_decorator x.now.decorators.items))
         (steps.enter (region.Function (code_of kind (listed (map view_param x.now.params.items)) (view_option view_block_stmt x.now.body) x.now.is_async x.now.is_generator)) x.now.span
-        ∷ walk.old)) }
+        ∷ walk.old))) }
 {
     let may_repeat = is_function(kind) && are_plain(x.params.as_slice());
     walk.two(
@@ -100,7 +103,34 @@ pub(crate) fn outer<'a>(
             }),
             x.span,
         )),
-    )
+    )?;
+    decorated(walk, kind, x.span, x.decorators.as_slice())
+}
+
+/// Whether there are any.
+fn are_some(decorators: &[Decorator]) -> bool
+    ensures { result ≡ are_some (listed (map view_decorator decorators.now)) }
+{
+    match decorators {
+        [] => false,
+        [_, ..] => true,
+    }
+}
+
+/// Tells decorators of a function.
+fn decorated(
+    walk: &mut Walk<'_>,
+    kind: CodeKind,
+    span: Span,
+    decorators: &[Decorator],
+) -> Result<(), AllocError>
+    ensures { OnOk result
+        (walk.new ≡ decorated kind span (listed (map view_decorator decorators.now)) walk.old) }
+{
+    if is_function(kind) && are_some(decorators) {
+        return walk.event(Event::Wrong(EarlyErrorKind::DecoratedFunction, span));
+    }
+    Ok(())
 }
 
 /// A method, which has no name of its own.

@@ -1,14 +1,16 @@
-//! Literals: numbers and escapes in old forms, and the flags of regular expressions.
+//! Literals: numbers and escapes in old forms, and the flags and patterns of regular expressions.
 
 ghost use Rattle.std.specs.Prelude.{◌≡◌, false, OnOk};
-ghost use Rattle.ecma_event_exprs.specs.Events.{events, number, regex, string, used};
+ghost use Rattle.ecma_event_exprs.specs.Events.{events, number, pattern, regex, string, used};
 ghost use Rattle.ecma_event_exprs.specs.Literals as text;
 ghost use Rattle.swc_ecma_parser_ast.specs.View.{view_lit};
 
 use crate::walk::Walk;
-use ecma_events::Event;
+use ecma_events::{EarlyErrorKind, Event};
+use ecma_patterns::{PatternError, PatternFlags, pattern_error};
 use std::alloc::AllocError;
 use swc_ecma_parser_ast::{Lit, Number, Regex, Str};
+use swc_ecma_parser_common::Span;
 
 fn is_digit(byte: u8) -> bool
     ensures { result ≡ text.is_digit byte }
@@ -116,7 +118,7 @@ fn are_flags(bytes: &[u8]) -> bool
 }
 
 /// Tells a string with an escape in an old form.
-pub(crate) fn string<'a>(walk: &mut Walk<'a>, x: &'a Str) -> Result<(), AllocError>
+pub fn string<'a>(walk: &mut Walk<'a>, x: &'a Str) -> Result<(), AllocError>
     ensures { OnOk result (walk.new ≡ string x.now.span x.now.raw walk.old) }
 {
     if has_old_escape(x.raw.as_str().as_bytes()) {
@@ -135,14 +137,55 @@ pub(crate) fn number<'a>(walk: &mut Walk<'a>, x: &'a Number) -> Result<(), Alloc
     Ok(())
 }
 
-/// Tells a regular expression with wrong flags.
-fn regex<'a>(walk: &mut Walk<'a>, x: &'a Regex) -> Result<(), AllocError>
-    ensures { OnOk result (walk.new ≡ regex x.now.span x.now.flags walk.old) }
+/// Whether a flag is among others.
+fn has_flag(flag: u8, flags: &[u8]) -> bool
+    ensures { result ≡ text.has_flag flag flags.now }
 {
-    if are_flags(x.flags.as_str().as_bytes()) {
-        return Ok(());
+    let mut rest = flags;
+    while let [other, more @ ..] = rest {
+        if *other == flag {
+            return true;
+        }
+        rest = more;
     }
-    walk.event(Event::WrongFlags(x.span))
+    false
+}
+
+/// The flags that the grammar of a pattern depends on.
+fn pattern_flags(flags: &[u8]) -> PatternFlags
+    ensures { result ≡ text.pattern_flags flags.now }
+{
+    PatternFlags {
+        unicode: has_flag(b'u', flags),
+        unicode_sets: has_flag(b'v', flags),
+    }
+}
+
+/// Tells what is wrong with a pattern.
+fn pattern<'a>(
+    walk: &mut Walk<'a>,
+    span: Span,
+    wrong: Option<PatternError>,
+) -> Result<(), AllocError>
+    ensures { OnOk result (walk.new ≡ pattern span wrong walk.old) }
+{
+    match wrong {
+        Some(wrong) => walk.event(Event::Wrong(EarlyErrorKind::InvalidPattern(wrong), span)),
+        None => Ok(()),
+    }
+}
+
+/// Tells a regular expression with wrong flags, and of one with right ones what is wrong with its pattern.
+fn regex<'a>(walk: &mut Walk<'a>, x: &'a Regex) -> Result<(), AllocError>
+    ensures { OnOk result (walk.new ≡ regex x.now.span x.now.exp x.now.flags walk.old) }
+{
+    let flags = x.flags.as_str().as_bytes();
+    if !are_flags(flags) {
+        return walk.event(Event::Wrong(EarlyErrorKind::WrongFlags, x.span));
+    }
+    let flags = pattern_flags(flags);
+    let wrong = pattern_error(walk.allocator(), flags, x.exp.as_str().as_bytes())?;
+    pattern(walk, x.span, wrong)
 }
 
 /// A literal.

@@ -38,6 +38,11 @@ impl<'a> Walk<'a> {
         }
     }
 
+    /// What it allocates by.
+    pub(crate) fn allocator(&self) -> Global {
+        *self.work.allocator()
+    }
+
     /// Lays work upon the stack: it is done before what lies there.
     pub fn push(&mut self, work: Work<'a>) -> Result<(), AllocError>
         ensures { OnOk result (self.new ≡ work_events work.entry self.old) }

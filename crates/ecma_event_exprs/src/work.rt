@@ -5,6 +5,17 @@ use swc_ecma_parser_ast::{
     PropName, PropOrSpread, Stmt, StmtBox, StmtList, SwitchCase, VarDeclarator,
 };
 
+/// What a statement is a part of.
+#[derive(Clone, Copy)]
+pub enum PartOf {
+    /// An `if`, a loop or a `with`.
+    Statement,
+    /// A label.
+    Label,
+    /// An `if`, a loop or a `with`, behind labels.
+    LabeledPart,
+}
+
 /// What is yet to be walked over, or an event that is yet to come.
 #[derive(Clone, Copy)]
 pub enum Work<'a> {
@@ -50,4 +61,17 @@ pub enum Work<'a> {
     Imports(&'a [ImportSpecifier]),
     /// Names that are exported, and whether they are of this module.
     Exports(bool, &'a [ExportSpecifier]),
+    /// A statement as a part of another: what may not stand there.
+    Part(PartOf, &'a StmtBox),
+    /// What an expression begins with: whether it is a head with `of`, else it is a statement, and whether a `[` stands behind it.
+    Start(bool, bool, &'a ExprBox),
+    /// The operators `in` of an expression, outside of brackets.
+    In(&'a ExprBox),
+    /// The initializer of a variable in a head of three parts: operators `in`.
+    Init(&'a VarDeclarator),
+    Inits(&'a [VarDeclarator]),
+    /// An attribute of an import.
+    Attribute(&'a PropOrSpread),
+    Attributes(&'a [PropOrSpread]),
+    AttributeValue(&'a ExprBox),
 }

@@ -2,22 +2,23 @@
 
 ghost use Rattle.std.specs.Prelude.{◌≡◌, ◌∷◌, if◌then◌else◌, map, OnOk};
 ghost use Rattle.ecma_events.specs.Event as steps;
-ghost use Rattle.ecma_event_exprs.specs.Events.{class_events, declared, default_events, events, function_binding, function_events, named, exported, local, specifier, specifiers, used};
+ghost use Rattle.ecma_event_exprs.specs.Events.{class_events, declared, default_events, events, function_binding, function_events, named, exported, local, module_name, specifier, specifiers, used};
 ghost use Rattle.ecma_events.specs.declared.event.Binding.TheVariants as binding;
 ghost use Rattle.ecma_events.specs.declared.event.CodeKind.TheVariants as code_kind;
-ghost use Rattle.swc_ecma_parser_ast.specs.View.{view_class, view_default_decl, view_export_default_decl, view_export_default_expr, view_export_named_specifier, view_export_specifier, view_function, view_ident, view_import_specifier, view_module_decl, view_module_export_name, view_module_item, view_named_export, view_str};
+ghost use Rattle.swc_ecma_parser_ast.specs.View.{view_class, view_default_decl, view_export_all, view_export_default_decl, view_export_default_expr, view_export_named_specifier, view_export_specifier, view_function, view_ident, view_import_decl, view_import_named_specifier, view_import_specifier, view_module_decl, view_module_export_name, view_module_item, view_named_export, view_str};
 ghost use Rattle.swc_ecma_parser_ast.specs.Parts.{view_option};
 ghost use Rattle.swc_ecma_parser_model.specs.Forms.{is_absent};
 ghost use Rattle.swc_ecma_parser_model.specs.Tree.{trees};
 
 use crate::stmts::{decl, declared, stmt};
 use ecma_event_exprs::{Walk, Work, class, function, function_binding, optional_name};
-use ecma_events::{Binding, Event, Role};
+use ecma_event_parts::{module_name, optional_module_name, optional_source, source};
+use ecma_events::{Binding, EarlyErrorKind, Event, Role};
 use std::alloc::AllocError;
 use swc_ecma_parser_ast::{
-    ClassExpr, DefaultDecl, ExportDefaultDecl, ExportDefaultExpr, ExportNamedSpecifier,
-    ExportSpecifier, FnExpr, Function, ImportSpecifier, ModuleDecl, ModuleExportName, ModuleItem,
-    NamedExport, Str,
+    ClassExpr, DefaultDecl, ExportAll, ExportDefaultDecl, ExportDefaultExpr, ExportNamedSpecifier,
+    ExportSpecifier, FnExpr, Function, ImportDecl, ImportNamedSpecifier, ImportPhase,
+    ImportSpecifier, ModuleDecl, ModuleExportName, ModuleItem, NamedExport, Str,
 };
 
 /// An item.
@@ -34,13 +35,45 @@ fn module_decl<'a>(walk: &mut Walk<'a>, x: &'a ModuleDecl) -> Result<(), AllocEr
     ensures { OnOk result (walk.new ≡ events used (view_module_decl x.now) walk.old) }
 {
     match x {
-        ModuleDecl::Import(x) => walk.push(Work::Imports(x.specifiers.as_slice())),
+        ModuleDecl::Import(x) => import_decl(walk, x),
         ModuleDecl::ExportDecl(x) => decl(walk, true, &x.decl),
         ModuleDecl::ExportNamed(x) => named_export(walk, x),
         ModuleDecl::ExportDefaultDecl(x) => default_decl(walk, x),
         ModuleDecl::ExportDefaultExpr(x) => default_expr(walk, x),
-        ModuleDecl::ExportAll(_) => Ok(()),
+        ModuleDecl::ExportAll(x) => export_all(walk, x),
     }
+}
+
+fn import_decl<'a>(walk: &mut Walk<'a>, x: &'a ImportDecl) -> Result<(), AllocError>
+    ensures { OnOk result (walk.new ≡ events used (view_import_decl x.now) walk.old) }
+{
+    source(walk, &x.src, &x.with)?;
+    walk.push(Work::Imports(x.specifiers.as_slice()))?;
+    match x.phase {
+        ImportPhase::Evaluation => Ok(()),
+        ImportPhase::Source | ImportPhase::Defer => {
+            walk.event(Event::Wrong(EarlyErrorKind::ImportPhase, x.span))
+        }
+    }
+}
+
+fn export_all<'a>(walk: &mut Walk<'a>, x: &'a ExportAll) -> Result<(), AllocError>
+    ensures { OnOk result (walk.new ≡ events used (view_export_all x.now) walk.old) }
+{
+    source(walk, &x.src, &x.with)
+}
+
+/// A name of a list that an import binds.
+fn named_import<'a>(
+    walk: &mut Walk<'a>,
+    role: Role,
+    x: &'a ImportNamedSpecifier,
+) -> Result<(), AllocError>
+    ensures { OnOk result
+        (walk.new ≡ events role (view_import_named_specifier x.now) walk.old) }
+{
+    optional_module_name(walk, &x.imported)?;
+    walk.name(role, &x.local)
 }
 
 /// A name that an import binds.
@@ -50,7 +83,7 @@ pub(crate) fn import<'a>(walk: &mut Walk<'a>, x: &'a ImportSpecifier) -> Result<
 {
     let role = declared(Binding::Import);
     match x {
-        ImportSpecifier::Named(x) => walk.name(role, &x.local),
+        ImportSpecifier::Named(x) => named_import(walk, role, x),
         ImportSpecifier::Default(x) => walk.name(role, &x.local),
         ImportSpecifier::Namespace(x) => walk.name(role, &x.local),
     }
@@ -70,6 +103,7 @@ fn named_export<'a>(walk: &mut Walk<'a>, x: &'a NamedExport) -> Result<(), Alloc
     ensures { OnOk result (walk.new ≡ events used (view_named_export x.now) walk.old) }
 {
     let is_local = is_local(&x.src);
+    optional_source(walk, &x.src, &x.with)?;
     walk.push(Work::Exports(is_local, x.specifiers.as_slice()))
 }
 
@@ -98,12 +132,21 @@ fn export<'a>(walk: &mut Walk<'a>, is_local: bool, x: &'a ExportSpecifier) -> Re
         (walk.new ≡ specifier is_local (view_export_specifier x.now) walk.old) }
 {
     match x {
-        ExportSpecifier::Namespace(x) => exported(walk, &x.name),
+        ExportSpecifier::Namespace(x) => namespace(walk, &x.name),
         ExportSpecifier::Default(x) => {
             walk.event(Event::Export(x.exported.span, &x.exported.sym))
         }
         ExportSpecifier::Named(x) => named(walk, is_local, x),
     }
+}
+
+/// The name that all that a module exports is exported as.
+fn namespace<'a>(walk: &mut Walk<'a>, x: &'a ModuleExportName) -> Result<(), AllocError>
+    ensures { let name = view_module_export_name x.now in OnOk result
+        (walk.new ≡ exported name (module_name name walk.old)) }
+{
+    module_name(walk, x)?;
+    exported(walk, x)
 }
 
 /// A name of a list that is exported.
@@ -115,6 +158,8 @@ fn named<'a>(
     ensures { OnOk result
         (walk.new ≡ specifier is_local (view_export_named_specifier x.now) walk.old) }
 {
+    optional_module_name(walk, &x.exported)?;
+    module_name(walk, &x.orig)?;
     exported(walk, second_name(&x.orig, &x.exported))?;
     if is_local {
         return local(walk, &x.orig);

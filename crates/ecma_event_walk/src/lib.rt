@@ -6,6 +6,7 @@
 
 mod entry;
 mod items;
+mod jumps;
 mod lists;
 mod run;
 mod stmts;

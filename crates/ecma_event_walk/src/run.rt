@@ -11,6 +11,9 @@ use crate::{items, lists, stmts};
 use ecma_event_exprs::{
     Walk, Work, delete, expr, key, member, member_key, pat, pat_property, properties, property,
 };
+use ecma_event_parts::{
+    attribute, attribute_value, attributes, init, inits, operators, part, start,
+};
 use ecma_events::{Binding, Event, Role};
 use std::alloc::AllocError;
 use swc_ecma_parser_ast::{ExprBox, Param, PatBox, StmtBox, StmtList};
@@ -113,6 +116,14 @@ fn step<'a>(walk: &mut Walk<'a>, work: Work<'a>) -> Result<(), AllocError>
         Work::Import(x) => items::import(walk, x),
         Work::Imports(xs) => lists::imports(walk, xs),
         Work::Exports(is_local, xs) => items::exports(walk, is_local, xs),
+        Work::Part(part_of, x) => part(walk, part_of, x),
+        Work::Start(is_head, is_before_bracket, x) => start(walk, is_head, is_before_bracket, x),
+        Work::In(x) => operators(walk, x),
+        Work::Init(x) => init(walk, x),
+        Work::Inits(xs) => inits(walk, xs),
+        Work::Attribute(x) => attribute(walk, x),
+        Work::Attributes(xs) => attributes(walk, xs),
+        Work::AttributeValue(x) => attribute_value(walk, x),
     }
 }
 

@@ -2,24 +2,28 @@
 
 ghost use Rattle.std.specs.Prelude.{◌≡◌, ◌∷◌, false, map, OnOk};
 ghost use Rattle.ecma_events.specs.Event as steps;
-ghost use Rattle.ecma_event_exprs.specs.Events.{awaited, bare, binding_of, declared_events, is_const, catch_binding, class_events, declared, events, function_binding, function_events, head_binding, head_events, named, used, assigned};
+ghost use Rattle.ecma_event_exprs.specs.Events.{awaited, bare, binding_of, declared_events, is_const, catch_binding, class_events, declared, events, function_binding, function_events, head_binding, head_events, loop_events, named, used, assigned};
+ghost use Rattle.ecma_event_exprs.specs.Misplaced.{head_inits, part_events};
+ghost use Rattle.ecma_event_exprs.specs.declared.work.PartOf.TheVariants as part;
 ghost use Rattle.ecma_events.specs.declared.event.Binding.TheVariants as binding;
 ghost use Rattle.ecma_events.specs.declared.event.CodeKind.TheVariants as code_kind;
 ghost use Rattle.ecma_events.specs.declared.event.Region.TheVariants as region;
 ghost use Rattle.ecma_events.specs.declared.event.Role.TheVariants as role;
 ghost use Rattle.swc_ecma_parser_ast.specs.Parts.{view_option};
-ghost use Rattle.swc_ecma_parser_ast.specs.View.{view_block_stmt, view_catch_clause, view_class, view_decl, view_declarator, view_for_head, view_for_in_stmt, view_for_of_stmt, view_for_stmt, view_function, view_ident, view_if_stmt, view_pat, view_stmt, view_switch_case, view_switch_stmt, view_try_stmt, view_var_decl_or_expr, view_with_stmt};
+ghost use Rattle.swc_ecma_parser_ast.specs.View.{view_block_stmt, view_catch_clause, view_class, view_decl, view_declarator, view_do_while_stmt, view_for_head, view_for_in_stmt, view_for_of_stmt, view_for_stmt, view_function, view_ident, view_if_stmt, view_pat, view_stmt, view_switch_case, view_switch_stmt, view_try_stmt, view_var_decl_or_expr, view_while_stmt, view_with_stmt};
 ghost use Rattle.swc_ecma_parser_model.specs.Tree.{listed};
 
+use crate::jumps::{break_stmt, continue_stmt, labeled, loop_body, return_stmt};
 use ecma_event_exprs::{
-    Walk, Work, function_binding, named_class, named_function, optional_expr, pat,
+    PartOf, Walk, Work, function_binding, named_class, named_function, optional_expr, pat,
 };
+use ecma_event_parts::{head_init, of_head};
 use ecma_events::{Binding, Event, Region, Role};
 use std::alloc::AllocError;
 use swc_ecma_parser_ast::{
-    BlockStmt, CatchClause, ClassDecl, Decl, ExprBox, FnDecl, ForHead, ForInStmt, ForOfStmt,
-    ForStmt, Function, IfStmt, Pat, Span, Stmt, StmtBox, SwitchCase, SwitchStmt, TryStmt,
-    UsingDecl, VarDeclKind, VarDeclOrExpr, VarDeclarator, WithStmt,
+    BlockStmt, CatchClause, ClassDecl, Decl, DoWhileStmt, ExprBox, FnDecl, ForHead, ForInStmt,
+    ForOfStmt, ForStmt, Function, IfStmt, Pat, Span, Stmt, StmtBox, SwitchCase, SwitchStmt,
+    TryStmt, UsingDecl, VarDeclKind, VarDeclOrExpr, VarDeclarator, WhileStmt, WithStmt,
 };
 
 /// A role of names that are declared and not exported.
@@ -35,16 +39,18 @@ pub(crate) fn stmt<'a>(walk: &mut Walk<'a>, x: &'a Stmt) -> Result<(), AllocErro
 {
     match x {
         Stmt::Block(x) => block(walk, x),
-        Stmt::Empty(_) | Stmt::Debugger(_) | Stmt::Break(_) | Stmt::Continue(_) => Ok(()),
+        Stmt::Empty(_) | Stmt::Debugger(_) => Ok(()),
+        Stmt::Break(x) => break_stmt(walk, x),
+        Stmt::Continue(x) => continue_stmt(walk, x),
         Stmt::With(x) => with(walk, x),
-        Stmt::Return(x) => optional_expr(walk, &x.arg),
-        Stmt::Labeled(x) => walk.push(Work::Stmt(&x.body)),
+        Stmt::Return(x) => return_stmt(walk, x),
+        Stmt::Labeled(x) => labeled(walk, x),
         Stmt::If(x) => if_stmt(walk, x),
         Stmt::Switch(x) => switch(walk, x),
         Stmt::Throw(x) => walk.push(Work::Expr(Role::Used, &x.arg)),
         Stmt::Try(x) => try_stmt(walk, x),
-        Stmt::While(x) => walk.two(Work::Expr(Role::Used, &x.test), Work::Stmt(&x.body)),
-        Stmt::DoWhile(x) => walk.two(Work::Stmt(&x.body), Work::Expr(Role::Used, &x.test)),
+        Stmt::While(x) => while_stmt(walk, x),
+        Stmt::DoWhile(x) => do_while(walk, x),
         Stmt::For(x) => for_stmt(walk, x),
         Stmt::ForIn(x) => for_in(walk, x),
         Stmt::ForOf(x) => for_of(walk, x),
@@ -67,20 +73,21 @@ pub(crate) fn block<'a>(walk: &mut Walk<'a>, x: &'a BlockStmt) -> Result<(), All
 fn with<'a>(walk: &mut Walk<'a>, x: &'a WithStmt) -> Result<(), AllocError>
     ensures { OnOk result (walk.new ≡ events used (view_with_stmt x.now) walk.old) }
 {
+    walk.push(Work::Stmt(&x.body))?;
     walk.three(
         Work::Event(Event::With(x.span)),
         Work::Expr(Role::Used, &x.obj),
-        Work::Stmt(&x.body),
+        Work::Part(PartOf::Statement, &x.body),
     )
 }
 
-/// A statement that may be left out.
+/// What stands behind `else`, if anything does.
 fn optional_stmt<'a>(walk: &mut Walk<'a>, x: &'a Option<StmtBox>) -> Result<(), AllocError>
-    ensures { OnOk result
-        (walk.new ≡ events used (view_option (λ b. b.node.tree) x.now) walk.old) }
+    ensures { let t = view_option (λ b. b.node.tree) x.now in OnOk result
+        (walk.new ≡ part_events part.Statement t (events used t walk.old)) }
 {
     match x {
-        Some(x) => walk.push(Work::Stmt(x)),
+        Some(x) => walk.two(Work::Part(PartOf::Statement, x), Work::Stmt(x)),
         None => Ok(()),
     }
 }
@@ -89,7 +96,11 @@ fn if_stmt<'a>(walk: &mut Walk<'a>, x: &'a IfStmt) -> Result<(), AllocError>
     ensures { OnOk result (walk.new ≡ events used (view_if_stmt x.now) walk.old) }
 {
     optional_stmt(walk, &x.alt)?;
-    walk.two(Work::Expr(Role::Used, &x.test), Work::Stmt(&x.cons))
+    walk.three(
+        Work::Expr(Role::Used, &x.test),
+        Work::Part(PartOf::Statement, &x.cons),
+        Work::Stmt(&x.cons),
+    )
 }
 
 fn switch<'a>(walk: &mut Walk<'a>, x: &'a SwitchStmt) -> Result<(), AllocError>
@@ -198,12 +209,12 @@ fn head_binding(kind: VarDeclKind) -> Binding
     }
 }
 
-/// What awaits as the operator does, if it does.
+/// What awaits, if it does.
 fn awaited(walk: &mut Walk<'_>, is_await: bool, span: Span) -> Result<(), AllocError>
     ensures { OnOk result (walk.new ≡ awaited is_await span walk.old) }
 {
     if is_await {
-        return walk.event(Event::Await(span));
+        return walk.event(Event::Awaits(span));
     }
     Ok(())
 }
@@ -265,7 +276,10 @@ pub(crate) fn decl<'a>(
                 x.decls.as_slice(),
             ))
         }
-        Decl::Using(x) => using(walk, is_exported, x),
+        Decl::Using(x) => {
+            using(walk, is_exported, x)?;
+            walk.event(Event::Using(x.span))
+        }
     }
 }
 
@@ -327,11 +341,25 @@ fn bare<'a>(
     }
 }
 
+fn while_stmt<'a>(walk: &mut Walk<'a>, x: &'a WhileStmt) -> Result<(), AllocError>
+    ensures { OnOk result (walk.new ≡ events used (view_while_stmt x.now) walk.old) }
+{
+    loop_body(walk, &x.body)?;
+    walk.push(Work::Expr(Role::Used, &x.test))
+}
+
+fn do_while<'a>(walk: &mut Walk<'a>, x: &'a DoWhileStmt) -> Result<(), AllocError>
+    ensures { OnOk result (walk.new ≡ events used (view_do_while_stmt x.now) walk.old) }
+{
+    walk.push(Work::Expr(Role::Used, &x.test))?;
+    loop_body(walk, &x.body)
+}
+
 fn for_stmt<'a>(walk: &mut Walk<'a>, x: &'a ForStmt) -> Result<(), AllocError>
     ensures { OnOk result (walk.new ≡ events used (view_for_stmt x.now) walk.old) }
 {
     walk.event(Event::Leave)?;
-    walk.push(Work::Stmt(&x.body))?;
+    loop_body(walk, &x.body)?;
     optional_expr(walk, &x.update)?;
     optional_expr(walk, &x.test)?;
     init(walk, &x.init)?;
@@ -340,11 +368,15 @@ fn for_stmt<'a>(walk: &mut Walk<'a>, x: &'a ForStmt) -> Result<(), AllocError>
 
 /// What a `for` begins with.
 fn var_or_expr<'a>(walk: &mut Walk<'a>, x: &'a VarDeclOrExpr) -> Result<(), AllocError>
-    ensures { OnOk result (walk.new ≡ events used (view_var_decl_or_expr x.now) walk.old) }
+    ensures { let h = view_var_decl_or_expr x.now in OnOk result
+        (walk.new ≡ head_inits h (events used h walk.old)) }
 {
     match x {
         VarDeclOrExpr::VarDecl(x) => {
-            walk.push(Work::Declarators(declared(binding_of(x.kind)), x.decls.as_slice()))
+            walk.two(
+                Work::Inits(x.decls.as_slice()),
+                Work::Declarators(declared(binding_of(x.kind)), x.decls.as_slice()),
+            )
         }
         VarDeclOrExpr::Expr(x) => walk.push(Work::Expr(Role::Used, x)),
     }
@@ -352,8 +384,8 @@ fn var_or_expr<'a>(walk: &mut Walk<'a>, x: &'a VarDeclOrExpr) -> Result<(), Allo
 
 /// The first part of a `for`, which may be left out.
 fn init<'a>(walk: &mut Walk<'a>, x: &'a Option<VarDeclOrExpr>) -> Result<(), AllocError>
-    ensures { OnOk result
-        (walk.new ≡ events used (view_option view_var_decl_or_expr x.now) walk.old) }
+    ensures { let h = view_option view_var_decl_or_expr x.now in OnOk result
+        (walk.new ≡ head_inits h (events used h walk.old)) }
 {
     match x {
         Some(x) => var_or_expr(walk, x),
@@ -384,11 +416,12 @@ fn each<'a>(
     body: &'a StmtBox,
 ) -> Result<(), AllocError>
     ensures { let h = view_for_head left.now in
-        let following = events used right.now.node.tree (events used body.now.node.tree (steps.leave ∷ walk.old)) in OnOk result
+        let following = events used right.now.node.tree (loop_events body.now.node.tree (steps.leave ∷ walk.old)) in OnOk result
         (walk.new ≡ steps.enter region.Loop span ∷ head_events (events assigned h following) h following) }
 {
     walk.event(Event::Leave)?;
-    walk.two(Work::Expr(Role::Used, right), Work::Stmt(body))?;
+    loop_body(walk, body)?;
+    walk.push(Work::Expr(Role::Used, right))?;
     head(walk, left)?;
     walk.event(Event::Enter(Region::Loop, span))
 }
@@ -396,12 +429,14 @@ fn each<'a>(
 fn for_in<'a>(walk: &mut Walk<'a>, x: &'a ForInStmt) -> Result<(), AllocError>
     ensures { OnOk result (walk.new ≡ events used (view_for_in_stmt x.now) walk.old) }
 {
-    each(walk, x.span, &x.left, &x.right, &x.body)
+    each(walk, x.span, &x.left, &x.right, &x.body)?;
+    head_init(walk, &x.left)
 }
 
 fn for_of<'a>(walk: &mut Walk<'a>, x: &'a ForOfStmt) -> Result<(), AllocError>
     ensures { OnOk result (walk.new ≡ events used (view_for_of_stmt x.now) walk.old) }
 {
     each(walk, x.span, &x.left, &x.right, &x.body)?;
+    of_head(walk, x.is_await, &x.left)?;
     awaited(walk, x.is_await, x.span)
 }

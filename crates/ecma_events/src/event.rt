@@ -1,3 +1,4 @@
+use crate::early_error::EarlyErrorKind;
 use swc_ecma_parser_common::{Atom, Span};
 use swc_ecma_parser_model::{Ident, MethodKind, PrivateName};
 
@@ -80,6 +81,26 @@ pub enum Role {
     Declared(Binding, bool),
 }
 
+/// What `break`, `continue` and `return` depend on, and these themselves.
+#[derive(Clone, Copy)]
+pub enum Flow<'a> {
+    /// The body of a loop begins.
+    Loop,
+    /// What a label stands at begins; and whether that is a loop, behind further labels or not.
+    Label(bool, &'a Ident),
+    /// One of these ends.
+    End,
+    /// A `break` without a label.
+    Break(Span),
+    /// A `continue` without a label.
+    Continue(Span),
+    /// A `break` with its label.
+    BreakTo(Span, &'a Ident),
+    /// A `continue` with its label.
+    ContinueTo(Span, &'a Ident),
+    Return(Span),
+}
+
 /// One step of a walk over a tree in the order of its parts: what its scopes are, and what is said of names in them.
 #[derive(Clone, Copy)]
 pub enum Event<'a> {
@@ -89,6 +110,8 @@ pub enum Event<'a> {
     Leave,
     /// The parameters of a function end, and its body begins.
     Body,
+    /// What stands before the members of a class ends, and they begin.
+    Members,
     Name(Role, &'a Ident),
     /// A `const` without initializer, with the span of its declarator.
     Bare(Span),
@@ -97,11 +120,16 @@ pub enum Event<'a> {
     /// `delete` of a private member.
     DeletePrivate(Span),
     With(Span),
+    /// A declaration by `using` or `await using` that is a statement.
+    Using(Span),
     /// `super(..)`, with the span of the word.
     SuperCall(Span),
     /// `super.a` and `super[a]`, with the span of the word.
     SuperMember(Span),
+    /// The operator `await`.
     Await(Span),
+    /// `for await` and `await using`.
+    Awaits(Span),
     Yield(Span),
     /// `new.target`.
     NewTarget(Span),
@@ -109,8 +137,8 @@ pub enum Event<'a> {
     OldNumber(Span),
     /// A string with an escape in an old form, as `'\01'` and `'\8'`.
     OldString(Span),
-    /// A regular expression with flags that are none, that stand twice, or that exclude each other.
-    WrongFlags(Span),
+    /// What is wrong whatever stands around it.
+    Wrong(EarlyErrorKind, Span),
     /// A member of a class with a private name, and whether it is static. A field counts as a method.
     PrivateMember(MethodKind, bool, &'a PrivateName),
     /// A private name that refers to a member.
@@ -125,4 +153,13 @@ pub enum Event<'a> {
     ExportDefault(Span),
     /// A name of this module that is exported by a list.
     ExportLocal(Span, &'a Atom),
+    Flow(Flow<'a>),
+    /// A function behind a label that is not async.
+    LabeledFunction(Span),
+    /// An initializer before `in`, with the span of its declarator, and whether it is that of a name alone.
+    HeadInit(bool, Span),
+    /// The attributes of an import begin, with the span of all of them.
+    Attributes(Span),
+    /// The key of an attribute.
+    Attribute(Span, &'a Atom),
 }

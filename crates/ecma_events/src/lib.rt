@@ -5,4 +5,4 @@ mod early_error;
 mod event;
 
 pub use early_error::{EarlyError, EarlyErrorKind};
-pub use event::{Binding, Code, CodeKind, Event, Region, Role};
+pub use event::{Binding, Code, CodeKind, Event, Flow, Region, Role};

@@ -1,4 +1,5 @@
--- What is wrong with the exports of a module, by its events: a machine that goes over them with the names that the module declares and exports.
+-- What is wrong with the exports of a module and with the attributes of its imports, by its events: a machine that goes over them with the names that
+-- the module declares and exports.
 use Rattle.std.specs.Prelude.{ℕ, ◌+◌, ◌-◌, Bool, true, false, ◌||◌, if◌then◌else◌, nat_eq, nat_lt, List, [], ◌∷◌, ◌++◌, Option, Some, None, codes}
 use Rattle.ecma_exports.specs.Places.{Place, find}
 use Rattle.ecma_events.specs.Event as event
@@ -15,13 +16,15 @@ use Rattle.swc_ecma_parser_common.specs.declared.span.Span.{Span}
 use Rattle.swc_ecma_parser_model.specs.Tree.{Text}
 
 -- how many regions are open, and how many from the outermost function on; what is declared right in the module; what is exported; the names of the
--- module that lists export
+-- module that lists export; the keys of attributes, and where the latest list of these begins
 pub record Exports : Type 0 where
   pub depth : ℕ
   pub inside : ℕ
   pub declared : List Place
   pub exported : List Place
   pub locals : List Place
+  pub attributes : List Place
+  pub clause : ℕ
 
 abbrev pub place : Text → Span → Place
 place text s = record { text = text; span = s }
@@ -49,6 +52,11 @@ abbrev pub exported_twice : Span → Option Span → List EarlyError
 exported_twice s None = []
 exported_twice s (Some t) = error_of error.ExportedTwice s (Some t) ∷ []
 
+-- the attributes of an import have different keys (16.2.2): one of the same key is an earlier one of this list, or stands before it
+abbrev pub second_attribute : (clause : ℕ) → Span → Option Span → List EarlyError
+second_attribute clause s None = []
+second_attribute clause s (Some t) = if nat_lt t.lo.0 clause then [] else error_of error.SecondAttribute s (Some t) ∷ []
+
 abbrev pub default_name : Text
 default_name = codes "default"
 
@@ -56,6 +64,7 @@ abbrev pub told : Exports → Event → List EarlyError
 told c (event.export s text) = exported_twice s (find text c.exported)
 told c (event.export_default s) = exported_twice s (find default_name c.exported)
 told c (event.name (role.Declared b true) s text) = exported_twice s (find text c.exported)
+told c (event.attribute s text) = second_attribute c.clause s (find text c.attributes)
 told c _ = []
 
 abbrev pub entered : Exports → Region → Exports
@@ -73,6 +82,12 @@ add_local c text s = record c { locals = c.locals ++ place text s ∷ [] }
 abbrev pub declare : Exports → Binding → Text → Span → Exports
 declare c b text s = if is_of_module c b then record c { declared = c.declared ++ place text s ∷ [] } else c
 
+abbrev pub enter_clause : Exports → Span → Exports
+enter_clause c s = record c { clause = s.lo.0 }
+
+abbrev pub add_attribute : Exports → Text → Span → Exports
+add_attribute c text s = record c { attributes = c.attributes ++ place text s ∷ [] }
+
 abbrev pub next : Exports → Event → Exports
 next c (event.enter r s) = entered c r
 next c event.leave = left c
@@ -81,6 +96,8 @@ next c (event.export_default s) = export c default_name s
 next c (event.export_local s text) = add_local c text s
 next c (event.name (role.Declared b false) s text) = declare c b text s
 next c (event.name (role.Declared b true) s text) = export (declare c b text s) text s
+next c (event.attributes s) = enter_clause c s
+next c (event.attribute s text) = add_attribute c text s
 next c _ = c
 
 -- a name of the module that is exported is declared in it (16.2.1.1)
@@ -98,7 +115,7 @@ errors c (e ∷ es) = told c e ++ errors (next c e) es
 
 -- before all
 abbrev pub start : Exports
-start = record { depth = 0; inside = 0; declared = []; exported = []; locals = [] }
+start = record { depth = 0; inside = 0; declared = []; exported = []; locals = []; attributes = []; clause = 0 }
 
 abbrev pub errors_of : List Event → List EarlyError
 errors_of es = errors start es

@@ -1,4 +1,4 @@
-//! What is wrong with exports, event by event.
+//! What is wrong with exports and with attributes of imports, event by event.
 
 ghost use Rattle.std.specs.Prelude.{◌≡◌, ◌++◌, map, IfOk, OnOk};
 ghost use Rattle.ecma_exports.specs.Exports as rule;
@@ -11,7 +11,7 @@ use crate::exports::Exports;
 use crate::places::Name;
 use ecma_events::{EarlyError, EarlyErrorKind, Event, Role};
 use std::alloc::{AllocError, Global};
-use swc_ecma_parser_common::Span;
+use swc_ecma_parser_common::{BytePos, Span};
 use swc_ecma_parser_model::Ident;
 
 const DEFAULT: &str = "default";
@@ -33,6 +33,32 @@ fn tell_twice(
         })?;
     }
     Ok(())
+}
+
+/// Tells an attribute that was given before, where that is in the same list.
+fn tell_second(
+    errors: &mut Vec<EarlyError>,
+    clause: BytePos,
+    span: Span,
+    earlier: Option<Span>,
+) -> Result<(), AllocError>
+    ensures { OnOk result
+        (errors.new.items ≡ errors.old.items ++ rule.second_attribute clause.0 span earlier) }
+{
+    match earlier {
+        Some(it) => {
+            if it.lo.0 < clause.0 {
+                return Ok(());
+            }
+            errors.push(EarlyError {
+                kind: EarlyErrorKind::SecondAttribute,
+                span,
+                previous: Some(it),
+            })?;
+            Ok(())
+        }
+        None => Ok(()),
+    }
 }
 
 /// Tells a name that is exported again where it is declared.
@@ -67,26 +93,37 @@ fn tell(
         Event::Name(role, name) => tell_name(errors, exports, role, name),
         Event::Export(span, text) => tell_twice(errors, span, exports.exported(text.as_str())),
         Event::ExportDefault(span) => tell_twice(errors, span, exports.exported(DEFAULT)),
+        Event::Attribute(span, text) => {
+            let earlier = exports.attribute(text.as_str());
+            tell_second(errors, exports.clause(), span, earlier)
+        }
         Event::Enter(_, _)
         | Event::Leave
         | Event::Body
+        | Event::Members
         | Event::Bare(_)
         | Event::DeleteName(_)
         | Event::DeletePrivate(_)
         | Event::With(_)
+        | Event::Using(_)
         | Event::SuperCall(_)
         | Event::SuperMember(_)
         | Event::Await(_)
+        | Event::Awaits(_)
         | Event::Yield(_)
         | Event::NewTarget(_)
         | Event::OldNumber(_)
         | Event::OldString(_)
-        | Event::WrongFlags(_)
+        | Event::Wrong(_, _)
         | Event::PrivateMember(_, _, _)
         | Event::PrivateUse(_)
         | Event::Prototype(_)
         | Event::SecondProto(_)
-        | Event::ExportLocal(_, _) => Ok(()),
+        | Event::ExportLocal(_, _)
+        | Event::Flow(_)
+        | Event::LabeledFunction(_)
+        | Event::HeadInit(_, _)
+        | Event::Attributes(_) => Ok(()),
     }
 }
 
@@ -120,23 +157,34 @@ fn follow<'a>(exports: &mut Exports<'a>, event: &Event<'a>) -> Result<(), AllocE
         Event::Export(span, text) => exports.export(text.as_str(), span),
         Event::ExportDefault(span) => exports.export(DEFAULT, span),
         Event::ExportLocal(span, text) => exports.add_local(text.as_str(), span),
+        Event::Attributes(span) => {
+            exports.enter_clause(span);
+            Ok(())
+        }
+        Event::Attribute(span, text) => exports.add_attribute(text.as_str(), span),
         Event::Body
+        | Event::Members
         | Event::Bare(_)
         | Event::DeleteName(_)
         | Event::DeletePrivate(_)
         | Event::With(_)
+        | Event::Using(_)
         | Event::SuperCall(_)
         | Event::SuperMember(_)
         | Event::Await(_)
+        | Event::Awaits(_)
         | Event::Yield(_)
         | Event::NewTarget(_)
         | Event::OldNumber(_)
         | Event::OldString(_)
-        | Event::WrongFlags(_)
+        | Event::Wrong(_, _)
         | Event::PrivateMember(_, _, _)
         | Event::PrivateUse(_)
         | Event::Prototype(_)
-        | Event::SecondProto(_) => Ok(()),
+        | Event::SecondProto(_)
+        | Event::Flow(_)
+        | Event::LabeledFunction(_)
+        | Event::HeadInit(_, _) => Ok(()),
     }
 }
 
@@ -174,7 +222,7 @@ fn tell_undeclared(
     Ok(())
 }
 
-/// What is wrong with the exports of a module, by the events of its tree: exactly `errors_of` them, as it is found. It fails only where memory
+/// What is wrong with the exports of a module and with attributes of imports, by the events of its tree: exactly `errors_of` them, as it is found. It fails only where memory
 /// runs out.
 pub fn export_errors(alloc: Global, events: &[Event<'_>]) -> Result<Vec<EarlyError>, AllocError>
     ensures { IfOk result (λ r. r.items ≡ errors_of (map event_of events.now)) }

@@ -1,4 +1,4 @@
-//! The names that a module declares and exports.
+//! The names that a module declares and exports, and the attributes of its imports.
 
 ghost use Rattle.std.specs.Prelude.{◌≡◌, map, OnOk};
 ghost use Rattle.ecma_exports.specs.Exports as rule;
@@ -9,7 +9,7 @@ use crate::places::{Name, Places};
 use ecma_events::{Binding, Region};
 use std::alloc::{AllocError, Global};
 use std::marker::Model;
-use swc_ecma_parser_common::Span;
+use swc_ecma_parser_common::{BytePos, Span};
 
 /// The names that a module declares and exports.
 #[derive(Drop)]
@@ -19,6 +19,9 @@ pub(crate) struct Exports<'a> {
     declared: Places<'a>,
     exported: Places<'a>,
     locals: Vec<Name<'a>>,
+    attributes: Places<'a>,
+    /// Where the latest list of attributes begins.
+    clause: BytePos,
 }
 
 impl<'a> Model for Exports<'a> {
@@ -34,6 +37,8 @@ impl<'a> Model for Exports<'a> {
       declared = e.declared;
       exported = e.exported;
       locals = map placed e.locals.items;
+      attributes = e.attributes;
+      clause = e.clause.0;
     } };
 }
 
@@ -84,6 +89,8 @@ impl<'a> Exports<'a> {
             declared: Places::new(alloc),
             exported: Places::new(alloc),
             locals: Vec::new(alloc),
+            attributes: Places::new(alloc),
+            clause: BytePos(0),
         }
     }
 
@@ -146,6 +153,34 @@ impl<'a> Exports<'a> {
     {
         self.locals.push(Name { text, span })?;
         Ok(())
+    }
+
+    /// Goes to the attributes of an import.
+    pub(crate) fn enter_clause(&mut self, span: Span)
+        ensures { self.new ≡ rule.enter_clause self.old span }
+    {
+        self.clause = span.lo;
+    }
+
+    /// Notes the key of an attribute.
+    pub(crate) fn add_attribute(&mut self, text: &'a str, span: Span) -> Result<(), AllocError>
+        ensures { OnOk result (self.new ≡ rule.add_attribute self.old text.now span) }
+    {
+        self.attributes.add(text, span)
+    }
+
+    /// Where an attribute with this key stands last.
+    pub(crate) fn attribute(&self, text: &str) -> Option<Span>
+        ensures { result ≡ find text.now self.now.attributes }
+    {
+        self.attributes.find(text)
+    }
+
+    /// Where the latest list of attributes begins.
+    pub(crate) fn clause(&self) -> BytePos
+        ensures { result.0 ≡ self.now.clause }
+    {
+        self.clause
     }
 
     /// Where a name is exported already.

@@ -6,8 +6,6 @@ use Rattle.ecma_events.specs.Event.{Event}
 use Rattle.ecma_events.specs.declared.early_error.EarlyError.{EarlyError}
 use Rattle.ecma_events.specs.declared.early_error.EarlyErrorKind.{EarlyErrorKind}
 use Rattle.ecma_events.specs.declared.early_error.EarlyErrorKind.TheVariants as error
-use Rattle.ecma_events.specs.declared.event.Region.{Region}
-use Rattle.ecma_events.specs.declared.event.Region.TheVariants as region
 use Rattle.ecma_private_names.specs.declared.members.Member.{Member}
 use Rattle.swc_ecma_parser_common.specs.declared.span.Span.{Span}
 use Rattle.swc_ecma_parser_model.specs.declared.leaves.MethodKind.{MethodKind}
@@ -38,15 +36,11 @@ pub record Class : Type 0 where
   pub members : List Named
   pub uses : List Use
 
--- the innermost class and those around it; whether each region that is open is a class, from the inside out
+-- the innermost class and those around it; whether each region that is open is a class whose members have begun, from the inside out
 pub record Classes : Type 0 where
   pub here : Class
   pub around : List Class
   pub regions : List Bool
-
-abbrev pub is_class : Region → Bool
-is_class (region.Class derived) = true
-is_class _ = false
 
 abbrev pub are_accessors : MethodKind → MethodKind → Bool
 are_accessors method.Getter method.Setter = true
@@ -104,12 +98,12 @@ abbrev pub told : Classes → Event → List EarlyError
 told c (event.private_member k is_static s text) = declared_twice k is_static s (find text c.here.members)
 told c _ = []
 
-abbrev pub entered : Classes → Region → Classes
-entered c r = record {
-  here = if is_class r then empty else c.here;
-  around = if is_class r then c.here ∷ c.around else c.around;
-  regions = is_class r ∷ c.regions;
-}
+abbrev pub entered : Classes → Classes
+entered c = record c { regions = false ∷ c.regions }
+
+-- the private names of a class are those of its members: in what it extends they are those around it (15.7.1)
+abbrev pub opened : Classes → Classes
+opened c = record { here = empty; around = c.here ∷ c.around; regions = true ∷ rest_of c.regions }
 
 abbrev pub left_class : Classes → Classes
 left_class c = record c { here = handed_out (first_or empty c.around) c.here; around = rest_of c.around }
@@ -124,7 +118,8 @@ abbrev pub add_use : Classes → Text → Span → Classes
 add_use c text s = record c { here = record c.here { uses = c.here.uses ++ record { text = text; span = s } ∷ [] } }
 
 abbrev pub next : Classes → Event → Classes
-next c (event.enter r s) = entered c r
+next c (event.enter r s) = entered c
+next c event.members = opened c
 next c event.leave = left c
 next c (event.private_member k is_static s text) = declare c text (member_of k is_static s (find text c.here.members))
 next c (event.private_use s text) = add_use c text s

@@ -91,7 +91,8 @@ fn step<'a>(
     ensures classes { OnOk result (classes.new ≡ next classes.old (event_of event.now)) }
 {
     match *event {
-        Event::Enter(region, _) => classes.enter(region),
+        Event::Enter(_, _) => classes.enter(),
+        Event::Members => classes.open(),
         Event::Leave => classes.leave(),
         Event::PrivateMember(kind, is_static, name) => {
             member(errors, classes, kind, is_static, name)
@@ -103,19 +104,26 @@ fn step<'a>(
         | Event::DeleteName(_)
         | Event::DeletePrivate(_)
         | Event::With(_)
+        | Event::Using(_)
         | Event::SuperCall(_)
         | Event::SuperMember(_)
         | Event::Await(_)
+        | Event::Awaits(_)
         | Event::Yield(_)
         | Event::NewTarget(_)
         | Event::OldNumber(_)
         | Event::OldString(_)
-        | Event::WrongFlags(_)
+        | Event::Wrong(_, _)
         | Event::Prototype(_)
         | Event::SecondProto(_)
         | Event::Export(_, _)
         | Event::ExportDefault(_)
-        | Event::ExportLocal(_, _) => Ok(()),
+        | Event::ExportLocal(_, _)
+        | Event::Flow(_)
+        | Event::LabeledFunction(_)
+        | Event::HeadInit(_, _)
+        | Event::Attributes(_)
+        | Event::Attribute(_, _) => Ok(()),
     }
 }
 

@@ -5,7 +5,6 @@ ghost use Rattle.ecma_private_names.specs.PrivateNames as rule;
 ghost use Rattle.ecma_private_names.specs.Kept.{use_of};
 
 use crate::members::{Member, Members};
-use ecma_events::Region;
 use std::alloc::{AllocError, Global};
 use std::collections::VecDeque;
 use std::marker::Model;
@@ -48,24 +47,6 @@ impl<'a> Model for Classes<'a> {
       around = c.around.items;
       regions = c.regions.items;
     } };
-}
-
-/// Whether a class begins.
-fn is_class(region: Region) -> bool
-    ensures { result ≡ rule.is_class region }
-{
-    match region {
-        Region::Class(_) => true,
-        Region::Script(_)
-        | Region::Module
-        | Region::Function(_)
-        | Region::Field
-        | Region::StaticBlock
-        | Region::Block
-        | Region::Loop
-        | Region::Switch
-        | Region::Catch => false,
-    }
 }
 
 impl<'a> Class<'a> {
@@ -144,15 +125,10 @@ impl<'a> Classes<'a> {
     }
 
     /// Goes into a region.
-    pub(crate) fn enter(&mut self, region: Region) -> Result<(), AllocError>
-        ensures { OnOk result (self.new ≡ rule.entered self.old region) }
+    pub(crate) fn enter(&mut self) -> Result<(), AllocError>
+        ensures { OnOk result (self.new ≡ rule.entered self.old) }
     {
-        let is_class = is_class(region);
-        self.regions.push_front(is_class)?;
-        if is_class {
-            let around = mem::replace(&mut self.here, Class::new(self.alloc));
-            self.around.push_front(around)?;
-        }
+        self.regions.push_front(false)?;
         Ok(())
     }
 
@@ -188,6 +164,17 @@ impl<'a> Classes<'a> {
             Some(is_class) => is_class,
             None => false,
         }
+    }
+
+    /// Goes to the members of a class.
+    pub(crate) fn open(&mut self) -> Result<(), AllocError>
+        ensures { OnOk result (self.new ≡ rule.opened self.old) }
+    {
+        let _ = self.take_region();
+        self.regions.push_front(true)?;
+        let around = mem::replace(&mut self.here, Class::new(self.alloc));
+        self.around.push_front(around)?;
+        Ok(())
     }
 
     /// Goes behind a region.

@@ -9,7 +9,7 @@ use swc_ecma_parser::ast::{Module, Program, Script};
 use swc_ecma_parser::common::BytePos;
 use swc_ecma_parser::error::{Error, PResult};
 use swc_ecma_parser::headline::{read_module, read_program, read_script};
-use swc_ecma_parser::input::Syntax;
+use swc_ecma_parser::input::{EsSyntax, Syntax};
 use swc_ecma_parser::lexer::StringInput;
 use swc_ecma_parser_whole_lexer::{Goal, WholeLexer};
 
@@ -22,11 +22,15 @@ const LONGEST: usize = 4_000_000;
 /// Drops it. What drops a tree is proved to do so on each way out, so trees are let go of here.
 fn let_go<T: Drop>(_: T) {}
 
-/// A lexer of the whole language at the start of a text; of an empty one where the text is too long.
+/// A lexer of the whole language, attributes of imports included, at the start of a text; of an empty one where the text is too long.
 fn lexer(alloc: Global, text: &str, goal: Goal) -> WholeLexer<'_> {
     let text = if text.len() > LONGEST { "" } else { text };
     let input = StringInput::new(text, BytePos(0), BytePos(text.len() as u32));
-    WholeLexer::new(alloc, Syntax::default(), input, false, goal)
+    let syntax = Syntax::Es(EsSyntax {
+        import_attributes: true,
+        ..EsSyntax::default()
+    });
+    WholeLexer::new(alloc, syntax, input, false, goal)
 }
 
 /// Writes the line of an early error.

@@ -1,15 +1,26 @@
 -- Each form of an expression.
-use Rattle.std.proofs.Common.{◌≡◌, OnOk, ap, subst}
+use Rattle.std.proofs.Common.{◌≡◌, ◌∷◌, false, OnOk, ap, map, subst}
+use Rattle.ecma_events.specs.Event as event
+use Rattle.ecma_event_exprs.proofs.After.{after}
 use Rattle.ecma_event_exprs.proofs.Arms.{arm}
 use Rattle.ecma_event_exprs.proofs.Declared.{literal_on_ok}
 use Rattle.ecma_event_exprs.proofs.Holders.{class_expr, fn_expr}
-use Rattle.ecma_event_exprs.specs.Events.{events, used}
+use Rattle.ecma_event_exprs.specs.Events.{all_events, events, property_events, used}
 use Rattle.swc_ecma_parser_ast.specs.Parts.{view_option}
-use Rattle.swc_ecma_parser_ast.specs.View.{view_class, view_expr, view_function, view_ident, view_opt_chain_base}
+use Rattle.swc_ecma_parser_ast.specs.View.{view_class, view_expr, view_expr_or_spread, view_function, view_ident, view_opt_chain_base, view_prop_or_spread}
+use Rattle.swc_ecma_parser_model.specs.Tree.{trees}
 use Rattle.ecma_event_exprs.proofs.exprs.expr.Goals as goal
 
 pub returns-in-Lit : goal.returns-in-Lit
 returns-in-Lit c = arm c.literal.result _ c.args.walk.now c.args.role (view_expr c.args.expr.now) _ (ap view_expr c.in-Lit.is) (literal_on_ok c.literal.result c.args.role c.in-Lit.x c.args.walk.now _ c.literal.ensures)
+
+pub returns-in-Array : goal.returns-in-Array
+returns-in-Array c =
+    arm c.push.result _ c.args.walk.now c.args.role (view_expr c.args.expr.now) _ (ap view_expr c.in-Array.is) (subst (λ xs. OnOk c.push.result (c.push.new.self ≡ all_events used (trees (map (view_option view_expr_or_spread) xs)) c.args.walk.now)) c.as_slice.ensures.value c.push.ensures)
+
+pub returns-in-Object : goal.returns-in-Object
+returns-in-Object c =
+    arm c.push-in-Object.result _ c.args.walk.now c.args.role (view_expr c.args.expr.now) _ (ap view_expr c.in-Object.is) (subst (λ xs. OnOk c.push-in-Object.result (c.push-in-Object.new.self ≡ property_events false (trees (map view_prop_or_spread xs)) c.args.walk.now)) c.as_slice-in-Object.ensures.value c.push-in-Object.ensures)
 
 pub returns-in-MetaProp : goal.returns-in-MetaProp
 returns-in-MetaProp c = arm c.meta_prop.result _ c.args.walk.now c.args.role (view_expr c.args.expr.now) _ (ap view_expr c.in-MetaProp.is) c.meta_prop.ensures
@@ -56,6 +67,10 @@ pub returns-in-Class : goal.returns-in-Class
 returns-in-Class c =
     let x = c.in-Class.x in
     arm c.class_expr.result _ c.args.walk.now c.args.role (view_expr c.args.expr.now) _ (ap view_expr c.in-Class.is) (class_expr c.class_expr.result _ c.args.walk.now c.args.role x.span (view_option view_ident x.ident) (view_class x.class.value) c.class_expr.ensures)
+
+pub returns-in_ok-optional_expr-in-Yield : goal.returns-in_ok-optional_expr-in-Yield
+returns-in_ok-optional_expr-in-Yield c =
+    arm c.event.result _ c.args.walk.now c.args.role (view_expr c.args.expr.now) _ (ap view_expr c.in-Yield.is) (after c.event.result _ (λ l. event.yield c.in-Yield.x.span ∷ l) _ _ c.in_ok-optional_expr-in-Yield.ensures c.event.ensures)
 
 pub returns-in-Await : goal.returns-in-Await
 returns-in-Await c = arm c.two-in-Await.result _ c.args.walk.now c.args.role (view_expr c.args.expr.now) _ (ap view_expr c.in-Await.is) c.two-in-Await.ensures

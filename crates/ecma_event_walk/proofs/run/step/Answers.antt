@@ -118,3 +118,27 @@ returns-in-Imports c = work_arm c.imports.result _ c.args.walk.now c.args.work _
 
 pub returns-in-Exports : goal.returns-in-Exports
 returns-in-Exports c = work_arm c.exports.result _ c.args.walk.now c.args.work _ c.in-Exports.is c.exports.ensures
+
+pub returns-in-Part : goal.returns-in-Part
+returns-in-Part c = work_arm c.part.result _ c.args.walk.now c.args.work _ c.in-Part.is c.part.ensures
+
+pub returns-in-Start : goal.returns-in-Start
+returns-in-Start c = work_arm c.start.result _ c.args.walk.now c.args.work _ c.in-Start.is c.start.ensures
+
+pub returns-in-In : goal.returns-in-In
+returns-in-In c = work_arm c.operators.result _ c.args.walk.now c.args.work _ c.in-In.is c.operators.ensures
+
+pub returns-in-Init : goal.returns-in-Init
+returns-in-Init c = work_arm c.init.result _ c.args.walk.now c.args.work _ c.in-Init.is c.init.ensures
+
+pub returns-in-Inits : goal.returns-in-Inits
+returns-in-Inits c = work_arm c.inits.result _ c.args.walk.now c.args.work _ c.in-Inits.is c.inits.ensures
+
+pub returns-in-Attribute : goal.returns-in-Attribute
+returns-in-Attribute c = work_arm c.attribute.result _ c.args.walk.now c.args.work _ c.in-Attribute.is c.attribute.ensures
+
+pub returns-in-Attributes : goal.returns-in-Attributes
+returns-in-Attributes c = work_arm c.attributes.result _ c.args.walk.now c.args.work _ c.in-Attributes.is c.attributes.ensures
+
+pub returns-in-AttributeValue : goal.returns-in-AttributeValue
+returns-in-AttributeValue c = work_arm c.attribute_value.result _ c.args.walk.now c.args.work _ c.in-AttributeValue.is c.attribute_value.ensures
