@@ -23,6 +23,8 @@ pub(crate) enum AnyLexer<'a> {
 impl<'a> Tokens for AnyLexer<'a> {
     ghost seen = { λ s. spec.seen s };
 
+    ghost kept = { λ s. spec.kept s };
+
     fn next(&mut self) -> Option<TokenAndSpan> {
         match self {
             AnyLexer::Plain(lexer) => lexer.next(),

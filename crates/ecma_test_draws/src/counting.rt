@@ -1,7 +1,9 @@
 //! A source of tokens that counts what it is asked.
 
-ghost use Rattle.std.specs.Prelude.{◌≡◌, [], IfOk, IfErr, OnOk};
+ghost use Rattle.std.specs.Prelude.{◌≡◌, [], false, IfNone, IfOk, IfErr, OnOk};
 ghost use Rattle.swc_ecma_parser_error.specs.Kind.{IsOutOfMemory};
+ghost use Rattle.swc_ecma_parser_input.specs.Kept.{IsReadOn, copies_and_left};
+ghost use Rattle.swc_ecma_parser_input.specs.Place.{lacks_memory};
 ghost use Rattle.swc_ecma_parser_input.specs.TokenSource as source;
 ghost use Rattle.ecma_test_draws.specs.Counted.{tokens_with, ends_with};
 
@@ -48,8 +50,15 @@ impl<I: Tokens> Counting<I> {
 impl<I: Tokens> Tokens for Counting<I> {
     ghost seen = { λ c. I.seen c.input };
 
+    ghost kept = { λ c. I.kept c.input };
+
     fn next(&mut self) -> Option<TokenAndSpan>
         ensures draws { source.Draws (I.seen self.old.input) result (I.seen self.new.input) }
+        ensures comments { IsReadOn (I.kept self.old.input) (I.kept self.new.input) }
+        ensures ended { IfNone result ((I.kept self.new.input).coming ≡ []) }
+        ensures copies { lacks_memory result ≡ false
+            → copies_and_left (I.kept self.old.input).copies (I.seen self.old.input).left
+            ≡ copies_and_left (I.kept self.new.input).copies (I.seen self.new.input).left }
         ensures tokens { self.new.tokens ≡ tokens_with result self.old.tokens }
         ensures ends { self.new.ends ≡ ends_with result self.old.ends }
     {
@@ -66,6 +75,7 @@ impl<I: Tokens> Tokens for Counting<I> {
         ensures source { I.seen self.new.input
             ≡ source.with_context context (I.seen self.old.input) }
         ensures counts { self.new ≡ record self.old { input = self.new.input } }
+        ensures kept { I.kept self.new.input ≡ I.kept self.old.input }
     {
         self.input.set_ctx(context);
     }
@@ -89,6 +99,7 @@ impl<I: Tokens> Tokens for Counting<I> {
             (λ e. IsOutOfMemory e × (I.seen self.new.input ≡ I.seen self.old.input)) }
         ensures place { IfErr result (λ e. e.span ≡ source.at_start (I.seen self.old.input)) }
         ensures counts { self.new ≡ record self.old { input = self.new.input } }
+        ensures kept { I.kept self.new.input ≡ I.kept self.old.input }
     {
         self.input.add_error(error)
     }
@@ -100,6 +111,7 @@ impl<I: Tokens> Tokens for Counting<I> {
             (λ e. IsOutOfMemory e × (I.seen self.new.input ≡ I.seen self.old.input)) }
         ensures place { IfErr result (λ e. e.span ≡ source.at_start (I.seen self.old.input)) }
         ensures counts { self.new ≡ record self.old { input = self.new.input } }
+        ensures kept { I.kept self.new.input ≡ I.kept self.old.input }
     {
         self.input.add_module_mode_error(error)
     }
@@ -108,6 +120,7 @@ impl<I: Tokens> Tokens for Counting<I> {
         ensures errors { result.items ≡ (I.seen self.old.input).recorded }
         ensures source { I.seen self.new.input ≡ record (I.seen self.old.input) { recorded = [] } }
         ensures counts { self.new ≡ record self.old { input = self.new.input } }
+        ensures kept { I.kept self.new.input ≡ I.kept self.old.input }
     {
         self.input.take_errors()
     }
@@ -115,6 +128,7 @@ impl<I: Tokens> Tokens for Counting<I> {
     fn try_clone(&self) -> PResult<Counting<I>>
         ensures ok { IfOk result (λ it. I.seen it.input ≡ I.seen self.now.input) }
         ensures counts { IfOk result (λ it. it ≡ record self.now { input = it.input }) }
+        ensures kept { IfOk result (λ it. I.kept it.input ≡ I.kept self.now.input) }
         ensures err { IfErr result IsOutOfMemory }
         ensures place { IfErr result (λ e. e.span ≡ source.at_start (I.seen self.now.input)) }
     {

@@ -13,7 +13,7 @@ use Rattle.swc_ecma_parser_exactness.specs.Walked.{Walked}
 use Rattle.swc_ecma_parser_state.specs.Contents.{Contents, seen, source_of}
 use Rattle.swc_ecma_parser.specs.Parsing.{Parsing, parsing}
 
-pub kept_is : (o : Option Contents) (s : Contents) (l : ℕ) (p : Parsing) → o ≡ Some s → parsing o l ≡ p → record { state = seen s; source = source_of s; limit = l } ≡ p
+pub kept_is : (o : Option Contents) (s : Contents) (l : ℕ) (p : Parsing) → o ≡ Some s → parsing o l ≡ p → record { state = seen s; source = source_of s; kept = s.buffer.kept; limit = l } ≡ p
 kept_is o s l p e h = ap (λ z. parsing z l) (sym e) ∙ h
 
 -- where an answer leaves nothing marked

@@ -1,9 +1,10 @@
 //! A parser of source text.
 
-ghost use Rattle.std.specs.Prelude.{◌≡◌, false, true, drop, length};
+ghost use Rattle.std.specs.Prelude.{◌≡◌, [], ◌++◌, if◌then◌else◌, false, true, drop, length};
 ghost use Rattle.std.specs.Str.{chars};
 ghost use Rattle.swc_ecma_parser_span_order.specs.Forward.{in_order};
 ghost use Rattle.swc_ecma_parser_input.specs.Place as place;
+ghost use Rattle.swc_ecma_parser_lexer.specs.Collected.{comments as text_comments};
 ghost use Rattle.swc_ecma_parser_lexer.specs.Source as source;
 ghost use Rattle.swc_ecma_parser.specs.Plain.{TextsArePlain, TreesOfTextsArePlain};
 ghost use Rattle.swc_ecma_parser_state.specs.Contents.{source_of};
@@ -35,6 +36,11 @@ impl<'a> Parser<Lexer<'a>> {
             → place.lacks_memory (place.second result.state.at.left) ≡ false → in_order result.state.at ≡ true }
         ensures len { length result.state.at.left
             ≡ length (source.outset syntax input.entry.start (chars input.entry.src.now)).left }
+
+        // Of the text's comments none is missed, and none comes twice, or `take_comments` tells the loss.
+        ensures comments { result.kept.is_lossy ≡ false → result.kept.comments ++ result.kept.coming
+            ≡ (if comments then text_comments input.entry.start.0 0 (chars input.entry.src.now)
+            else []) }
     {
         Parser::new_from(alloc, Lexer::new(alloc, syntax, input, comments))
     }

@@ -1,12 +1,13 @@
 //! The parser: a state over a source of tokens, with its entries.
 
-ghost use Rattle.std.specs.Prelude.{◌≡◌, ◌≢◌, ℕ, ◌+◌, ◌*◌, ◌≤◌, ◌||◌, true, false, [], ◌∷◌, length, drop, IfOk, IfErr, OnErr, IsErrAnd, IsOk};
+ghost use Rattle.std.specs.Prelude.{◌≡◌, ◌≢◌, ℕ, ◌+◌, ◌*◌, ◌≤◌, ◌<◌, ◌||◌, true, false, [], ◌∷◌, length, drop, IfOk, IfErr, OnErr, MatchResult, IsErrAnd, IsOk};
 ghost use Rattle.swc_ecma_parser_ast.specs.View.{view_module, view_module_item, view_program, view_script, view_stmt};
 ghost use Rattle.swc_ecma_parser_error.specs.Kind as kinds;
 ghost use Rattle.swc_ecma_parser_error.specs.Kind.{fault_of, faults_of, kind_of, IsOutOfMemory};
 ghost use Rattle.swc_ecma_parser_error.specs.declared.error.Error.{Error};
 ghost use Rattle.swc_ecma_parser_span_order.specs.Follows.{ItemInOrder, ItemsInOrder};
 ghost use Rattle.swc_ecma_parser_span_order.specs.Forward.{in_order, AnswersForward};
+ghost use Rattle.swc_ecma_parser_input.specs.Kept.{IsReadOn, copies_and_left, handed_out};
 ghost use Rattle.swc_ecma_parser_input.specs.Place as place;
 ghost use Rattle.swc_ecma_parser_input.specs.Setting.{setting_of};
 ghost use Rattle.swc_ecma_parser_module_reader.specs.Entry.{IsEntered, SoundModule};
@@ -28,6 +29,7 @@ ghost use Rattle.swc_ecma_parser_state.specs.Keeps.{Keeps};
 ghost use Rattle.swc_ecma_parser_state.specs.Opened.{fresh, opened};
 ghost use Rattle.swc_ecma_parser_token.specs.declared.token.Token.TheVariants as token;
 ghost use Rattle.swc_ecma_parser_token.specs.declared.token.TokenAndSpan.{TokenAndSpan};
+ghost use Rattle.swc_ecma_parser.specs.Parsing.{KeepsOn};
 ghost use Rattle.swc_ecma_parser.specs.Reading.{IsReading};
 ghost use Rattle.swc_ecma_parser_entries.specs.Refusals.{Refuses};
 
@@ -61,10 +63,11 @@ impl<I: Tokens> Model for Parser<I> {
     ghost Value = { Parsing };
 
     ghost use Rattle.std.specs.Coded.{codes};
+    ghost use Rattle.swc_ecma_parser_common.specs.contracts.comment.Comment as comment;
     ghost use Rattle.swc_ecma_parser_error.specs.contracts.error.Error as error;
     ghost use Rattle.swc_ecma_parser_token.specs.contracts.token.TokenAndSpan as token;
 
-    ghost coded = { Prim.hlevel (codes, error.the_row.coded, token.the_row.coded) };
+    ghost coded = { Prim.hlevel (codes, comment.the_row.coded, error.the_row.coded, token.the_row.coded) };
 
     ghost view = { λ p. parsing p.state p.limit };
 
@@ -87,6 +90,10 @@ impl<I: Tokens> Parser<I> {
         ensures in_order { place.lacks_memory (place.first result.state.at.left) ≡ false
             → place.lacks_memory (place.second result.state.at.left) ≡ false → in_order result.state.at ≡ true }
         ensures len { length result.state.at.left ≡ length (I.seen input).left }
+        ensures comments { IsReadOn (I.kept input) result.kept }
+        ensures copies { lacks_ahead result.state.at ≡ false
+            → copies_and_left (I.kept input).copies (I.seen input).left
+            ≡ copies_and_left result.kept.copies result.source.left }
     {
         Parser::new_from_limited(alloc, input, DEFAULT_LIMIT)
     }
@@ -106,6 +113,10 @@ impl<I: Tokens> Parser<I> {
         ensures in_order { place.lacks_memory (place.first result.state.at.left) ≡ false
             → place.lacks_memory (place.second result.state.at.left) ≡ false → in_order result.state.at ≡ true }
         ensures len { length result.state.at.left ≡ length (I.seen input).left }
+        ensures comments { IsReadOn (I.kept input) result.kept }
+        ensures copies { lacks_ahead result.state.at ≡ false
+            → copies_and_left (I.kept input).copies (I.seen input).left
+            ≡ copies_and_left result.kept.copies result.source.left }
     {
         Parser {
             alloc,
@@ -187,6 +198,9 @@ impl<I: Tokens> Parser<I> {
         // Of the source, with each fault whole: where it starts and its syntax are as before; what was recorded stands before what
         // the call recorded; what was held back is recorded or stays held back.
         ensures keeps { Keeps self.old.source self.new.source }
+
+        // No comment is missed, and none comes twice, or the loss is told; each token that was drawn is copied, where copies are kept.
+        ensures kept { KeepsOn self.old self.new }
 
         // So tokens in order stay in order.
         ensures order { in_order self.old.state.at ≡ true → in_order self.new.state.at ≡ true }
@@ -278,6 +292,9 @@ impl<I: Tokens> Parser<I> {
         // Of the source, with each fault whole: where it starts and its syntax are as before; what was recorded stands before what
         // the call recorded; what was held back is recorded or stays held back.
         ensures keeps { Keeps self.old.source self.new.source }
+
+        // No comment is missed, and none comes twice, or the loss is told; each token that was drawn is copied, where copies are kept.
+        ensures kept { KeepsOn self.old self.new }
 
         // So tokens in order stay in order.
         ensures order { in_order self.old.state.at ≡ true → in_order self.new.state.at ≡ true }
@@ -373,6 +390,9 @@ impl<I: Tokens> Parser<I> {
         // Of the source, with each fault whole: where it starts and its syntax are as before; what was recorded stands before what
         // the call recorded; what was held back is recorded or stays held back.
         ensures keeps { Keeps self.old.source self.new.source }
+
+        // No comment is missed, and none comes twice, or the loss is told; each token that was drawn is copied, where copies are kept.
+        ensures kept { KeepsOn self.old self.new }
 
         // So tokens in order stay in order.
         ensures order { in_order self.old.state.at ≡ true → in_order self.new.state.at ≡ true }
@@ -471,6 +491,9 @@ impl<I: Tokens> Parser<I> {
         // the call recorded; what was held back is recorded or stays held back.
         ensures keeps { Keeps self.old.source self.new.source }
 
+        // No comment is missed, and none comes twice, or the loss is told; each token that was drawn is copied, where copies are kept.
+        ensures kept { KeepsOn self.old self.new }
+
         // So tokens in order stay in order.
         ensures order { in_order self.old.state.at ≡ true → in_order self.new.state.at ≡ true }
 
@@ -562,6 +585,9 @@ impl<I: Tokens> Parser<I> {
         // Of the source, with each fault whole: where it starts and its syntax are as before; what was recorded stands before what
         // the call recorded; what was held back is recorded or stays held back.
         ensures keeps { Keeps self.old.source self.new.source }
+
+        // No comment is missed, and none comes twice, or the loss is told; each token that was drawn is copied, where copies are kept.
+        ensures kept { KeepsOn self.old self.new }
 
         // So tokens in order stay in order.
         ensures order { in_order self.old.state.at ≡ true → in_order self.new.state.at ≡ true }
@@ -658,6 +684,9 @@ impl<I: Tokens> Parser<I> {
         // the call recorded; what was held back is recorded or stays held back.
         ensures keeps { Keeps self.old.source self.new.source }
 
+        // No comment is missed, and none comes twice, or the loss is told; each token that was drawn is copied, where copies are kept.
+        ensures kept { KeepsOn self.old self.new }
+
         // So tokens in order stay in order.
         ensures order { in_order self.old.state.at ≡ true → in_order self.new.state.at ≡ true }
 
@@ -737,6 +766,7 @@ impl<I: Tokens> Parser<I> {
         ensures context { (I.seen result).context ≡ self.state.code.flags }
         ensures faults { faults_of (I.seen result).recorded ≡ self.state.faults }
         ensures held_back { held_of (I.seen result).held_back ≡ self.state.notes.held_back }
+        ensures kept { I.kept result ≡ self.kept }
     {
         let Parser {
             alloc: _,
@@ -748,10 +778,15 @@ impl<I: Tokens> Parser<I> {
 }
 
 impl<I: CommentSource> Parser<I> {
-    /// Hands out the comments read since the last such call, in order: those up to the tokens read ahead. Where one of them
-    /// found no memory the answer is a fault of kind `OutOfMemory`, and none is left all the same. It takes no memory.
+    /// Hands out the comments read since the last such call, in order: those up to the tokens read ahead, so all that are left of
+    /// the text where fewer than two tokens are. Where one of them found no memory the answer is a fault of kind `OutOfMemory`,
+    /// and none is left all the same. It takes no memory.
     pub fn take_comments(&mut self) -> PResult<Vec<Comment>>
-        ensures parser { self.new ≡ self.old }
+        ensures parser { self.new ≡ record self.old { kept = handed_out self.old.kept } }
+        ensures comments { IfOk result (λ found. found.items ≡ self.old.kept.comments) }
+        ensures told { MatchResult result (λ _. self.old.kept.is_lossy ≡ false)
+            (λ _. self.old.kept.is_lossy ≡ true) }
+        ensures ended { length self.old.state.at.left < 2 → self.old.kept.coming ≡ [] }
         ensures err { IfErr result IsOutOfMemory }
     {
         let mut state = self.state.take().unwrap();

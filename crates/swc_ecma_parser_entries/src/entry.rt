@@ -15,8 +15,9 @@ ghost use Rattle.swc_ecma_parser_reader.specs.State as reader;
 ghost use Rattle.swc_ecma_parser_reader.specs.State.{GivesAs};
 ghost use Rattle.swc_ecma_parser_reader.specs.Entry.{unmarked, statement_entry, AnswersScript, AnswersStatement, IsRestored, IsSetBack};
 ghost use Rattle.swc_ecma_parser_reader.specs.declared.mark.Mark.TheVariants as mark;
+ghost use Rattle.swc_ecma_parser_input.specs.Kept.{IsReadOn};
 ghost use Rattle.swc_ecma_parser_state.specs.Contents.{seen, source_of};
-ghost use Rattle.swc_ecma_parser_state.specs.Keeps.{Keeps};
+ghost use Rattle.swc_ecma_parser_state.specs.Keeps.{Keeps, KeepsCopies};
 ghost use Rattle.swc_ecma_parser_state.specs.Opened.{begun};
 
 use crate::program::program_body;
@@ -53,6 +54,8 @@ fn refused<O: Origin, I: Tokens>(
     ensures noted { result.0.found_module_item ≡ found_module_item }
     ensures leaves { Leaves (seen O.start) (seen result.0) }
     ensures keeps { Keeps (source_of O.start) (source_of result.0) }
+    ensures comments { IsReadOn O.start.buffer.kept result.0.buffer.kept }
+    ensures copies { KeepsCopies O.start.buffer result.0.buffer result.0.mark }
     ensures says { Says result.0.mark (kind_of result.1.kind) }
     ensures memory { call.scope.mark ≡ Some mark.OutOfMemory → kind_of result.1.kind ≡ OutOfMemory }
 {
@@ -72,6 +75,8 @@ fn ended<O: Origin, I: Tokens, X>(
     ensures ends { Ends read call outer found_module_item (seen result.0) result.1 }
     ensures leaves { Leaves (seen O.start) (seen result.0) }
     ensures keeps { Keeps (source_of O.start) (source_of result.0) }
+    ensures comments { IsReadOn O.start.buffer.kept result.0.buffer.kept }
+    ensures copies { KeepsCopies O.start.buffer result.0.buffer result.0.mark }
     ensures says { IfErr result.1 (λ e. Says result.0.mark (kind_of e.kind)) }
 {
     match read {
@@ -125,6 +130,8 @@ fn script_from<O: Origin, I: Tokens, T: BuildsStatements + BuildsScript>(
     ensures refused { OnErr result.1 (IsRestored (seen state) (seen result.0)) }
     ensures leaves { Leaves (seen O.start) (seen result.0) }
     ensures keeps { Keeps (source_of O.start) (source_of result.0) }
+    ensures comments { IsReadOn O.start.buffer.kept result.0.buffer.kept }
+    ensures copies { KeepsCopies O.start.buffer result.0.buffer result.0.mark }
     ensures says { IfErr result.1 (λ e. Says result.0.mark (kind_of e.kind)) }
     ensures ahead { lacks_ahead state.buffer.place ≡ true
         → IsErrAnd result.1 (λ e. kind_of e.kind ≡ OutOfMemory) }
@@ -150,6 +157,8 @@ pub fn script<I: Tokens, T: BuildsStatements + BuildsScript>(
     ensures refused { OnErr result.1 (IsRestored (seen state) (seen result.0)) }
     ensures leaves { Leaves (seen state) (seen result.0) }
     ensures keeps { Keeps (source_of state) (source_of result.0) }
+    ensures comments { IsReadOn state.buffer.kept result.0.buffer.kept }
+    ensures copies { KeepsCopies state.buffer result.0.buffer result.0.mark }
     ensures says { IfErr result.1 (λ e. Says result.0.mark (kind_of e.kind)) }
     ensures ahead { lacks_ahead state.buffer.place ≡ true
         → IsErrAnd result.1 (λ e. kind_of e.kind ≡ OutOfMemory) }
@@ -197,6 +206,8 @@ fn module_from<O: Origin, I: Tokens, T: BuildsStatements + BuildsExport + Builds
     ensures refused { OnErr result.1 (IsRestored (seen state) (seen result.0)) }
     ensures leaves { Leaves (seen O.start) (seen result.0) }
     ensures keeps { Keeps (source_of O.start) (source_of result.0) }
+    ensures comments { IsReadOn O.start.buffer.kept result.0.buffer.kept }
+    ensures copies { KeepsCopies O.start.buffer result.0.buffer result.0.mark }
     ensures says { IfErr result.1 (λ e. Says result.0.mark (kind_of e.kind)) }
     ensures ahead { lacks_ahead state.buffer.place ≡ true
         → IsErrAnd result.1 (λ e. kind_of e.kind ≡ OutOfMemory) }
@@ -222,6 +233,8 @@ pub fn module<I: Tokens, T: BuildsStatements + BuildsExport + BuildsVarDecl>(
     ensures refused { OnErr result.1 (IsRestored (seen state) (seen result.0)) }
     ensures leaves { Leaves (seen state) (seen result.0) }
     ensures keeps { Keeps (source_of state) (source_of result.0) }
+    ensures comments { IsReadOn state.buffer.kept result.0.buffer.kept }
+    ensures copies { KeepsCopies state.buffer result.0.buffer result.0.mark }
     ensures says { IfErr result.1 (λ e. Says result.0.mark (kind_of e.kind)) }
     ensures ahead { lacks_ahead state.buffer.place ≡ true
         → IsErrAnd result.1 (λ e. kind_of e.kind ≡ OutOfMemory) }
@@ -269,6 +282,8 @@ fn program_from<O: Origin, I: Tokens, T: BuildsStatements + BuildsExport + Build
     ensures refused { OnErr result.1 (IsRestored (seen state) (seen result.0)) }
     ensures leaves { Leaves (seen O.start) (seen result.0) }
     ensures keeps { Keeps (source_of O.start) (source_of result.0) }
+    ensures comments { IsReadOn O.start.buffer.kept result.0.buffer.kept }
+    ensures copies { KeepsCopies O.start.buffer result.0.buffer result.0.mark }
     ensures says { IfErr result.1 (λ e. Says result.0.mark (kind_of e.kind)) }
     ensures ahead { lacks_ahead state.buffer.place ≡ true
         → IsErrAnd result.1 (λ e. kind_of e.kind ≡ OutOfMemory) }
@@ -294,6 +309,8 @@ pub fn program<I: Tokens, T: BuildsStatements + BuildsExport + BuildsVarDecl>(
     ensures refused { OnErr result.1 (IsRestored (seen state) (seen result.0)) }
     ensures leaves { Leaves (seen state) (seen result.0) }
     ensures keeps { Keeps (source_of state) (source_of result.0) }
+    ensures comments { IsReadOn state.buffer.kept result.0.buffer.kept }
+    ensures copies { KeepsCopies state.buffer result.0.buffer result.0.mark }
     ensures says { IfErr result.1 (λ e. Says result.0.mark (kind_of e.kind)) }
     ensures ahead { lacks_ahead state.buffer.place ≡ true
         → IsErrAnd result.1 (λ e. kind_of e.kind ≡ OutOfMemory) }
@@ -379,6 +396,8 @@ fn item_from<O: Origin, I: Tokens, T: BuildsStatements + BuildsExport + BuildsVa
     ensures refused { OnErr result.1 (IsRestored (seen state) (seen result.0)) }
     ensures leaves { Leaves (seen O.start) (seen result.0) }
     ensures keeps { Keeps (source_of O.start) (source_of result.0) }
+    ensures comments { IsReadOn O.start.buffer.kept result.0.buffer.kept }
+    ensures copies { KeepsCopies O.start.buffer result.0.buffer result.0.mark }
     ensures says { IfErr result.1 (λ e. Says result.0.mark (kind_of e.kind)) }
     ensures ahead { lacks_ahead state.buffer.place ≡ true
         → IsErrAnd result.1 (λ e. kind_of e.kind ≡ OutOfMemory) }
@@ -405,6 +424,8 @@ pub fn item<I: Tokens, T: BuildsStatements + BuildsExport + BuildsVarDecl>(
     ensures refused { OnErr result.1 (IsRestored (seen state) (seen result.0)) }
     ensures leaves { Leaves (seen state) (seen result.0) }
     ensures keeps { Keeps (source_of state) (source_of result.0) }
+    ensures comments { IsReadOn state.buffer.kept result.0.buffer.kept }
+    ensures copies { KeepsCopies state.buffer result.0.buffer result.0.mark }
     ensures says { IfErr result.1 (λ e. Says result.0.mark (kind_of e.kind)) }
     ensures ahead { lacks_ahead state.buffer.place ≡ true
         → IsErrAnd result.1 (λ e. kind_of e.kind ≡ OutOfMemory) }
@@ -459,6 +480,8 @@ fn statement_from<O: Origin, I: Tokens, T: BuildsStatements>(
     ensures refused { OnErr result.1 (IsRestored (seen state) (seen result.0)) }
     ensures leaves { Leaves (seen O.start) (seen result.0) }
     ensures keeps { Keeps (source_of O.start) (source_of result.0) }
+    ensures comments { IsReadOn O.start.buffer.kept result.0.buffer.kept }
+    ensures copies { KeepsCopies O.start.buffer result.0.buffer result.0.mark }
     ensures says { IfErr result.1 (λ e. Says result.0.mark (kind_of e.kind)) }
     ensures ahead { lacks_ahead state.buffer.place ≡ true
         → IsErrAnd result.1 (λ e. kind_of e.kind ≡ OutOfMemory) }
@@ -487,6 +510,8 @@ pub fn statement<I: Tokens, T: BuildsStatements>(
     ensures refused { OnErr result.1 (IsRestored (seen state) (seen result.0)) }
     ensures leaves { Leaves (seen state) (seen result.0) }
     ensures keeps { Keeps (source_of state) (source_of result.0) }
+    ensures comments { IsReadOn state.buffer.kept result.0.buffer.kept }
+    ensures copies { KeepsCopies state.buffer result.0.buffer result.0.mark }
     ensures says { IfErr result.1 (λ e. Says result.0.mark (kind_of e.kind)) }
     ensures ahead { lacks_ahead state.buffer.place ≡ true
         → IsErrAnd result.1 (λ e. kind_of e.kind ≡ OutOfMemory) }

@@ -1,3 +1,4 @@
+pub mod Kept
 pub mod Bumped
 mod Opened
 pub mod Ordered

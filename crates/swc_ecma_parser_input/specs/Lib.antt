@@ -4,6 +4,7 @@ pub mod Place
 pub mod Buffered
 pub mod Faults
 pub mod Ringed
+pub mod Kept
 pub mod View
 pub mod Captured
 pub mod Drawn

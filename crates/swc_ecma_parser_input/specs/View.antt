@@ -2,6 +2,7 @@
 use Rattle.std.specs.Prelude.{◌≡◌, ◌<◌, ◌≤◌, Bool, true, List, [], ◌++◌, length}
 use Rattle.swc_ecma_parser_token.specs.declared.token.TokenAndSpan.{TokenAndSpan}
 use Rattle.swc_ecma_parser_input.specs.declared.buffer.Buffer.TheInside.{Inside}
+use Rattle.swc_ecma_parser_input.specs.Kept.{Kept}
 use Rattle.swc_ecma_parser_input.specs.TokenSource.{TokenSource}
 use Rattle.swc_ecma_parser_input.specs.Buffered.{Buffered, placed}
 
@@ -11,8 +12,9 @@ pub record IsFull (ring : List TokenAndSpan) (has_ended : Bool) (left : List Tok
   pub ends : length ring < 2 → has_ended ≡ true
   pub ended : has_ended ≡ true → left ≡ []
 
-abbrev pub view_of : {I : Type 0} → (I → TokenSource) → Inside I → Buffered
-view_of seen b = placed (record { last = b.last; left = b.ring ++ (seen b.input).left }) (seen b.input)
+abbrev pub view_of : {I : Type 0} → (I → TokenSource) → (I → Kept) → Inside I → Buffered
+view_of seen kept b = placed (record { last = b.last; left = b.ring ++ (seen b.input).left }) (seen b.input) (kept b.input)
 
-abbrev pub IsFilled : {I : Type 0} → (I → TokenSource) → Inside I → Type 0
-IsFilled seen b = IsFull b.ring b.has_ended (seen b.input).left
+-- and no comment is to come then
+abbrev pub IsFilled : {I : Type 0} → (I → TokenSource) → (I → Kept) → Inside I → Type 0
+IsFilled seen kept b = IsFull b.ring b.has_ended (seen b.input).left × (b.has_ended ≡ true → (kept b.input).coming ≡ [])

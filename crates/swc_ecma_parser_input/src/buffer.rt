@@ -1,9 +1,10 @@
 //! A source of tokens with two of them read ahead.
 
-ghost use Rattle.std.specs.Prelude.{◌≡◌, [], length, true, false, is_none, option_copied, IfOk, IfErr, OnOk};
+ghost use Rattle.std.specs.Prelude.{◌≡◌, ◌<◌, [], length, true, false, is_none, option_copied, IfOk, IfErr, OnOk, MatchResult};
 ghost use Rattle.swc_ecma_parser_error.specs.Kind.{IsOutOfMemory};
 ghost use Rattle.swc_ecma_parser_input.specs.Buffered as buffered;
 ghost use Rattle.swc_ecma_parser_input.specs.Drawn as behind;
+ghost use Rattle.swc_ecma_parser_input.specs.Kept.{IsReadOn, copies_and_left, handed_out};
 ghost use Rattle.swc_ecma_parser_input.specs.Place as place;
 ghost use Rattle.swc_ecma_parser_input.specs.Place.{first, second};
 ghost use Rattle.swc_ecma_parser_input.specs.TokenSource as source;
@@ -19,7 +20,7 @@ use swc_ecma_parser_error::{Error, PResult};
 use swc_ecma_parser_token::TokenAndSpan;
 
 /// A source of tokens with two of them read ahead: the current one and the one behind it. Contracts see the place that
-/// the source has come to, with all the tokens left, and what the source keeps.
+/// the source has come to, with all the tokens left, its faults, and what else it keeps.
 #[derive(Drop)]
 pub struct Buffer<I: Tokens> {
     input: I,
@@ -35,16 +36,17 @@ impl<I: Tokens> Model for Buffer<I> {
     ghost Value = { Buffered };
 
     ghost use Rattle.std.specs.Coded.{codes};
+    ghost use Rattle.swc_ecma_parser_common.specs.contracts.comment.Comment as comment;
     ghost use Rattle.swc_ecma_parser_error.specs.contracts.error.Error as error;
     ghost use Rattle.swc_ecma_parser_token.specs.contracts.token.TokenAndSpan as token;
 
-    ghost coded = { Prim.hlevel (codes, error.the_row.coded, token.the_row.coded) };
+    ghost coded = { Prim.hlevel (codes, comment.the_row.coded, error.the_row.coded, token.the_row.coded) };
 
     ghost use Rattle.swc_ecma_parser_input.specs.View.{view_of, IsFilled};
 
-    ghost view = { view_of I.seen };
+    ghost view = { view_of I.seen I.kept };
 
-    ghost invariant = { IsFilled I.seen };
+    ghost invariant = { IsFilled I.seen I.kept };
 }
 
 impl<I: Tokens> Buffer<I> {
@@ -53,11 +55,15 @@ impl<I: Tokens> Buffer<I> {
     pub fn new(input: I) -> Buffer<I>
         ensures kept { result
             ≡ record (buffered.opened (I.seen input))
-            { place = place.outset (I.seen input).start result.place.left } }
+            { place = place.outset (I.seen input).start result.place.left; kept = result.kept } }
         ensures left { place.lacks_memory (first result.place.left) ≡ false
             → place.lacks_memory (second result.place.left) ≡ false → result
-            ≡ buffered.opened (I.seen input) }
+            ≡ record (buffered.opened (I.seen input)) { kept = result.kept } }
         ensures len { length result.place.left ≡ length (I.seen input).left }
+        ensures comments { IsReadOn (I.kept input) result.kept }
+        ensures copies { place.lacks_memory (first result.place.left) ≡ false
+            → place.lacks_memory (second result.place.left) ≡ false
+            → copies_and_left (I.kept input).copies (I.seen input).left ≡ buffered.copied_by result }
     {
         let mut input = input;
         let start = input.start_pos();
@@ -101,13 +107,16 @@ impl<I: Tokens> Buffer<I> {
     pub fn bump(&mut self) -> Option<TokenAndSpan>
         ensures token { result ≡ first self.old.place.left }
         ensures place { place.lacks_memory (second self.new.place.left) ≡ false → self.new
-            ≡ record self.old { place = place.after self.old.place } }
+            ≡ record self.old { place = place.after self.old.place; kept = self.new.kept } }
         ensures kept { self.new
             ≡ record self.old
-            { place = record (place.after self.old.place) { left = self.new.place.left } } }
+            { place = record (place.after self.old.place) { left = self.new.place.left }; kept = self.new.kept } }
         ensures cur { first self.new.place.left ≡ second self.old.place.left }
         ensures len { length self.new.place.left ≡ length (place.after self.old.place).left }
         ensures drawn { behind.Drawn (place.after self.old.place).left self.new.place.left }
+        ensures comments { IsReadOn self.old.kept self.new.kept }
+        ensures copies { place.lacks_memory (second self.new.place.left) ≡ false
+            → buffered.copied_by self.old ≡ buffered.copied_by self.new }
     {
         let drawn = draw(&mut self.input, &mut self.has_ended);
         let taken = self.ring.turn(drawn);
@@ -201,7 +210,8 @@ impl<I: Tokens> Buffer<I> {
 
     /// The source. The two tokens that were read ahead are lost.
     pub fn into_input(self) -> I
-        ensures { I.seen result ≡ buffered.behind self }
+        ensures source { I.seen result ≡ buffered.behind self }
+        ensures kept { I.kept result ≡ self.kept }
     {
         let Buffer {
             input,
@@ -215,9 +225,15 @@ impl<I: Tokens> Buffer<I> {
 
 impl<I: CommentSource> Buffer<I> {
     /// Hands out the comments that the source has kept, those before the two tokens read ahead among them. It takes no
-    /// memory; the fault of kind `OutOfMemory` says that one of them found none.
+    /// memory; the fault of kind `OutOfMemory` says that one of them found none. Where fewer than two tokens are left, no
+    /// comment is to come.
+    #[tactic(auto, using(crate::proofs::Kept::none_coming))]
     pub fn take_comments(&mut self) -> PResult<Vec<Comment>>
-        ensures buffer { self.new ≡ self.old }
+        ensures buffer { self.new ≡ record self.old { kept = handed_out self.old.kept } }
+        ensures comments { IfOk result (λ found. found.items ≡ self.old.kept.comments) }
+        ensures told { MatchResult result (λ _. self.old.kept.is_lossy ≡ false)
+            (λ _. self.old.kept.is_lossy ≡ true) }
+        ensures ended { length self.old.place.left < 2 → self.old.kept.coming ≡ [] }
         ensures err { IfErr result IsOutOfMemory }
     {
         self.input.take_comments()
@@ -235,10 +251,17 @@ fn lacks_memory(token: &Option<TokenAndSpan>) -> bool
 }
 
 /// The next token of a source that has not ended. One that has is left as it is, and not asked again.
+#[tactic(auto, using(crate::proofs::Kept::read_on_self, crate::proofs::Kept::none_to_come))]
 fn draw<I: Tokens>(input: &mut I, has_ended: &mut bool) -> Option<TokenAndSpan>
-    requires { has_ended.old ≡ true → (I.seen input.old).left ≡ [] }
+    requires none_left { has_ended.old ≡ true → (I.seen input.old).left ≡ [] }
+    requires none_coming { has_ended.old ≡ true → (I.kept input.old).coming ≡ [] }
     ensures draws { source.Draws (I.seen input.old) result (I.seen input.new) }
     ensures told { has_ended.new ≡ is_none result }
+    ensures comments { IsReadOn (I.kept input.old) (I.kept input.new) }
+    ensures ended { has_ended.new ≡ true → (I.kept input.new).coming ≡ [] }
+    ensures copies { place.lacks_memory result ≡ false
+        → copies_and_left (I.kept input.old).copies (I.seen input.old).left
+        ≡ copies_and_left (I.kept input.new).copies (I.seen input.new).left }
     ensures none { has_ended.old ≡ true → result ≡ None }
     ensures once { has_ended.old ≡ true → input.new ≡ input.old }
 {

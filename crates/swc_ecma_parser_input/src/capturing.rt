@@ -1,7 +1,9 @@
 //! A source of tokens that keeps copies of what it hands out.
 
-ghost use Rattle.std.specs.Prelude.{◌≡◌, [], ◌∷◌, ◌++◌, true, false, IfOk, IfErr, OnOk, OnErr, MatchResult};
+ghost use Rattle.std.specs.Prelude.{◌≡◌, [], ◌∷◌, ◌++◌, true, false, Some, IfNone, IfOk, IfErr, OnOk, OnErr, MatchResult};
 ghost use Rattle.swc_ecma_parser_error.specs.Kind.{IsOutOfMemory};
+ghost use Rattle.swc_ecma_parser_input.specs.Kept.{IsReadOn, copies_and_left, handed_out};
+ghost use Rattle.swc_ecma_parser_input.specs.Place.{lacks_memory};
 ghost use Rattle.swc_ecma_parser_input.specs.TokenSource as source;
 ghost use Rattle.swc_ecma_parser_input.specs.Captured as captured;
 
@@ -77,9 +79,18 @@ impl<I: Tokens> Capturing<I> {
 impl<I: Tokens> Tokens for Capturing<I> {
     ghost seen = { λ c. I.seen c.input };
 
+    ghost kept = { captured.kept_by I.kept };
+
+    #[tactic(auto, using(crate::proofs::Kept::captured_on, crate::proofs::Kept::copies_none, crate::proofs::Kept::copies_one))]
     fn next(&mut self) -> Option<TokenAndSpan>
         ensures draws { source.Draws (I.seen self.old.input) result (I.seen self.new.input) }
+        ensures comments { IsReadOn (captured.kept_by I.kept self.old)
+            (captured.kept_by I.kept self.new) }
+        ensures ended { IfNone result ((I.kept self.new.input).coming ≡ []) }
         ensures copies { captured.Keeps self.old.copies result self.new.copies }
+        ensures all { lacks_memory result ≡ false
+            → copies_and_left (Some self.old.copies) (I.seen self.old.input).left
+            ≡ copies_and_left (Some self.new.copies) (I.seen self.new.input).left }
     {
         let token = self.input.next()?;
         match self.keep(&token) {
@@ -92,10 +103,12 @@ impl<I: Tokens> Tokens for Capturing<I> {
         }
     }
 
+    #[tactic(auto, using(crate::proofs::Kept::captured_same))]
     fn set_ctx(&mut self, context: Context)
         ensures source { I.seen self.new.input
             ≡ source.with_context context (I.seen self.old.input) }
         ensures copies { self.new.copies ≡ self.old.copies }
+        ensures kept { captured.kept_by I.kept self.new ≡ captured.kept_by I.kept self.old }
     {
         self.input.set_ctx(context);
     }
@@ -112,6 +125,7 @@ impl<I: Tokens> Tokens for Capturing<I> {
         self.input.start_pos()
     }
 
+    #[tactic(auto, using(crate::proofs::Kept::captured_same))]
     fn add_error(&mut self, error: Error) -> PResult<()>
         ensures ok { OnOk result
             (I.seen self.new.input ≡ source.recording error (I.seen self.old.input)) }
@@ -119,10 +133,12 @@ impl<I: Tokens> Tokens for Capturing<I> {
             (λ e. IsOutOfMemory e × (I.seen self.new.input ≡ I.seen self.old.input)) }
         ensures place { IfErr result (λ e. e.span ≡ source.at_start (I.seen self.old.input)) }
         ensures copies { self.new.copies ≡ self.old.copies }
+        ensures kept { captured.kept_by I.kept self.new ≡ captured.kept_by I.kept self.old }
     {
         self.input.add_error(error)
     }
 
+    #[tactic(auto, using(crate::proofs::Kept::captured_same))]
     fn add_module_mode_error(&mut self, error: Error) -> PResult<()>
         ensures ok { OnOk result
             (I.seen self.new.input ≡ source.holding_back error (I.seen self.old.input)) }
@@ -130,21 +146,27 @@ impl<I: Tokens> Tokens for Capturing<I> {
             (λ e. IsOutOfMemory e × (I.seen self.new.input ≡ I.seen self.old.input)) }
         ensures place { IfErr result (λ e. e.span ≡ source.at_start (I.seen self.old.input)) }
         ensures copies { self.new.copies ≡ self.old.copies }
+        ensures kept { captured.kept_by I.kept self.new ≡ captured.kept_by I.kept self.old }
     {
         self.input.add_module_mode_error(error)
     }
 
+    #[tactic(auto, using(crate::proofs::Kept::captured_same))]
     fn take_errors(&mut self) -> Vec<Error>
         ensures errors { result.items ≡ (I.seen self.old.input).recorded }
         ensures source { I.seen self.new.input ≡ record (I.seen self.old.input) { recorded = [] } }
         ensures copies { self.new.copies ≡ self.old.copies }
+        ensures kept { captured.kept_by I.kept self.new ≡ captured.kept_by I.kept self.old }
     {
         self.input.take_errors()
     }
 
+    #[tactic(auto, using(crate::proofs::Kept::captured_same))]
     fn try_clone(&self) -> PResult<Capturing<I>>
         ensures ok { IfOk result (λ it. I.seen it.input ≡ I.seen self.now.input) }
         ensures copies { IfOk result (λ it. it.copies ≡ self.now.copies) }
+        ensures kept { IfOk result
+            (λ it. captured.kept_by I.kept it ≡ captured.kept_by I.kept self.now) }
         ensures err { IfErr result IsOutOfMemory }
         ensures place { IfErr result (λ e. e.span ≡ source.at_start (I.seen self.now.input)) }
     {
@@ -164,20 +186,15 @@ impl<I: Tokens> Tokens for Capturing<I> {
 }
 
 impl<I: CommentSource> CommentSource for Capturing<I> {
-    ghost comments = { λ c. I.comments c.input };
-
-    ghost is_lossy = { λ c. I.is_lossy c.input };
-
     fn take_comments(&mut self) -> PResult<Vec<Comment>>
         ensures source { I.seen self.new.input ≡ I.seen self.old.input }
         ensures copies { self.new.copies ≡ self.old.copies }
         ensures err { IfErr result IsOutOfMemory }
         ensures place { IfErr result (λ e. e.span ≡ source.at_start (I.seen self.old.input)) }
-        ensures comments { IfOk result (λ found. found.items ≡ I.comments self.old.input) }
-        ensures told { MatchResult result (λ _. I.is_lossy self.old.input ≡ false)
-            (λ _. I.is_lossy self.old.input ≡ true) }
-        ensures none_left { I.comments self.new.input ≡ [] }
-        ensures fresh { I.is_lossy self.new.input ≡ false }
+        ensures comments { IfOk result (λ found. found.items ≡ (I.kept self.old.input).comments) }
+        ensures told { MatchResult result (λ _. (I.kept self.old.input).is_lossy ≡ false)
+            (λ _. (I.kept self.old.input).is_lossy ≡ true) }
+        ensures left { captured.kept_by I.kept self.new ≡ handed_out (captured.kept_by I.kept self.old) }
     {
         self.input.take_comments()
     }

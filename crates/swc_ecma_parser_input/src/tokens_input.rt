@@ -55,6 +55,8 @@ impl TokensInput {
 }
 
 impl Tokens for TokensInput {
+    ghost use Rattle.swc_ecma_parser_input.specs.Kept.{nothing_kept};
+
     ghost seen = { λ s. record {
       left = reverse s.behind.items;
       context = s.context;
@@ -63,6 +65,9 @@ impl Tokens for TokensInput {
       recorded = s.faults.recorded;
       held_back = s.faults.held_back;
     } };
+
+    // A list has no comments, and keeps no copies.
+    ghost kept = { λ s. nothing_kept };
 
     fn next(&mut self) -> Option<TokenAndSpan> {
         self.behind.pop()

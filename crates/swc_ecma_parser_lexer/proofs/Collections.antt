@@ -1,5 +1,5 @@
 -- What the list of comments of a text comes to.
-use Rattle.std.proofs.Common.{◌≡◌, ℕ, ◌+◌, ◌<◌, Bool, true, false, nat_eq, cond, length, List, [], ◌∷◌, ◌++◌, Option, refl, ap, sym, ◌∙◌, arith, append_assoc}
+use Rattle.std.proofs.Common.{◌≡◌, ℕ, ◌+◌, ◌<◌, Bool, true, false, nat_eq, cond, length, List, [], ◌∷◌, ◌++◌, Option, None, refl, ap, sym, ◌∙◌, arith, append_assoc}
 use Rattle.std.specs.Char.{encode_utf8}
 use Rattle.std.specs.Str.{chars, encode_utf8_all}
 use Rattle.std.proofs.lemmas.Bool.{true≢false}
@@ -7,6 +7,7 @@ use Rattle.std.proofs.lemmas.Str.{encode_ascii, encodes-chars}
 use Rattle.swc_ecma_parser_common.specs.declared.comment.Comment.{Comment}
 use Rattle.swc_ecma_parser_common.specs.declared.span.BytePos.{BytePos}
 use Rattle.swc_ecma_parser_common.specs.declared.span.Span.{Span}
+use Rattle.swc_ecma_parser_input.specs.Kept.{Kept, IsReadOn as IsKeptOn, handed_out}
 use Rattle.swc_ecma_parser_scan.specs.declared.piece.Piece.{Piece}
 use Rattle.swc_ecma_parser_scan.specs.declared.state.State.{State}
 use Rattle.swc_ecma_parser_scan.specs.declared.state.State.TheVariants as state
@@ -14,8 +15,8 @@ use Rattle.swc_ecma_parser_scan.specs.Scan.{Munched, scan, IsFirstPiece}
 use Rattle.swc_ecma_parser_scan.specs.Splits.{scan-splits}
 use Rattle.swc_ecma_parser_lexer.specs.declared.comment.CommentList.{CommentList}
 use Rattle.swc_ecma_parser_lexer.specs.declared.place.Place.{Place}
-use Rattle.swc_ecma_parser_lexer.specs.Collected.{piece_comments, comments_behind, comments, comments_at, IsReadOn}
-use Rattle.swc_ecma_parser_lexer.specs.Comments.{comment_of, gained, IsNoted}
+use Rattle.swc_ecma_parser_lexer.specs.Collected.{piece_comments, comments_behind, comments, comments_at, kept_of, IsReadOn}
+use Rattle.swc_ecma_parser_lexer.specs.Comments.{comment_of, gained, IsNoted, IsSameList}
 use Rattle.swc_ecma_parser_lexer.specs.Ordered.{length-encodes}
 use Rattle.swc_ecma_parser_lexer.specs.Tokens.{is_skipped, span_at, IsPast, IsToken}
 
@@ -134,3 +135,41 @@ reads-token old new first p q piece r h k =
 pub no-comments-left : (p : Place) → chars p.rest.now ≡ [] → comments_at p ≡ []
 unfolding comments_behind
 no-comments-left p e = ap (λ cs. comments p.start.0 p.at cs) e
+
+-- What a lexer keeps.
+
+pub keeps_on : (old new : CommentList) (p q : Place) → IsReadOn old p new q → IsKeptOn (kept_of old (comments_at p)) (kept_of new (comments_at q))
+keeps_on old new p q r = record { comments = r.comments; lossy = r.lossy }
+
+-- where another place has the same parts
+pub same_place : (old new : CommentList) (first p q : Place) → IsReadOn old first new p → p.start ≡ q.start → p.at ≡ q.at → p.rest.now ≡ q.rest.now → IsReadOn old first new q
+same_place old new first p q r e f g = reads-blanks old new first p q r (
+    ap (λ (b : BytePos). comments b.0 p.at (chars p.rest.now)) e
+    ∙ ap (λ n. comments q.start.0 n (chars p.rest.now)) f
+    ∙ ap (λ xs. comments q.start.0 q.at (chars xs)) g
+    )
+
+pub none_ahead : (list : CommentList) (ahead : List Comment) → ahead ≡ [] → (kept_of list ahead).coming ≡ []
+none_ahead list ahead e = by_wish list.is_wanted
+  where
+    by_wish : (b : Bool) → cond b ahead [] ≡ []
+    by_wish true = e
+    by_wish false = refl
+
+abbrev keeping : List Comment → Bool → Bool → List Comment → Kept
+keeping items wanted lossy ahead = record { comments = items; coming = cond wanted ahead []; is_lossy = lossy; copies = None }
+
+pub keeps_same : (a b : CommentList) (xs ys : List Comment) → IsSameList a b → xs ≡ ys → kept_of a xs ≡ kept_of b ys
+keeps_same a b xs ys h e =
+    ap (λ z. keeping z a.is_wanted a.is_lossy xs) h.comments
+    ∙ ap (λ z. keeping b.comments.items z a.is_lossy xs) h.wanted
+    ∙ ap (λ z. keeping b.comments.items b.is_wanted z xs) h.lossy
+    ∙ ap (keeping b.comments.items b.is_wanted b.is_lossy) e
+
+pub keeps_rest : (old new : CommentList) (xs ys : List Comment) → new.comments.items ≡ [] → new.is_wanted ≡ old.is_wanted → new.is_lossy ≡ false → ys ≡ xs
+    → kept_of new ys ≡ handed_out (kept_of old xs)
+keeps_rest old new xs ys none wanted fresh e =
+    ap (λ z. keeping z new.is_wanted new.is_lossy ys) none
+    ∙ ap (λ z. keeping [] z new.is_lossy ys) wanted
+    ∙ ap (λ z. keeping [] old.is_wanted z ys) fresh
+    ∙ ap (keeping [] old.is_wanted false) e

@@ -1,8 +1,9 @@
 -- The comments of a text, and those that a lexer has and will get.
-use Rattle.std.specs.Prelude.{◌≡◌, ℕ, zero, suc, ◌+◌, true, false, ◌==◌, cond, length, List, [], ◌∷◌, ◌++◌}
+use Rattle.std.specs.Prelude.{◌≡◌, ℕ, zero, suc, ◌+◌, true, false, ◌==◌, cond, length, List, [], ◌∷◌, ◌++◌, None}
 use Rattle.std.specs.Char.{encode_utf8}
 use Rattle.std.specs.Str.{chars, encode_utf8_all}
 use Rattle.swc_ecma_parser_common.specs.declared.comment.Comment.{Comment}
+use Rattle.swc_ecma_parser_input.specs.Kept.{Kept}
 use Rattle.swc_ecma_parser_scan.specs.declared.state.State.{State}
 use Rattle.swc_ecma_parser_scan.specs.Scan.{scan}
 use Rattle.swc_ecma_parser_lexer.specs.declared.comment.CommentList.{CommentList}
@@ -34,6 +35,15 @@ comments_at p = comments p.start.0 p.at (chars p.rest.now)
 -- those of a list, and those that it gets from a place on
 abbrev pub collected : CommentList → Place → List Comment
 collected list p = list.comments.items ++ cond list.is_wanted (comments_at p) []
+
+-- what a lexer keeps: its comments, and those before what is left, where they are wanted
+abbrev pub kept_of : CommentList → List Comment → Kept
+kept_of list ahead = record {
+  comments = list.comments.items;
+  coming = cond list.is_wanted ahead [];
+  is_lossy = list.is_lossy;
+  copies = None;
+}
 
 -- A list at a place, and the list at a later place: no comment is missed, none comes twice, or a loss is told.
 pub record IsReadOn (old : CommentList) (p : Place) (new : CommentList) (q : Place) : Type 0 where

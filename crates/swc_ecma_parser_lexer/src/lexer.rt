@@ -1,8 +1,10 @@
-ghost use Rattle.std.specs.Prelude.{◌≡◌, ◌+◌, ◌<◌, [], ◌++◌, if◌then◌else◌, length, true, false, IfOk, IfErr, IfNone, OnOk, MatchOption, MatchResult};
+ghost use Rattle.std.specs.Prelude.{◌≡◌, ◌+◌, ◌<◌, [], ◌++◌, if◌then◌else◌, length, true, false, None, IfOk, IfErr, IfNone, OnOk, MatchOption, MatchResult};
 ghost use Rattle.std.specs.Str.{chars};
 ghost use Rattle.swc_ecma_parser_error.specs.Kind.{IsOutOfMemory};
+ghost use Rattle.swc_ecma_parser_input.specs.Kept.{IsReadOn as IsKeptOn, copies_and_left, handed_out};
+ghost use Rattle.swc_ecma_parser_input.specs.Place.{lacks_memory};
 ghost use Rattle.swc_ecma_parser_input.specs.TokenSource as source;
-ghost use Rattle.swc_ecma_parser_lexer.specs.Collected.{collected, comments as text_comments};
+ghost use Rattle.swc_ecma_parser_lexer.specs.Collected.{collected, comments as text_comments, comments_at, kept_of};
 ghost use Rattle.swc_ecma_parser_lexer.specs.Source.{source_of, outset};
 ghost use Rattle.swc_ecma_parser_lexer.specs.Tokens.{Fits};
 
@@ -110,6 +112,7 @@ impl<'a> Lexer<'a> {
 
     /// Hands out the comments read since the last such call, or says that one of them found no memory. No comment is
     /// left either way, and the tokens stay. It takes no memory.
+    #[tactic(auto, using(crate::proofs::Collections::keeps_rest))]
     pub fn take_comments(&mut self) -> PResult<Vec<Comment>>
         ensures comments { MatchResult result
             (λ comments. comments.items ≡ self.old.comments.comments.items) IsOutOfMemory }
@@ -122,6 +125,8 @@ impl<'a> Lexer<'a> {
         ensures wanted { self.new.comments.is_wanted ≡ self.old.comments.is_wanted }
         ensures fresh { self.new.comments.is_lossy ≡ false }
         ensures at { self.new.place ≡ self.old.place }
+        ensures kept { kept_of self.new.comments (comments_at self.new.place)
+            ≡ handed_out (kept_of self.old.comments (comments_at self.old.place)) }
         ensures source { source_of self.new.place self.new.context self.new.syntax self.new.faults
             ≡ source_of self.old.place self.old.context self.old.syntax self.old.faults }
         ensures place { IfErr result
@@ -143,8 +148,11 @@ impl<'a> Tokens for Lexer<'a> {
 
     ghost seen = { λ s. source_of s.place s.context s.syntax s.faults };
 
+    ghost kept = { λ s. kept_of s.comments (comments_at s.place) };
+
     // Beside the token: no comment on the way is missed, and none comes twice, or `take_comments` tells the loss. Behind the
-    // last token none is left in the text.
+    // last token none is left in the text. It keeps no copies.
+    #[tactic(auto, using(crate::proofs::Collections::none_ahead))]
     fn next(&mut self) -> Option<TokenAndSpan>
         ensures drawn { source.Draws
             (source_of self.old.place self.old.context self.old.syntax self.old.faults) result
@@ -152,6 +160,13 @@ impl<'a> Tokens for Lexer<'a> {
         ensures comments { IsReadOn self.old.comments self.old.place self.new.comments
             self.new.place }
         ensures ended { IfNone result (comments_at self.new.place ≡ []) }
+        ensures kept { IsKeptOn (kept_of self.old.comments (comments_at self.old.place))
+            (kept_of self.new.comments (comments_at self.new.place)) }
+        ensures none_coming { IfNone result
+            ((kept_of self.new.comments (comments_at self.new.place)).coming ≡ []) }
+        ensures copies { lacks_memory result ≡ false
+            → copies_and_left None (source_of self.old.place self.old.context self.old.syntax self.old.faults).left
+            ≡ copies_and_left None (source_of self.new.place self.new.context self.new.syntax self.new.faults).left }
         ensures read { MatchOption result (AreAlike self.old.place self.new.place)
             (λ t. IsReadAt self.old.place t self.new.place) }
         ensures start { self.new.place.start ≡ self.old.place.start }
@@ -172,6 +187,9 @@ impl<'a> Tokens for Lexer<'a> {
             ≡ source.with_context context
             (source_of self.old.place self.old.context self.old.syntax self.old.faults) }
         ensures place { self.new.place ≡ self.old.place }
+        ensures comments { self.new.comments ≡ self.old.comments }
+        ensures kept { kept_of self.new.comments (comments_at self.new.place)
+            ≡ kept_of self.old.comments (comments_at self.old.place) }
     {
         if context.module {
             release(&mut self.faults);
@@ -202,6 +220,9 @@ impl<'a> Tokens for Lexer<'a> {
         ensures at_start { IfErr result (λ e. e.span ≡ source.at_start
             (source_of self.old.place self.old.context self.old.syntax self.old.faults)) }
         ensures place { self.new.place ≡ self.old.place }
+        ensures comments { self.new.comments ≡ self.old.comments }
+        ensures kept { kept_of self.new.comments (comments_at self.new.place)
+            ≡ kept_of self.old.comments (comments_at self.old.place) }
     {
         match self.faults.add(error) {
             Ok(()) => Ok(()),
@@ -220,6 +241,9 @@ impl<'a> Tokens for Lexer<'a> {
         ensures at_start { IfErr result (λ e. e.span ≡ source.at_start
             (source_of self.old.place self.old.context self.old.syntax self.old.faults)) }
         ensures place { self.new.place ≡ self.old.place }
+        ensures comments { self.new.comments ≡ self.old.comments }
+        ensures kept { kept_of self.new.comments (comments_at self.new.place)
+            ≡ kept_of self.old.comments (comments_at self.old.place) }
     {
         if self.context.module {
             return self.add_error(error);
@@ -236,17 +260,24 @@ impl<'a> Tokens for Lexer<'a> {
             ≡ record (source_of self.old.place self.old.context self.old.syntax self.old.faults)
             { recorded = [] } }
         ensures place { self.new.place ≡ self.old.place }
+        ensures comments { self.new.comments ≡ self.old.comments }
+        ensures kept { kept_of self.new.comments (comments_at self.new.place)
+            ≡ kept_of self.old.comments (comments_at self.old.place) }
     {
         self.faults.take()
     }
 
     // The copy has the same comments, too.
+    #[tactic(auto, using(crate::proofs::Collections::keeps_same))]
     fn try_clone(&self) -> PResult<Lexer<'a>>
         ensures ok { IfOk result
             (λ it. source_of it.place it.context it.syntax it.faults
             ≡ source_of self.now.place self.now.context self.now.syntax self.now.faults) }
         ensures comments { IfOk result (λ it. IsSameList it.comments self.now.comments) }
         ensures at { IfOk result (λ it. it.place ≡ self.now.place) }
+        ensures kept { IfOk result
+            (λ it. kept_of it.comments (comments_at it.place)
+            ≡ kept_of self.now.comments (comments_at self.now.place)) }
         ensures err { IfErr result IsOutOfMemory }
         ensures place { IfErr result
             (λ e. e.span ≡ source.at_start
@@ -272,10 +303,6 @@ impl<'a> Tokens for Lexer<'a> {
 }
 
 impl<'a> CommentSource for Lexer<'a> {
-    ghost comments = { λ s. s.comments.comments.items };
-
-    ghost is_lossy = { λ s. s.comments.is_lossy };
-
     fn take_comments(&mut self) -> PResult<Vec<Comment>>
         ensures source { source_of self.new.place self.new.context self.new.syntax self.new.faults
             ≡ source_of self.old.place self.old.context self.old.syntax self.old.faults }
@@ -286,6 +313,8 @@ impl<'a> CommentSource for Lexer<'a> {
             (λ _. self.old.comments.is_lossy ≡ true) }
         ensures fresh { self.new.comments.is_lossy ≡ false }
         ensures at { self.new.place ≡ self.old.place }
+        ensures kept { kept_of self.new.comments (comments_at self.new.place)
+            ≡ handed_out (kept_of self.old.comments (comments_at self.old.place)) }
         ensures err { IfErr result IsOutOfMemory }
         ensures place { IfErr result
             (λ e. e.span ≡ source.at_start

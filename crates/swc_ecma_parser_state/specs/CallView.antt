@@ -2,9 +2,10 @@
 use Rattle.std.specs.Prelude.{◌≡◌, true, [], Option}
 use Rattle.swc_ecma_parser_error.specs.Kind.{faults_of}
 use Rattle.swc_ecma_parser_input.specs.Buffered.{Buffered, behind}
+use Rattle.swc_ecma_parser_input.specs.Kept.{IsReadOn}
 use Rattle.swc_ecma_parser_input.specs.Setting.{setting_of}
 use Rattle.swc_ecma_parser_state.specs.Contents.{Contents, seen, source_of}
-use Rattle.swc_ecma_parser_state.specs.Keeps.{Keeps}
+use Rattle.swc_ecma_parser_state.specs.Keeps.{Keeps, KeepsCopies}
 use Rattle.swc_ecma_parser_state.specs.declared.state.Call.TheInside.{Inside}
 use Rattle.swc_ecma_parser_reader.specs.Calls.{Left}
 use Rattle.swc_ecma_parser_reader.specs.Notes.{held_of}
@@ -29,4 +30,6 @@ abbrev pub LeftBy : reader.State → Buffered → Option Mark → Type 0
 LeftBy start b m = Left start b.place (faults_of b.recorded) (setting_of b.syntax) m (held_of b.held_back)
 
 abbrev pub IsUnderway : {O I : Type 0} → Contents → Inside O I → Type 0
-IsUnderway start s = IsSettled s.buffer × LeftBy (seen start) s.buffer s.mark × Keeps (source_of start) (behind s.buffer)
+IsUnderway start s =
+    IsSettled s.buffer × LeftBy (seen start) s.buffer s.mark × Keeps (source_of start) (behind s.buffer) × IsReadOn start.buffer.kept s.buffer.kept
+    × KeepsCopies start.buffer s.buffer s.mark

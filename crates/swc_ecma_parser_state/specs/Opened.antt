@@ -1,5 +1,6 @@
 -- States over sources that nothing was read from, and as a call begins.
 use Rattle.std.specs.Prelude.{if◌then◌else◌, false, [], Option, Some, None}
+use Rattle.swc_ecma_parser_input.specs.Kept.{nothing_kept}
 use Rattle.swc_ecma_parser_input.specs.Setting.{plain}
 use Rattle.swc_ecma_parser_input.specs.TokenSource.{TokenSource, with_context, of_list}
 use Rattle.swc_ecma_parser_input.specs.Place.{Place, outset}
@@ -10,7 +11,7 @@ use Rattle.swc_ecma_parser_reader.specs.declared.mark.Mark.TheVariants as mark
 use Rattle.swc_ecma_parser_reader.specs.State.{State}
 use Rattle.swc_ecma_parser_state.specs.Contents.{Contents, seen}
 
--- the source's own context is set on it once more
+-- the source's own context is set on it once more, and nothing else is kept
 abbrev pub fresh : TokenSource → Contents
 fresh s = record {
   buffer = record {
@@ -20,6 +21,7 @@ fresh s = record {
     start = s.start;
     recorded = (with_context s.context s).recorded;
     held_back = (with_context s.context s).held_back;
+    kept = nothing_kept;
   };
   labels = [];
   found_module_item = false;

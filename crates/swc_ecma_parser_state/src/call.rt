@@ -5,12 +5,13 @@ ghost use Rattle.swc_ecma_parser_error.specs.Kind.{Fault, OutOfMemory, fault_of,
 ghost use Rattle.swc_ecma_parser_grammar.specs.Notes.{as_note};
 ghost use Rattle.swc_ecma_parser_grammar.specs.language.Contexts.{in_module, script_code};
 ghost use Rattle.swc_ecma_parser_grammar.specs.language.Programs.{entry_code, «module», program};
+ghost use Rattle.swc_ecma_parser_input.specs.Kept.{IsReadOn};
 ghost use Rattle.swc_ecma_parser_reader.specs.Calls.{Leaves, Says, marks_memory};
 ghost use Rattle.swc_ecma_parser_reader.specs.Entry.{IsLater};
 ghost use Rattle.swc_ecma_parser_reader.specs.State as reader;
 ghost use Rattle.swc_ecma_parser_reader.specs.declared.mark.Mark.TheVariants as mark;
 ghost use Rattle.swc_ecma_parser_state.specs.Contents.{seen, source_of};
-ghost use Rattle.swc_ecma_parser_state.specs.Keeps.{Keeps};
+ghost use Rattle.swc_ecma_parser_state.specs.Keeps.{Keeps, KeepsCopies};
 
 use crate::state::{Call, Origin, State};
 use swc_ecma_parser_common::Span;
@@ -31,6 +32,8 @@ impl<O: Origin, I: Tokens> Call<O, I> {
         ensures state { seen result ≡ self }
         ensures leaves { Leaves (seen O.start) (seen result) }
         ensures keeps { Keeps (source_of O.start) (source_of result) }
+        ensures comments { IsReadOn O.start.buffer.kept result.buffer.kept }
+        ensures copies { KeepsCopies O.start.buffer result.buffer result.mark }
     {
         let Call {
             buffer,

@@ -1,7 +1,9 @@
 //! How a state is made and given back, and how a call begins.
 
-ghost use Rattle.std.specs.Prelude.{◌≡◌, false, [], length, IfOk, IfErr};
+ghost use Rattle.std.specs.Prelude.{◌≡◌, ◌<◌, true, false, [], length, IfOk, IfErr, MatchResult};
 ghost use Rattle.swc_ecma_parser_error.specs.Kind.{IsOutOfMemory};
+ghost use Rattle.swc_ecma_parser_input.specs.Buffered.{copied_by};
+ghost use Rattle.swc_ecma_parser_input.specs.Kept.{IsReadOn, copies_and_left, handed_out};
 ghost use Rattle.swc_ecma_parser_input.specs.Place as place;
 ghost use Rattle.swc_ecma_parser_reader.specs.Calls.{lacks_ahead};
 ghost use Rattle.swc_ecma_parser_reader.specs.State.{end_of};
@@ -21,11 +23,16 @@ impl<I: Tokens> State<I> {
     /// Sets the source's own context on it once more, and draws its first tokens.
     pub fn new(alloc: Global, input: I) -> State<I>
         ensures kept { result ≡ record (fresh (I.seen input)) {
-          buffer = record (fresh (I.seen input)).buffer { place = place.outset (I.seen input).start result.buffer.place.left };
+          buffer = record (fresh (I.seen input)).buffer { place = place.outset (I.seen input).start result.buffer.place.left; kept = result.buffer.kept };
         } }
         ensures left { place.lacks_memory (place.first result.buffer.place.left) ≡ false
-            → place.lacks_memory (place.second result.buffer.place.left) ≡ false → result ≡ fresh (I.seen input) }
+            → place.lacks_memory (place.second result.buffer.place.left) ≡ false
+            → result ≡ record (fresh (I.seen input)) { buffer = record (fresh (I.seen input)).buffer { kept = result.buffer.kept } } }
         ensures len { length result.buffer.place.left ≡ length (I.seen input).left }
+        ensures comments { IsReadOn (I.kept input) result.buffer.kept }
+        ensures copies { place.lacks_memory (place.first result.buffer.place.left) ≡ false
+            → place.lacks_memory (place.second result.buffer.place.left) ≡ false
+            → copies_and_left (I.kept input).copies (I.seen input).left ≡ copied_by result.buffer }
     {
         let mut input = input;
         let context = input.ctx();
@@ -104,7 +111,8 @@ impl<I: Tokens> State<I> {
 
     /// The source, without the tokens that were read ahead: at most two.
     pub fn into_input(self) -> I
-        ensures { I.seen result ≡ source_of self }
+        ensures source { I.seen result ≡ source_of self }
+        ensures kept { I.kept result ≡ self.buffer.kept }
     {
         let State {
             buffer,
@@ -148,9 +156,16 @@ impl<I: Tokens> State<I> {
 }
 
 impl<I: CommentSource> State<I> {
-    /// Hands out the comments that the source has kept, or says that one of them found no memory.
+    /// Hands out the comments that the source has kept, or says that one of them found no memory. Where fewer than two
+    /// tokens are left, no comment is to come.
     pub fn take_comments(&mut self) -> PResult<Vec<Comment>>
-        ensures state { self.new ≡ self.old }
+        ensures state { self.new
+            ≡ record self.old
+            { buffer = record self.old.buffer { kept = handed_out self.old.buffer.kept } } }
+        ensures comments { IfOk result (λ found. found.items ≡ self.old.buffer.kept.comments) }
+        ensures told { MatchResult result (λ _. self.old.buffer.kept.is_lossy ≡ false)
+            (λ _. self.old.buffer.kept.is_lossy ≡ true) }
+        ensures ended { length self.old.buffer.place.left < 2 → self.old.buffer.kept.coming ≡ [] }
         ensures err { IfErr result IsOutOfMemory }
     {
         self.buffer.take_comments()

@@ -20,10 +20,11 @@ impl<I: Tokens> Model for State<I> {
     ghost Value = { Contents };
 
     ghost use Rattle.std.specs.Coded.{codes};
+    ghost use Rattle.swc_ecma_parser_common.specs.contracts.comment.Comment as comment;
     ghost use Rattle.swc_ecma_parser_error.specs.contracts.error.Error as error;
     ghost use Rattle.swc_ecma_parser_token.specs.contracts.token.TokenAndSpan as token;
 
-    ghost coded = { Prim.hlevel (codes, error.the_row.coded, token.the_row.coded) };
+    ghost coded = { Prim.hlevel (codes, comment.the_row.coded, error.the_row.coded, token.the_row.coded) };
 
     ghost use Rattle.swc_ecma_parser_state.specs.View.{view_of, IsSettled};
 

@@ -7,12 +7,13 @@ use Rattle.swc_ecma_parser_common.specs.declared.span.BytePos.{BytePos}
 use Rattle.swc_ecma_parser_common.specs.declared.span.Span.{Span}
 use Rattle.swc_ecma_parser_token.specs.declared.token.Token.{Token}
 use Rattle.swc_ecma_parser_token.specs.declared.token.TokenAndSpan.{TokenAndSpan}
+use Rattle.swc_ecma_parser_input.specs.Kept.{IsReadOn as IsKeptOn}
 use Rattle.swc_ecma_parser_scan.specs.declared.state.State.{State}
 use Rattle.swc_ecma_parser_scan.specs.Scan.{scan}
 use Rattle.swc_ecma_parser_lexer.specs.declared.comment.CommentList.{CommentList}
 use Rattle.swc_ecma_parser_lexer.specs.declared.place.Place.{Place}
 use Rattle.swc_ecma_parser_lexer.specs.Collected as plain
-use Rattle.swc_ecma_parser_lexer.specs.Collected.{piece_comments}
+use Rattle.swc_ecma_parser_lexer.specs.Collected.{piece_comments, kept_of}
 use Rattle.swc_ecma_parser_lexer.specs.Make.{token_of}
 use Rattle.swc_ecma_parser_lexer.specs.Ordered.{length-encodes}
 use Rattle.swc_ecma_parser_lexer.specs.Tokens as read
@@ -294,3 +295,8 @@ comments-at-outset g n list place start text wanted from at broken rest none is 
     ap (λ xs. xs ++ cond list.is_wanted (comments_at g n false place) []) none
     ∙ ap (λ v. cond v (comments_at g n false place) []) is
     ∙ ap (λ xs. cond wanted xs []) all
+
+-- What the lexer keeps.
+
+pub keeps-on : (old new : CommentList) (before behind : List Comment) → IsReadOn old before new behind → IsKeptOn (kept_of old before) (kept_of new behind)
+keeps-on old new before behind r = record { comments = r.comments; lossy = r.lossy }

@@ -1,9 +1,12 @@
 //! The lexer of the whole language.
 
-ghost use Rattle.std.specs.Prelude.{◌≡◌, ◌≤◌, ◌<◌, ◌+◌, ◌-◌, if◌then◌else◌, true, false, drop, length, [], IfNone};
+ghost use Rattle.std.specs.Prelude.{◌≡◌, ◌≤◌, ◌<◌, ◌+◌, ◌-◌, if◌then◌else◌, true, false, drop, length, [], None, IfNone};
 ghost use Rattle.std.specs.Str.{chars, IsCharBoundary};
 ghost use Rattle.swc_ecma_parser_error.specs.Kind.{IsOutOfMemory};
+ghost use Rattle.swc_ecma_parser_input.specs.Kept.{IsReadOn as IsKeptOn, copies_and_left};
+ghost use Rattle.swc_ecma_parser_input.specs.Place.{lacks_memory};
 ghost use Rattle.swc_ecma_parser_input.specs.TokenSource as source;
+ghost use Rattle.swc_ecma_parser_lexer.specs.Collected.{kept_of};
 ghost use Rattle.swc_ecma_parser_nesting.specs.Nesting as nesting;
 ghost use Rattle.swc_ecma_parser_whole_lexer.specs.Comments.{IsReadOn, collected, comments_at, comments_from, comments_of};
 ghost use Rattle.swc_ecma_parser_whole_lexer.specs.Source.{source_of, outset};
@@ -289,8 +292,10 @@ impl<'a> Tokens for WholeLexer<'a> {
 
     ghost seen = { λ s. source_of s.goal s.nest s.has_begun s.lexer.place s.lexer.context s.lexer.syntax s.lexer.faults };
 
+    ghost kept = { λ s. kept_of s.lexer.comments (comments_at s.goal s.nest s.has_begun s.lexer.place) };
+
     // Beside the token: no comment on the way is missed, and none comes twice, or `take_comments` tells the loss. Behind the
-    // last token none is left in the text.
+    // last token none is left in the text. It keeps no copies.
     fn next(&mut self) -> Option<TokenAndSpan>
         ensures drawn { source.Draws
             (source_of self.old.goal self.old.nest self.old.has_begun self.old.lexer.place self.old.lexer.context self.old.lexer.syntax self.old.lexer.faults)
@@ -302,6 +307,20 @@ impl<'a> Tokens for WholeLexer<'a> {
             (comments_at self.new.goal self.new.nest self.new.has_begun self.new.lexer.place) }
         ensures ended { IfNone result
             (comments_at self.new.goal self.new.nest self.new.has_begun self.new.lexer.place ≡ []) }
+        ensures kept { IsKeptOn
+            (kept_of self.old.lexer.comments
+            (comments_at self.old.goal self.old.nest self.old.has_begun self.old.lexer.place))
+            (kept_of self.new.lexer.comments
+            (comments_at self.new.goal self.new.nest self.new.has_begun self.new.lexer.place)) }
+        ensures none_coming { IfNone result
+            ((kept_of self.new.lexer.comments
+            (comments_at self.new.goal self.new.nest self.new.has_begun self.new.lexer.place)).coming
+            ≡ []) }
+        ensures copies { lacks_memory result ≡ false
+            → copies_and_left None
+            (source_of self.old.goal self.old.nest self.old.has_begun self.old.lexer.place self.old.lexer.context self.old.lexer.syntax self.old.lexer.faults).left
+            ≡ copies_and_left None
+            (source_of self.new.goal self.new.nest self.new.has_begun self.new.lexer.place self.new.lexer.context self.new.lexer.syntax self.new.lexer.faults).left }
     {
         loop {
             let before = self.lexer.place();
@@ -349,6 +368,7 @@ impl<'a> Tokens for WholeLexer<'a> {
         self.lexer.take_errors()
     }
 
+    #[tactic(auto, using(swc_ecma_parser_lexer::proofs::Collections::keeps_same))]
     fn try_clone(&self) -> PResult<WholeLexer<'a>> {
         Ok(WholeLexer {
             lexer: self.lexer.try_clone()?,
@@ -362,10 +382,7 @@ impl<'a> Tokens for WholeLexer<'a> {
 }
 
 impl<'a> CommentSource for WholeLexer<'a> {
-    ghost comments = { λ s. s.lexer.comments.comments.items };
-
-    ghost is_lossy = { λ s. s.lexer.comments.is_lossy };
-
+    #[tactic(auto, using(swc_ecma_parser_lexer::proofs::Collections::keeps_rest))]
     fn take_comments(&mut self) -> PResult<Vec<Comment>> {
         Lexer::take_comments(&mut self.lexer)
     }

@@ -1,4 +1,5 @@
 use Rattle.std.proofs.Common.{ap, ◌∙◌}
+use Rattle.std.proofs.lemmas.Bool.{or_parts}
 use Rattle.swc_ecma_parser_span_order.specs.Forward.{in_order}
 use Rattle.swc_ecma_parser_span_order.proofs.Entries.{opened_in_order}
 use Rattle.swc_ecma_parser_state.specs.Contents.{seen, source_of}
@@ -15,3 +16,6 @@ returns-clause-left g c = λ a b. ap seen (c.new.ensures.left a b)
 
 pub returns-clause-in_order : goal.returns-clause-in_order
 returns-clause-in_order g c = λ a b. ap (λ s. in_order s.buffer.place) (c.new.ensures.left a b) ∙ opened_in_order (g.I.Tokens.seen c.args.input) (g.met.I.Tokens.ordered c.args.input)
+
+pub returns-clause-copies : goal.returns-clause-copies
+returns-clause-copies g c = λ h. let ahead = or_parts _ _ h in c.new.ensures.copies ahead.0 ahead.1

@@ -74,6 +74,9 @@ returns-clause-outright g c = rw (← (kept_is _ _ _ _ (sym c.take.ensures.value
 pub returns-clause-keeps : goal.returns-clause-keeps
 returns-clause-keeps g c = rw (← (kept_is _ _ _ _ (sym c.take.ensures.value ∙ c.unwrap-state.ensures) c.self.view_is)) (c.module-state.ensures.keeps)
 
+pub returns-clause-kept : goal.returns-clause-kept
+returns-clause-kept g c = rw (← (kept_is _ _ _ _ (sym c.take.ensures.value ∙ c.unwrap-state.ensures) c.self.view_is)) (record { comments = c.module-state.ensures.comments; copies = c.module-state.ensures.copies })
+
 pub returns-clause-reads : goal.returns-clause-reads
 returns-clause-reads g c = subst (λ (p : Parsing). IsReading view_module programs.«module» p.limit (unmarked p.state) c.module-state.result.1 (seen c.module-state.result.0)) (kept_is _ _ _ _ (sym c.take.ensures.value ∙ c.unwrap-state.ensures) c.self.view_is) c.module-state.ensures.answers
 

@@ -70,6 +70,9 @@ returns-clause-outright g c = rw (← (kept_is _ _ _ _ (sym c.take.ensures.value
 pub returns-clause-keeps : goal.returns-clause-keeps
 returns-clause-keeps g c = rw (← (kept_is _ _ _ _ (sym c.take.ensures.value ∙ c.unwrap-state.ensures) c.self.view_is)) (c.program-state.ensures.keeps)
 
+pub returns-clause-kept : goal.returns-clause-kept
+returns-clause-kept g c = rw (← (kept_is _ _ _ _ (sym c.take.ensures.value ∙ c.unwrap-state.ensures) c.self.view_is)) (record { comments = c.program-state.ensures.comments; copies = c.program-state.ensures.copies })
+
 pub returns-clause-reads : goal.returns-clause-reads
 returns-clause-reads g c = subst (λ (p : Parsing). IsReading view_program language.program p.limit (unmarked p.state) c.program-state.result.1 (seen c.program-state.result.0)) (kept_is _ _ _ _ (sym c.take.ensures.value ∙ c.unwrap-state.ensures) c.self.view_is) c.program-state.ensures.answers
 

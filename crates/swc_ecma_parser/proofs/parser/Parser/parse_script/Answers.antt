@@ -70,6 +70,9 @@ returns-clause-outright g c = rw (← (kept_is _ _ _ _ (sym c.take.ensures.value
 pub returns-clause-keeps : goal.returns-clause-keeps
 returns-clause-keeps g c = rw (← (kept_is _ _ _ _ (sym c.take.ensures.value ∙ c.unwrap-state.ensures) c.self.view_is)) (c.script-state.ensures.keeps)
 
+pub returns-clause-kept : goal.returns-clause-kept
+returns-clause-kept g c = rw (← (kept_is _ _ _ _ (sym c.take.ensures.value ∙ c.unwrap-state.ensures) c.self.view_is)) (record { comments = c.script-state.ensures.comments; copies = c.script-state.ensures.copies })
+
 pub returns-clause-reads : goal.returns-clause-reads
 returns-clause-reads g c = subst (λ (p : Parsing). IsReading view_script programs.script p.limit (unmarked p.state) c.script-state.result.1 (seen c.script-state.result.0)) (kept_is _ _ _ _ (sym c.take.ensures.value ∙ c.unwrap-state.ensures) c.self.view_is) c.script-state.ensures.answers
 

@@ -70,6 +70,9 @@ returns-clause-at_end g c = rw (← (kept_is _ _ _ _ (sym c.take.ensures.value �
 pub returns-clause-keeps : goal.returns-clause-keeps
 returns-clause-keeps g c = rw (← (kept_is _ _ _ _ (sym c.take.ensures.value ∙ c.unwrap-state.ensures) c.self.view_is)) (c.statement-state.ensures.keeps)
 
+pub returns-clause-kept : goal.returns-clause-kept
+returns-clause-kept g c = rw (← (kept_is _ _ _ _ (sym c.take.ensures.value ∙ c.unwrap-state.ensures) c.self.view_is)) (record { comments = c.statement-state.ensures.comments; copies = c.statement-state.ensures.copies })
+
 pub returns-clause-reads : goal.returns-clause-reads
 returns-clause-reads g c = subst (λ (p : Parsing). IsReading view_stmt (programs.stmt c.args.top_level) p.limit (unmarked p.state) c.statement-state.result.1 (seen c.statement-state.result.0)) (kept_is _ _ _ _ (sym c.take.ensures.value ∙ c.unwrap-state.ensures) c.self.view_is) c.statement-state.ensures.answers
 

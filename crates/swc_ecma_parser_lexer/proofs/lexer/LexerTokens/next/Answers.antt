@@ -1,5 +1,5 @@
-use Rattle.std.proofs.Common.{◌∙◌}
-use Rattle.swc_ecma_parser_lexer.proofs.Collections.{reads-token}
+use Rattle.std.proofs.Common.{refl, ◌∙◌}
+use Rattle.swc_ecma_parser_lexer.proofs.Collections.{keeps_on, reads-token, same_place}
 use Rattle.swc_ecma_parser_lexer.proofs.Spelled.{spelled-draws, spelled-read}
 use Rattle.swc_ecma_parser_lexer.proofs.lexer.LexerTokens.next.Goals as goal
 
@@ -33,3 +33,14 @@ returns-clause-read c =
 
 pub returns-clause-start : goal.returns-clause-start
 returns-clause-start c = c.go_past.ensures.start ∙ c.find-found.ensures.start
+
+pub returns-clause-kept : goal.returns-clause-kept
+returns-clause-kept c =
+    keeps_on _ _ _ _
+    (reads-token _ _ _ c.find-found.result.place c.go_past.new.self c.in-Some.piece c.find-found.ensures.comments
+    (rw c.in-Some.is at c.find-found.ensures.piece) c.go_past.ensures)
+
+pub returns-in_default-clause-kept : goal.returns-in_default-clause-kept
+returns-in_default-clause-kept c =
+    let found = c.find-found in
+    keeps_on _ _ _ _ (same_place _ _ _ found.result.place _ found.ensures.comments found.ensures.start refl refl)
