@@ -156,3 +156,13 @@ pub bumped : (last last' : Span) (r r' : List TokenAndSpan) (ended : Bool) (draw
     last' ≡ last_of (first r) last → r' ≡ rest r ++ option_to_list drawn →
     Bumped b (placed (record { last = last'; left = r' ++ s'.left }) s' k')
 bumped last last' r r' ended drawn s s' k k' b e f d c i j = rw (← e, i, j) (bumped_at last r ended drawn s s' k k' f d c)
+
+-- what a full buffer holds stands first
+pub full_first : (r : List TokenAndSpan) (ended : Bool) (l : List TokenAndSpan) → IsFull r ended l → first (r ++ l) ≡ first r
+full_first [] ended l f = ap first (all_held [] ended l f (omega arith))
+full_first (t ∷ ts) ended l f = refl
+
+pub full_second : (r : List TokenAndSpan) (ended : Bool) (l : List TokenAndSpan) → IsFull r ended l → second (r ++ l) ≡ second r
+full_second [] ended l f = ap second (all_held [] ended l f (omega arith))
+full_second (t ∷ []) ended l f = ap first (all_held (t ∷ []) ended l f (omega arith))
+full_second (t ∷ u ∷ us) ended l f = refl

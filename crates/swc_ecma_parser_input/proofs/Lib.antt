@@ -2,3 +2,4 @@ pub mod Kept
 pub mod Bumped
 mod Opened
 pub mod Ordered
+pub mod Rings

@@ -1,6 +1,8 @@
 -- Two tokens in two places.
 use Rattle.std.specs.Prelude.{◌≡◌, ℕ, ◌<◌, ◌-◌, List, [], ◌∷◌, Option, Some, None, get_or, length}
+use Rattle.swc_ecma_parser_token.specs.declared.kind.TokenKind.{TokenKind}
 use Rattle.swc_ecma_parser_token.specs.declared.token.TokenAndSpan.{TokenAndSpan}
+use Rattle.swc_ecma_parser_input.specs.Place.{kind_of}
 
 abbrev pub before : Option TokenAndSpan → List TokenAndSpan → List TokenAndSpan
 before None ts = ts
@@ -26,7 +28,9 @@ Holds (Some t) None count = count ≡ 1
 Holds None None count = count ≡ 0
 Holds None (Some u) count = ⊥
 
-pub record IsRing (places : List (Option TokenAndSpan)) (front count : ℕ) : Type 0 where
+pub record IsRing (places : List (Option TokenAndSpan)) (first second : TokenKind) (front count : ℕ) : Type 0 where
   pub is_place : front < 2
   pub are_two : length places ≡ 2
+  pub first_kind : first ≡ kind_of (at places front)
+  pub second_kind : second ≡ kind_of (at places (1 - front))
   pub holds : Holds (at places front) (at places (1 - front)) count

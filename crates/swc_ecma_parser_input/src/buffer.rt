@@ -17,7 +17,7 @@ use crate::tokens::{Tokens, is_out_of_memory};
 use std::marker::Model;
 use swc_ecma_parser_common::{BytePos, Comment, Span};
 use swc_ecma_parser_error::{Error, PResult};
-use swc_ecma_parser_token::TokenAndSpan;
+use swc_ecma_parser_token::{TokenAndSpan, TokenKind};
 
 /// A source of tokens with two of them read ahead: the current one and the one behind it. Contracts see the place that
 /// the source has come to, with all the tokens left, its faults, and what else it keeps.
@@ -95,6 +95,22 @@ impl<I: Tokens> Buffer<I> {
         self.ring.second().as_ref()
     }
 
+    /// The kind of the current token; `End` at the end.
+    #[inline(always)]
+    pub fn kind(&self) -> TokenKind
+        ensures { result ≡ place.kind_of (first self.now.place.left) }
+    {
+        self.ring.kind()
+    }
+
+    /// The kind of the token behind the current one.
+    #[inline(always)]
+    pub fn next_kind(&self) -> TokenKind
+        ensures { result ≡ place.kind_of (second self.now.place.left) }
+    {
+        self.ring.next_kind()
+    }
+
     /// The span of the token taken last; before any is taken, the empty one where the text starts.
     pub fn last_span(&self) -> Span
         ensures { result ≡ self.now.place.last }
@@ -104,6 +120,7 @@ impl<I: Tokens> Buffer<I> {
 
     /// Takes the current token. At the end it changes nothing.
     #[tactic(auto, unfolding(crate::specs::Place::after))]
+    #[inline(always)]
     pub fn bump(&mut self) -> Option<TokenAndSpan>
         ensures token { result ≡ first self.old.place.left }
         ensures place { place.lacks_memory (second self.new.place.left) ≡ false → self.new

@@ -1,19 +1,22 @@
 //! Room for two tokens.
 
 ghost use Rattle.std.specs.Prelude.{◌≡◌, ◌<◌, [], ◌++◌, length, option_to_list, IfOk};
-ghost use Rattle.swc_ecma_parser_input.specs.Place.{first, second};
+ghost use Rattle.swc_ecma_parser_input.specs.Place.{first, second, kind_of};
 ghost use Rattle.swc_ecma_parser_input.specs.Ringed.{before, rest};
 
 use std::alloc::AllocError;
 use std::marker::Model;
 use std::mem;
-use swc_ecma_parser_token::TokenAndSpan;
+use swc_ecma_parser_token::{TokenAndSpan, TokenKind};
 
 /// Room for two tokens, which are taken in the order in which they came. The first stands in the front place, the one
 /// behind it in the other. To take one moves no other. Contracts see the tokens, in this order.
 #[derive(Drop)]
 pub(crate) struct Ring {
     places: [Option<TokenAndSpan>; 2],
+    /// The kind of what stands in the front place, and in the other; `End` where it is empty.
+    kind: TokenKind,
+    next_kind: TokenKind,
     /// The number of the front place.
     front: usize,
     /// How many tokens there are.
@@ -33,7 +36,7 @@ impl Model for Ring {
 
     ghost view = { λ r. ringed r.places r.front };
 
-    ghost invariant = { λ r. IsRing r.places r.front r.count };
+    ghost invariant = { λ r. IsRing r.places r.kind r.next_kind r.front r.count };
 }
 
 impl Ring {
@@ -49,11 +52,31 @@ impl Ring {
         } else {
             0
         };
+        let kind = kind_in(&first);
+        let next_kind = kind_in(&second);
         Ring {
             places: [first, second],
+            kind,
+            next_kind,
             front: 0,
             count,
         }
+    }
+
+    /// The kind of the token that is taken next.
+    #[inline(always)]
+    pub fn kind(&self) -> TokenKind
+        ensures { result ≡ kind_of (first self.now) }
+    {
+        self.kind
+    }
+
+    /// The kind of the token behind it.
+    #[inline(always)]
+    pub fn next_kind(&self) -> TokenKind
+        ensures { result ≡ kind_of (second self.now) }
+    {
+        self.next_kind
     }
 
     /// The token that is taken next.
@@ -72,6 +95,7 @@ impl Ring {
 
     /// Takes the first token, puts the new one, if it is one, in its place, and turns the front: there it stands behind
     /// the other.
+    #[inline(always)]
     pub fn turn(&mut self, token: Option<TokenAndSpan>) -> Option<TokenAndSpan>
         requires { length self.old < 2 → token ≡ None }
         ensures taken { result ≡ first self.old }
@@ -80,6 +104,8 @@ impl Ring {
         if token.is_none() && self.count > 0 {
             self.count -= 1;
         }
+        self.kind = self.next_kind;
+        self.next_kind = kind_in(&token);
         let taken = mem::replace(&mut self.places[self.front], token);
         self.front = 1 - self.front;
         taken
@@ -93,9 +119,21 @@ impl Ring {
         let second = copied(&self.places[1])?;
         Ok(Ring {
             places: [first, second],
+            kind: self.kind,
+            next_kind: self.next_kind,
             front: self.front,
             count: self.count,
         })
+    }
+}
+
+/// The kind of a token, or `End`.
+fn kind_in(token: &Option<TokenAndSpan>) -> TokenKind
+    ensures { result ≡ kind_of token.now }
+{
+    match token {
+        None => TokenKind::End,
+        Some(t) => t.token.kind(),
     }
 }
 

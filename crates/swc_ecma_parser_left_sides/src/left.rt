@@ -172,7 +172,7 @@ fn marked_primary<
 /// A primary expression: section 13.2.
 #[tactic(auto, unfolding(swc_ecma_parser_reader::specs::Expressions::primary, swc_ecma_parser_reader::specs::Expressions::named_expr))]
 #[inline(never)]
-fn primary<
+pub fn primary<
     P: Cursor,
     T: BuildsExpr + BuildsCall + BuildsMethod + BuildsOperator + BuildsPattern,
     G: Readers<P, T>,

@@ -2,6 +2,7 @@
 
 ghost use Rattle.std.specs.Prelude.{◌≡◌, true};
 ghost use Rattle.swc_ecma_parser_shared.specs.Covers.{cover_of};
+ghost use Rattle.swc_ecma_parser_operators.specs.Leaf as leaf;
 ghost use Rattle.swc_ecma_parser_reader.specs.AwaitWords as words;
 ghost use Rattle.swc_ecma_parser_reader.specs.Expressions as exprs;
 ghost use Rattle.swc_ecma_parser_reader.specs.Expressions.{is_literal};
@@ -9,14 +10,16 @@ ghost use Rattle.swc_ecma_parser_reader.specs.Heads as heads;
 ghost use Rattle.swc_ecma_parser_reader.specs.Reader as rules;
 ghost use Rattle.swc_ecma_parser_reader.specs.State.{GivesAs};
 
-use crate::operator::{assigns_here, behind_operators, plain_expr, postfixed, sequence_from};
+use crate::operator::{
+    assigns_here, begins_leaf, behind_operators, plain_expr, postfixed, sequence_from,
+};
 use swc_ecma_parser_arrows::arrows::{arrow_of_one, only_parameter};
 use swc_ecma_parser_arrows::awaits::awaited;
 use swc_ecma_parser_common::Span;
 use swc_ecma_parser_cursor::{Cursor, Wanted};
 use swc_ecma_parser_error::PResult;
 use swc_ecma_parser_grammar::Class;
-use swc_ecma_parser_left_sides::left::left_from;
+use swc_ecma_parser_left_sides::left::{left_from, primary};
 use swc_ecma_parser_literals::array::array;
 use swc_ecma_parser_literals::object::object;
 use swc_ecma_parser_model::AssignOp;
@@ -152,6 +155,23 @@ fn open_literal<
     behind_literal(g, t, p, start, v)
 }
 
+/// A name, a string or a number with nothing behind it: no level of operators goes on with it.
+#[tactic(auto, using(crate::proofs::Leaf::leaf_read, crate::proofs::Leaf::leaf_refused))]
+#[inline(never)]
+fn lone_operand<
+    P: Cursor,
+    T: BuildsExpr + BuildsCall + BuildsMethod + BuildsOperator + BuildsPattern,
+    G: Readers<P, T>,
+>(g: &G, t: &MakerOf<T>, p: &mut P) -> PResult<Cover<T::Expr>>
+    requires readers { G.ready g.now }
+    requires leaf { leaf.begins_leaf (P.seen p.old).at ≡ true }
+    ensures { GivesAs (cover_of T.expr_of)
+        (exprs.cover_expr (rules.expr (G.depth g.now)) (rules.cover (G.depth g.now))
+        (rules.function (G.depth g.now)) (P.seen p.old)) result (P.seen p.new) }
+{
+    Ok(done(primary(g, t, p)?))
+}
+
 /// An assignment expression that may still become a pattern.
 #[tactic(auto, unfolding(swc_ecma_parser_reader::specs::Expressions::cover_expr, swc_ecma_parser_reader::specs::Expressions::done_expr))]
 pub fn cover_expr<
@@ -164,6 +184,9 @@ pub fn cover_expr<
         (exprs.cover_expr (rules.expr (G.depth g.now)) (rules.cover (G.depth g.now))
         (rules.function (G.depth g.now)) (P.seen p.old)) result (P.seen p.new) }
 {
+    if begins_leaf(p) {
+        return lone_operand(g, t, p);
+    }
     if p.sees(TokenKind::LBracket) || p.sees(TokenKind::LBrace) {
         return open_literal(g, t, p);
     }

@@ -9,6 +9,7 @@ ghost use Rattle.swc_ecma_parser_model.specs.declared.operators.BinaryOp.TheVari
 ghost use Rattle.swc_ecma_parser_reader.specs.Arrows as arrows;
 ghost use Rattle.swc_ecma_parser_reader.specs.Classes.{class_of};
 ghost use Rattle.swc_ecma_parser_reader.specs.Expressions as exprs;
+ghost use Rattle.swc_ecma_parser_operators.specs.Leaf as leaf;
 ghost use Rattle.swc_ecma_parser_reader.specs.Reader as rules;
 ghost use Rattle.swc_ecma_parser_reader.specs.State.{Gives, GivesAs};
 ghost use Rattle.swc_ecma_parser_token.specs.declared.kind.TokenKind.TheVariants as kind;
@@ -388,6 +389,21 @@ fn begins_named_arrow<P: Cursor>(p: &P) -> bool
     ensures { result ≡ arrows.begins_named_arrow (P.seen p.now).code.flags (P.seen p.now).at }
 {
     p.next_sees(TokenKind::Arrow) && p.name_at()
+}
+
+/// Whether a name, a string or a number stands here, and behind it what goes on with no operand.
+#[tactic(auto, unfolding(crate::specs::Leaf::begins_leaf))]
+#[inline(always)]
+pub(crate) fn begins_leaf<P: Cursor>(p: &P) -> bool
+    ensures { result ≡ leaf.begins_leaf (P.seen p.now).at }
+{
+    (p.next_sees(TokenKind::Comma)
+        || p.next_sees(TokenKind::RParen)
+        || p.next_sees(TokenKind::Semi)
+        || p.next_sees(TokenKind::RBracket)
+        || p.next_sees(TokenKind::RBrace)
+        || p.next_sees(TokenKind::Colon))
+        && (p.sees(TokenKind::Ident) || p.sees(TokenKind::Str) || p.sees(TokenKind::Num))
 }
 
 /// `yield` and arrow functions, which are no operands, or operands and operators.

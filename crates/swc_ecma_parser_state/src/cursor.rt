@@ -22,12 +22,9 @@ use swc_ecma_parser_token::{Token, TokenAndSpan, TokenKind, Word};
 impl<O: Origin, I: Tokens> Cursor for Call<O, I> {
     ghost seen = { λ s. s };
 
-    #[tactic(auto, unfolding(swc_ecma_parser_grammar::specs::Looks::kind_at))]
+    #[tactic(auto, using(crate::proofs::Kinds::kind_first))]
     fn kind(&self) -> TokenKind {
-        match self.buffer.cur() {
-            None => TokenKind::End,
-            Some(t) => t.token.kind(),
-        }
+        self.buffer.kind()
     }
 
     #[tactic(auto, unfolding(swc_ecma_parser_grammar::specs::Looks::same_kind))]

@@ -52,14 +52,11 @@ impl<O: Origin, I: Tokens> Call<O, I> {
     }
 
     /// The kind of the token behind the current one.
-    #[tactic(auto, unfolding(swc_ecma_parser_grammar::specs::Looks::kind_at, swc_ecma_parser_input::specs::Place::after))]
+    #[tactic(auto, using(crate::proofs::Kinds::kind_second))]
     pub(crate) fn next_kind(&self) -> TokenKind
         ensures { result ≡ looks.kind_at (place.after self.now.at) }
     {
-        match self.buffer.peek() {
-            None => TokenKind::End,
-            Some(t) => t.token.kind(),
-        }
+        self.buffer.next_kind()
     }
 
     /// Whether no token is left.
