@@ -1,5 +1,5 @@
 -- What a buffer holds once its first two tokens were drawn.
-use Rattle.std.proofs.Common.{◌≡◌, ◌∙◌, sym, ap, refl, Bool, true, false, List, [], ◌∷◌, ◌++◌, Option, Some, None, drop, is_none}
+use Rattle.std.proofs.Common.{◌≡◌, ◌∙◌, sym, ap, refl, Bool, true, false, List, [], ◌∷◌, ◌++◌, Option, Some, None, suc, drop, length, is_none}
 use Rattle.swc_ecma_parser_common.specs.declared.span.BytePos.{BytePos}
 use Rattle.swc_ecma_parser_token.specs.declared.token.TokenAndSpan.{TokenAndSpan}
 use Rattle.swc_ecma_parser_input.specs.TokenSource.{TokenSource, Draws, DrawsFrom}
@@ -22,6 +22,17 @@ opened_left l0 l1 l2 (Some c) (Some n) d e o h k = ap (λ l. c ∷ l) (drawn_lef
 opened_left l0 l1 l2 (Some c) None d e o h k = ap (λ l. c ∷ l) (e.1 ∙ sym e.0) ∙ drawn_left l0 l1 c d h
 opened_left l0 l1 l2 None None d e o h k = (e.1 ∙ sym e.0) ∙ (d.1 ∙ sym d.0)
 opened_left l0 l1 l2 None (Some n) d e o h k = let f = o refl in absurd (cc)
+
+-- no token is lost
+pub opened_length : (l0 l1 l2 : List TokenAndSpan) (cur next : Option TokenAndSpan) (ring : List TokenAndSpan)
+    → DrawsFrom l0 cur l1 → DrawsFrom l1 next l2 → (cur ≡ None → next ≡ None) → ring ≡ held cur next → length (ring ++ l2) ≡ length l0
+opened_length l0 l1 l2 cur next ring d e o r = ap (λ l. length (l ++ l2)) r ∙ held_length cur next d e o
+  where
+    held_length : (c n : Option TokenAndSpan) → DrawsFrom l0 c l1 → DrawsFrom l1 n l2 → (c ≡ None → n ≡ None) → length (held c n ++ l2) ≡ length l0
+    held_length (Some c) (Some n) d e o = sym (ap length d.list ∙ ap (λ l. suc (length l)) e.list)
+    held_length (Some c) None d e o = sym (ap length d.list ∙ ap (λ l. suc (length l)) (e.0 ∙ sym e.1))
+    held_length None None d e o = ap length (e.1 ∙ sym d.0)
+    held_length None (Some n) d e o = let f = o refl in absurd (cc)
 
 -- where none is drawn that memory ran out for, a copy is kept of both
 pub opened_copies : (k0 k1 k2 : Option (List TokenAndSpan)) (l0 l1 l2 : List TokenAndSpan) (cur next : Option TokenAndSpan) (ring : List TokenAndSpan)

@@ -21,16 +21,10 @@ at places k = get_or places k None
 abbrev pub ringed : List (Option TokenAndSpan) → ℕ → List TokenAndSpan
 ringed places front = before (at places front) (before (at places (1 - front)) [])
 
--- the front place is empty only if the other is, and both hold so many tokens
-abbrev pub Holds : Option TokenAndSpan → Option TokenAndSpan → ℕ → Type 0
-Holds (Some t) (Some u) count = count ≡ 2
-Holds (Some t) None count = count ≡ 1
-Holds None None count = count ≡ 0
-Holds None (Some u) count = ⊥
-
-pub record IsRing (places : List (Option TokenAndSpan)) (first second : TokenKind) (front count : ℕ) : Type 0 where
+pub record IsRing (places : List (Option TokenAndSpan)) (first second : TokenKind) (front : ℕ) : Type 0 where
   pub is_place : front < 2
   pub are_two : length places ≡ 2
   pub first_kind : first ≡ kind_of (at places front)
   pub second_kind : second ≡ kind_of (at places (1 - front))
-  pub holds : Holds (at places front) (at places (1 - front)) count
+  -- the front place is empty only if the other is
+  pub filled : at places front ≡ None → at places (1 - front) ≡ None

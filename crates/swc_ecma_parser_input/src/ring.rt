@@ -19,8 +19,6 @@ pub(crate) struct Ring {
     next_kind: TokenKind,
     /// The number of the front place.
     front: usize,
-    /// How many tokens there are.
-    count: usize,
 }
 
 impl Model for Ring {
@@ -36,7 +34,7 @@ impl Model for Ring {
 
     ghost view = { λ r. ringed r.places r.front };
 
-    ghost invariant = { λ r. IsRing r.places r.kind r.next_kind r.front r.count };
+    ghost invariant = { λ r. IsRing r.places r.kind r.next_kind r.front };
 }
 
 impl Ring {
@@ -45,13 +43,6 @@ impl Ring {
         requires { first ≡ None → second ≡ None }
         ensures { result ≡ before first (before second []) }
     {
-        let count = if second.is_some() {
-            2
-        } else if first.is_some() {
-            1
-        } else {
-            0
-        };
         let kind = kind_in(&first);
         let next_kind = kind_in(&second);
         Ring {
@@ -59,7 +50,6 @@ impl Ring {
             kind,
             next_kind,
             front: 0,
-            count,
         }
     }
 
@@ -101,9 +91,6 @@ impl Ring {
         ensures taken { result ≡ first self.old }
         ensures left { self.new ≡ rest self.old ++ option_to_list token }
     {
-        if token.is_none() && self.count > 0 {
-            self.count -= 1;
-        }
         self.kind = self.next_kind;
         self.next_kind = kind_in(&token);
         let taken = mem::replace(&mut self.places[self.front], token);
@@ -122,7 +109,6 @@ impl Ring {
             kind: self.kind,
             next_kind: self.next_kind,
             front: self.front,
-            count: self.count,
         })
     }
 }

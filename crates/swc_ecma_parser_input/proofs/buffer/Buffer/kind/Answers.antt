@@ -6,4 +6,4 @@ use Rattle.swc_ecma_parser_input.proofs.buffer.Buffer.kind.Goals as goal
 
 pub returns : goal.returns
 returns g c =
-    c.kind.ensures ∙ ap kind_of (sym (full_first _ _ _ c.self.invariant) ∙ ap (λ (b : Buffered). first b.place.left) c.self.view_is)
+    c.kind.ensures ∙ ap kind_of (sym (full_first _ _ _ c.self.invariant.0) ∙ ap (λ (b : Buffered). first b.place.left) c.self.view_is)

@@ -6,4 +6,4 @@ use Rattle.swc_ecma_parser_input.proofs.ring.Ring.next_kind.Goals as goal
 pub returns : goal.returns
 returns c =
     let ring = c.self.invariant in
-    ring.second_kind ∙ ap kind_of (sym (second_held _ _ _ ring.holds) ∙ ap second c.self.view_is)
+    ring.second_kind ∙ ap kind_of (sym (second_held _ _ ring.filled) ∙ ap second c.self.view_is)
