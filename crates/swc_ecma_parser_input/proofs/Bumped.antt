@@ -5,7 +5,7 @@ use Rattle.swc_ecma_parser_token.specs.declared.token.TokenAndSpan.{TokenAndSpan
 use Rattle.swc_ecma_parser_input.specs.TokenSource.{TokenSource, Draws, DrawsFrom}
 use Rattle.swc_ecma_parser_input.specs.Place.{Place, first, second, after, lacks_memory}
 use Rattle.swc_ecma_parser_input.specs.Buffered.{Buffered, placed, copied_by}
-use Rattle.swc_ecma_parser_input.specs.Drawn.{StandsFor, Drawn}
+use Rattle.swc_ecma_parser_input.specs.Drawn.{Drawn}
 use Rattle.swc_ecma_parser_input.specs.Kept.{Kept, copies_and_left}
 use Rattle.swc_ecma_parser_input.specs.Ringed.{rest}
 use Rattle.swc_ecma_parser_input.specs.View.{IsFull}

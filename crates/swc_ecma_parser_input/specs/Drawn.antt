@@ -1,6 +1,5 @@
 -- What stands for tokens of a list once they are drawn: the tokens themselves, or others in their places that say that memory ran out.
-use Rattle.std.specs.Prelude.{◌≡◌, Bool, false, List, [], ◌∷◌}
-use Rattle.swc_ecma_parser_common.specs.declared.span.Span.{Span}
+use Rattle.std.specs.Prelude.{◌≡◌, false, List, [], ◌∷◌}
 use Rattle.swc_ecma_parser_token.specs.declared.token.TokenAndSpan.{TokenAndSpan}
 use Rattle.swc_ecma_parser_input.specs.TokenSource.{is_out_of_memory}
 

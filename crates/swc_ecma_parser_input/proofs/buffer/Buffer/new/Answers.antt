@@ -1,4 +1,4 @@
-use Rattle.std.proofs.Common.{◌≡◌, ◌∙◌, sym, ap, true, None, is_none}
+use Rattle.std.proofs.Common.{◌∙◌, ap, is_none}
 use Rattle.swc_ecma_parser_input.proofs.Kept.{read_on_then}
 use Rattle.swc_ecma_parser_input.proofs.Opened.{opened_copies, opened_length, opened_place}
 use Rattle.swc_ecma_parser_input.proofs.buffer.Buffer.new.Goals as goal
