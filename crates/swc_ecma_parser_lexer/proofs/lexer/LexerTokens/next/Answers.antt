@@ -1,4 +1,5 @@
 use Rattle.std.proofs.Common.{refl, ◌∙◌}
+use Rattle.swc_ecma_parser_lexer.specs.declared.place.Place.{Place}
 use Rattle.swc_ecma_parser_lexer.proofs.Collections.{keeps_on, reads-token, same_place}
 use Rattle.swc_ecma_parser_lexer.proofs.Spelled.{spelled-draws, spelled-read}
 use Rattle.swc_ecma_parser_lexer.proofs.lexer.LexerTokens.next.Goals as goal
@@ -43,4 +44,5 @@ returns-clause-kept c =
 pub returns-in_default-clause-kept : goal.returns-in_default-clause-kept
 returns-in_default-clause-kept c =
     let found = c.find-found in
-    keeps_on _ _ _ _ (same_place _ _ _ found.result.place _ found.ensures.comments found.ensures.start refl refl)
+    let place : Place = record found.result.place { start = c.args.self.now.place.start } in
+    keeps_on _ _ _ place (same_place _ _ _ found.result.place place found.ensures.comments found.ensures.start refl refl)
