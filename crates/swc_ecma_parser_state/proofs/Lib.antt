@@ -6,4 +6,4 @@ pub mod Rejects
 mod Held
 mod Keeps
 mod Underway
-pub mod Kinds
+pub mod Ahead

@@ -22,7 +22,7 @@ use swc_ecma_parser_token::{Token, TokenAndSpan, TokenKind, Word};
 impl<O: Origin, I: Tokens> Cursor for Call<O, I> {
     ghost seen = { λ s. s };
 
-    #[tactic(auto, using(crate::proofs::Kinds::kind_first))]
+    #[tactic(auto, using(crate::proofs::Ahead::kind_first))]
     fn kind(&self) -> TokenKind {
         self.buffer.kind()
     }

@@ -52,7 +52,7 @@ impl<O: Origin, I: Tokens> Call<O, I> {
     }
 
     /// The kind of the token behind the current one.
-    #[tactic(auto, using(crate::proofs::Kinds::kind_second))]
+    #[tactic(auto, using(crate::proofs::Ahead::kind_second))]
     pub(crate) fn next_kind(&self) -> TokenKind
         ensures { result ≡ looks.kind_at (place.after self.now.at) }
     {
