@@ -8,7 +8,7 @@ use Rattle.swc_ecma_parser_grammar.specs.language.Goals.{assignment}
 use Rattle.swc_ecma_parser_reader.specs.State.{State}
 use Rattle.swc_ecma_parser_reader.specs.Reader.{expr}
 use Rattle.swc_ecma_parser_reader.proofs.Meets.{Refuses, meant}
-use Rattle.swc_ecma_parser_reader.proofs.expressions.NoBlocks.{NoBlock, no_block_read}
+use Rattle.swc_ecma_parser_soundness.proofs.expressions.NoBlocks.{NoBlock, no_block_read}
 
 -- no directive of it comes too late
 no_directive : (x : Tree) (plain : Bool) → is_block x ≡ false → misplaced_directive plain x ≡ []

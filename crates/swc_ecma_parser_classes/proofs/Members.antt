@@ -16,7 +16,7 @@ use Rattle.swc_ecma_parser_reader.specs.Reader.{closes, named, expr, member}
 use Rattle.swc_ecma_parser_reader.proofs.Falls.{member_falls}
 use Rattle.swc_ecma_parser_reader.proofs.Meets.{Meets, Refuses, meets_then, meets_if, meant}
 use Rattle.swc_ecma_parser_reader.proofs.Steps.{loop_err}
-use Rattle.swc_ecma_parser_reader.proofs.classes.Codes.{class_parts_code}
+use Rattle.swc_ecma_parser_soundness.proofs.classes.Codes.{class_parts_code}
 use Rattle.swc_ecma_parser_reader.proofs.classes.Loops.{told_leaves}
 use Rattle.swc_ecma_parser_reader.proofs.expressions.Loops.{shorter_by}
 use Rattle.swc_ecma_parser_reader.proofs.expressions.SoundSteps.{meets_as, name_sound}

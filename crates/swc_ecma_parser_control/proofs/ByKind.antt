@@ -11,7 +11,7 @@ use Rattle.swc_ecma_parser_grammar.specs.language.Goals.{expression}
 use Rattle.swc_ecma_parser_reader.specs.AwaitWords.{begins_await_using, stmt_behind_await}
 use Rattle.swc_ecma_parser_reader.specs.Reader.{stmt, expr, pattern, head_cover, parameters, member, operators, nests, plain_stmt, other_stmt, stmt_by, stmt_level}
 use Rattle.swc_ecma_parser_reader.specs.State.{State, Reader, GivesAs, moved}
-use Rattle.swc_ecma_parser_reader.proofs.AwaitWords.{begins_elsewhere, begins_behind}
+use Rattle.swc_ecma_parser_soundness.proofs.AwaitWords.{begins_elsewhere, begins_behind}
 
 -- the readers of what begins with a token of this kind
 abbrev pub by_kind : ℕ → Position → TokenKind → Reader Tree

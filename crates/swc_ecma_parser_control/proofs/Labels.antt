@@ -18,8 +18,8 @@ use Rattle.swc_ecma_parser_grammar.specs.language.Items.{labelled_item}
 use Rattle.swc_ecma_parser_cursor.specs.Labels.{LeavesLabel}
 use Rattle.swc_ecma_parser_reader.specs.State.{State, Outcome, Reader, and_then, ◌>>=◌, ◌>>◌, pure, reference, expect, since, coded, flagged, below, relabelled}
 use Rattle.swc_ecma_parser_reader.specs.Reader.{told, relabels, labelled_body, labeled_stmt, stmt}
-use Rattle.swc_ecma_parser_reader.proofs.Plain.{relabels_told, told_append, told_alike}
-use Rattle.swc_ecma_parser_reader.proofs.Sound.{stmt_code, stmt_scope}
+use Rattle.swc_ecma_parser_soundness.proofs.Plain.{relabels_told, told_append, told_alike}
+use Rattle.swc_ecma_parser_soundness.proofs.Sound.{stmt_code, stmt_scope}
 
 pub stepped : (v u : State) → ◌≡◌ {A = Outcome (Unit {0})} (Ok (tt, v)) (Ok (tt, u)) → v ≡ u
 stepped v u h = let q : ◌≡◌ {A = Unit {0} × State} (tt, v) (tt, u) = cc in ap (λ z. z.1) q

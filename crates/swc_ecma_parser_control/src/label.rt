@@ -6,7 +6,7 @@ ghost use Rattle.swc_ecma_parser_error.specs.Kind.{IsOutOfMemory};
 ghost use Rattle.swc_ecma_parser_grammar.specs.Own as own;
 ghost use Rattle.swc_ecma_parser_grammar.specs.language.Goals.{expression};
 ghost use Rattle.swc_ecma_parser_model.specs.Tree as tree;
-ghost use Rattle.swc_ecma_parser_reader.proofs.Plain.{duplicate};
+ghost use Rattle.swc_ecma_parser_soundness.proofs.Plain.{duplicate};
 ghost use Rattle.swc_ecma_parser_reader.specs.Reader as rules;
 ghost use Rattle.swc_ecma_parser_reader.specs.State.{Gives, GivesAs};
 
@@ -45,7 +45,7 @@ fn label_text<P: Cursor>(alloc: Global, p: &mut P, label: &Ident) -> PResult<Box
 }
 
 /// Records so many times that a label stands around already.
-#[tactic(auto, using(swc_ecma_parser_reader::proofs::Plain::told_none, swc_ecma_parser_reader::proofs::Plain::told_more, swc_ecma_parser_reader::proofs::Plain::told_err))]
+#[tactic(auto, using(swc_ecma_parser_soundness::proofs::Plain::told_none, swc_ecma_parser_soundness::proofs::Plain::told_more, swc_ecma_parser_soundness::proofs::Plain::told_err))]
 fn duplicate<P: Cursor>(alloc: Global, p: &mut P, label: &Ident, times: usize) -> PResult<()>
     ensures { Gives (rules.told (replicate times (duplicate label.now.span)) (P.seen p.old)) result
         (P.seen p.new) }
@@ -60,7 +60,7 @@ fn duplicate<P: Cursor>(alloc: Global, p: &mut P, label: &Ident, times: usize) -
 }
 
 /// Records each equal label around.
-#[tactic(auto, using(swc_ecma_parser_reader::proofs::Plain::duplicates_counted))]
+#[tactic(auto, using(swc_ecma_parser_soundness::proofs::Plain::duplicates_counted))]
 #[inline(never)]
 fn duplicates<P: Cursor>(alloc: Global, p: &mut P, label: &Ident) -> PResult<()>
     ensures { Gives
@@ -122,7 +122,7 @@ fn labelled_body<P: Cursor, T: Trees, G: Readers<P, T>>(
 }
 
 /// A statement with a label.
-#[tactic(auto, unfolding(swc_ecma_parser_reader::specs::Reader::labeled_stmt), using(swc_ecma_parser_reader::proofs::Plain::relabels_told))]
+#[tactic(auto, unfolding(swc_ecma_parser_reader::specs::Reader::labeled_stmt), using(swc_ecma_parser_soundness::proofs::Plain::relabels_told))]
 #[inline(never)]
 fn labeled_stmt<P: Cursor, T: BuildsControl + BuildsBlock, G: Readers<P, T>>(
     g: &G,

@@ -72,7 +72,7 @@ fn async_or_other<
 
 /// A statement without decorators, by its first token: first whether `await using` declares here, then by the kind of that token. A
 /// class and a `var` are read by the caller, so neither begins here.
-#[tactic(auto, unfolding(swc_ecma_parser_reader::specs::Reader::stmt_level), using(swc_ecma_parser_reader::proofs::AwaitWords::begins_behind, swc_ecma_parser_reader::proofs::AwaitWords::begins_elsewhere))]
+#[tactic(auto, unfolding(swc_ecma_parser_reader::specs::Reader::stmt_level), using(swc_ecma_parser_soundness::proofs::AwaitWords::begins_behind, swc_ecma_parser_soundness::proofs::AwaitWords::begins_elsewhere))]
 pub fn level<
     P: Cursor,
     T: BuildsPattern

@@ -5,8 +5,8 @@ use Rattle.swc_ecma_parser_input.specs.TokenSource.{ordered_from}
 use Rattle.swc_ecma_parser_model.specs.Tree.{Tree}
 use Rattle.swc_ecma_parser_reader.specs.Entry.{unmarked, AnswersScript, AnswersStatement}
 use Rattle.swc_ecma_parser_reader.specs.State.{State}
-use Rattle.swc_ecma_parser_reader.proofs.Entries as scripts
-use Rattle.swc_ecma_parser_reader.proofs.Statements as statements
+use Rattle.swc_ecma_parser_completeness.proofs.Entries as scripts
+use Rattle.swc_ecma_parser_completeness.proofs.Statements as statements
 use Rattle.swc_ecma_parser_module_reader.specs.Entry.{IsEntered, AnswersModule}
 use Rattle.swc_ecma_parser_module_reader.specs.ItemEntry.{AnswersItem}
 use Rattle.swc_ecma_parser_module_reader.specs.ProgramEntry.{AnswersProgram}

@@ -8,7 +8,7 @@ use Rattle.swc_ecma_parser_grammar.specs.language.Programs as programs
 use Rattle.swc_ecma_parser_grammar.specs.language.Programs.{script_awaits, Spells}
 use Rattle.swc_ecma_parser_reader.specs.Entry.{SoundScript, script_walk, script_left, SoundStatement, statement_entry, statement_walk, statement_left}
 use Rattle.swc_ecma_parser_reader.specs.State.{State, GivesAs, Outcome}
-use Rattle.swc_ecma_parser_reader.proofs.expressions.Covers.{same_answer}
+use Rattle.swc_ecma_parser_soundness.proofs.expressions.Covers.{same_answer}
 use Rattle.swc_ecma_parser_exactness.specs.Completes.{CompletesScript, CompletesStatement}
 use Rattle.swc_ecma_parser_exactness.specs.Decides.{IsAnswer, Decides, DecidesScript, DecidesStatement}
 

@@ -6,7 +6,7 @@ use Rattle.swc_ecma_parser_grammar.specs.Names.{Code}
 use Rattle.swc_ecma_parser_grammar.specs.language.Programs as programs
 use Rattle.swc_ecma_parser_grammar.specs.language.Programs.{ReadsEntry}
 use Rattle.swc_ecma_parser_reader.specs.Entry.{ReadsSupportedScript}
-use Rattle.swc_ecma_parser_reader.proofs.Unique as scripts
+use Rattle.swc_ecma_parser_completeness.proofs.Unique as scripts
 use Rattle.swc_ecma_parser_module_reader.specs.Entry.{ReadsSupportedModule}
 use Rattle.swc_ecma_parser_module_reader.specs.ProgramEntry.{ReadsProgram, ReadsSupportedProgram}
 use Rattle.swc_ecma_parser_module_reader.specs.Programs.{program_code}

@@ -11,10 +11,10 @@ use Rattle.swc_ecma_parser_cursor.specs.declared.around.Around.{Around}
 use Rattle.swc_ecma_parser_reader.specs.State.{State, Reader, and_then, coded, flagged, within, enclosed, unlabelled, relabelled, found_as}
 use Rattle.swc_ecma_parser_reader.specs.Reader.{stmt, braced, parameters}
 use Rattle.swc_ecma_parser_reader.proofs.Meets.{Refuses, meant}
-use Rattle.swc_ecma_parser_reader.proofs.Sound.{parameters_sound, stmt_sound}
-use Rattle.swc_ecma_parser_reader.proofs.SoundFunctions.{SoundBraces, InBraces, braces_sound}
-use Rattle.swc_ecma_parser_reader.proofs.SoundParts.{code_module}
-use Rattle.swc_ecma_parser_reader.proofs.patterns.Sound.{SoundParams}
+use Rattle.swc_ecma_parser_soundness.proofs.Sound.{parameters_sound, stmt_sound}
+use Rattle.swc_ecma_parser_soundness.proofs.SoundFunctions.{SoundBraces, InBraces, braces_sound}
+use Rattle.swc_ecma_parser_soundness.proofs.SoundParts.{code_module}
+use Rattle.swc_ecma_parser_soundness.proofs.patterns.Sound.{SoundParams}
 
 -- parameters leave the code as it was
 pub parameters_code : (n : ℕ) (s : State) (ps : List Tree) (t : State) → parameters n s ≡ Ok (ps, t) → t.code ≡ s.code

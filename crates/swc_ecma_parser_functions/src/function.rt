@@ -314,7 +314,7 @@ pub fn function_parts_with<P: Cursor, T: BuildsFunction + BuildsPattern, G: Read
 }
 
 /// A function without decorators, from behind its name.
-#[tactic(auto, using(swc_ecma_parser_reader::proofs::decorators::Dressed::function_parts_plain))]
+#[tactic(auto, using(swc_ecma_parser_soundness::proofs::decorators::Dressed::function_parts_plain))]
 pub fn function_parts<P: Cursor, T: BuildsFunction + BuildsPattern, G: Readers<P, T>>(
     g: &G,
     t: &MakerOf<T>,

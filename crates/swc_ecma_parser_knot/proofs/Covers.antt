@@ -20,7 +20,7 @@ use Rattle.swc_ecma_parser_knot.specs.Covering.{covered, covered_level}
 use Rattle.swc_ecma_parser_knot.specs.declared.covering.Covering.{Covering}
 use Rattle.swc_ecma_parser_knot.specs.declared.covering.Covering.TheVariants as covering
 use Rattle.swc_ecma_parser_knot.proofs.Refusals.{too_deep_as}
-use Rattle.swc_ecma_parser_reader.proofs.AwaitWords.{await_lowest, await_above}
+use Rattle.swc_ecma_parser_soundness.proofs.AwaitWords.{await_lowest, await_above}
 
 module _ (n : ℕ) (s : State) where
   pub covered_refused : (place : Covering) (e : Fault × State) → n ≡ 0 → ◌≡◌ {A = Outcome Tree} (too_deep s) (Err e) → covered n place s ≡ Err e

@@ -20,10 +20,10 @@ use Rattle.swc_ecma_parser_reader.specs.Members.{class_stmt}
 use Rattle.swc_ecma_parser_reader.proofs.Meets.{saw}
 use Rattle.swc_ecma_parser_reader.proofs.Words.{async_kind}
 use Rattle.swc_ecma_parser_reader.proofs.Loops.{stmt_above}
-use Rattle.swc_ecma_parser_reader.proofs.decorators.Declared.{level_class}
-use Rattle.swc_ecma_parser_reader.proofs.decorators.Dressed.{behind_class, behind_function, behind_async, function_parts_plain}
+use Rattle.swc_ecma_parser_soundness.proofs.decorators.Declared.{level_class}
+use Rattle.swc_ecma_parser_soundness.proofs.decorators.Dressed.{behind_class, behind_function, behind_async, function_parts_plain}
 use Rattle.swc_ecma_parser_reader.proofs.decorators.Either.{either_decorated, either_plain}
-use Rattle.swc_ecma_parser_reader.proofs.expressions.SoundSteps.{unseen}
+use Rattle.swc_ecma_parser_soundness.proofs.expressions.SoundSteps.{unseen}
 use Rattle.swc_ecma_parser_reader.proofs.First.{first_at}
 use Rattle.swc_ecma_parser_model.specs.Tree as tree
 use Rattle.swc_ecma_parser_model.specs.Tree.{Tree}

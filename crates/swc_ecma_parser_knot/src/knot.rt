@@ -348,7 +348,7 @@ fn decorated<P: Cursor, T: BuildsStatements>(
 
 /// An object alone, whatever stands behind it, in so many levels: what the attributes of an import are.
 #[cycle(knot)]
-#[tactic(auto, using(swc_ecma_parser_reader::proofs::Objects::object_lowest, swc_ecma_parser_reader::proofs::Objects::object_above))]
+#[tactic(auto, using(swc_ecma_parser_soundness::proofs::Objects::object_lowest, swc_ecma_parser_soundness::proofs::Objects::object_above))]
 #[inline(never)]
 pub fn object_alone<P: Cursor, T: BuildsStatements>(
     t: &MakerOf<T>,
@@ -384,7 +384,7 @@ fn member<P: Cursor, T: BuildsStatements>(
 
 /// A class as its parts, with what stands in it in so many levels.
 #[cycle(knot)]
-#[tactic(auto, using(swc_ecma_parser_reader::proofs::decorators::Dressed::class_expr_plain))]
+#[tactic(auto, using(swc_ecma_parser_soundness::proofs::decorators::Dressed::class_expr_plain))]
 pub fn inner_class<P: Cursor, T: BuildsStatements>(
     t: &MakerOf<T>,
     p: &mut P,
@@ -419,7 +419,7 @@ pub fn inner_class_with<P: Cursor, T: BuildsStatements>(
 
 /// A class that is declared, with what stands in it in so many levels.
 #[cycle(knot)]
-#[tactic(auto, using(swc_ecma_parser_reader::proofs::decorators::Dressed::class_decl_plain))]
+#[tactic(auto, using(swc_ecma_parser_soundness::proofs::decorators::Dressed::class_decl_plain))]
 pub fn declared_class<P: Cursor, T: BuildsStatements>(
     t: &MakerOf<T>,
     p: &mut P,

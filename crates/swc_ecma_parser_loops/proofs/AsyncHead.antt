@@ -10,7 +10,7 @@ use Rattle.swc_ecma_parser_grammar.specs.language.Contexts.{without_in}
 use Rattle.swc_ecma_parser_reader.specs.State.{State, coded}
 use Rattle.swc_ecma_parser_reader.specs.HeadWords.{behind_async}
 use Rattle.swc_ecma_parser_reader.specs.Reader.{Opening, async_or_expression, expr, pattern, head_cover}
-use Rattle.swc_ecma_parser_reader.proofs.HeadWords.{async_code, async_refused, async_refused_behind}
+use Rattle.swc_ecma_parser_soundness.proofs.HeadWords.{async_code, async_refused, async_refused_behind}
 
 module _ (n : ℕ) (s m : State) (inside : m ≡ coded (without_in s.code) s) (w : word_at (codes "async") s.at ≡ true) (o : word_at (codes "of") (after s.at) ≡ true) (b : breaks_at (after s.at) ≡ false) where
   pub refused : (e : Fault × State) → pattern n m ≡ Err e → async_or_expression (expr n) (pattern n) (head_cover n) s ≡ Err e

@@ -6,8 +6,8 @@ use Rattle.swc_ecma_parser_model.specs.Targets.{leaf, as_target, as_elements, as
 use Rattle.swc_ecma_parser_grammar.specs.Own.{head_faults}
 use Rattle.swc_ecma_parser_reader.specs.State.{State}
 use Rattle.swc_ecma_parser_reader.specs.Expressions as exprs
-use Rattle.swc_ecma_parser_reader.proofs.expressions.Covers.{target_is}
-use Rattle.swc_ecma_parser_reader.proofs.expressions.Targets.{simple_is, some_array, some_object}
+use Rattle.swc_ecma_parser_soundness.proofs.expressions.Covers.{target_is}
+use Rattle.swc_ecma_parser_soundness.proofs.expressions.Targets.{simple_is, some_array, some_object}
 
 leaf_declares : (refused : Bool) (x : Tree) → head_faults refused (leaf x) ≡ []
 leaf_declares refused (tree.ident s text) = refl

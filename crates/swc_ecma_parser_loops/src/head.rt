@@ -175,7 +175,7 @@ fn using_head<P: Cursor, T: BuildsPattern + BuildsVariables, G: Readers<P, T>>(
 }
 
 /// A name before another: `using` declares where `in` or `of` stands behind that.
-#[tactic(auto, unfolding(swc_ecma_parser_reader::specs::Reader::named_head, swc_ecma_parser_grammar::specs::scaffold::Using::stands_in_head), using(swc_ecma_parser_reader::proofs::HeadWords::pattern_declares))]
+#[tactic(auto, unfolding(swc_ecma_parser_reader::specs::Reader::named_head, swc_ecma_parser_grammar::specs::scaffold::Using::stands_in_head), using(swc_ecma_parser_soundness::proofs::HeadWords::pattern_declares))]
 fn named_head<P: Cursor, T: BuildsPattern + BuildsVariables, G: Readers<P, T>>(
     g: &G,
     t: &MakerOf<T>,
@@ -270,7 +270,7 @@ fn behind_async<P: Cursor, T: BuildsPattern + BuildsVariables, G: Readers<P, T>>
 }
 
 /// `async` before `of` on its line: the name alone, or an arrow function whose parameter is `of`.
-#[tactic(auto, using(swc_ecma_parser_reader::proofs::HeadWords::async_refused, swc_ecma_parser_reader::proofs::HeadWords::async_reads, swc_ecma_parser_reader::proofs::HeadWords::async_refused_behind, swc_ecma_parser_reader::proofs::HeadWords::pattern_declares))]
+#[tactic(auto, using(swc_ecma_parser_soundness::proofs::HeadWords::async_refused, swc_ecma_parser_soundness::proofs::HeadWords::async_reads, swc_ecma_parser_soundness::proofs::HeadWords::async_refused_behind, swc_ecma_parser_soundness::proofs::HeadWords::pattern_declares))]
 fn async_head<P: Cursor, T: BuildsPattern + BuildsVariables, G: Readers<P, T>>(
     g: &G,
     t: &MakerOf<T>,
@@ -295,7 +295,7 @@ fn async_head<P: Cursor, T: BuildsPattern + BuildsVariables, G: Readers<P, T>>(
 }
 
 /// An expression that may still become a target, or `async` alone.
-#[tactic(auto, using(swc_ecma_parser_reader::proofs::HeadWords::other_target, swc_ecma_parser_reader::proofs::HeadWords::async_target))]
+#[tactic(auto, using(swc_ecma_parser_soundness::proofs::HeadWords::other_target, swc_ecma_parser_soundness::proofs::HeadWords::async_target))]
 fn head_target<P: Cursor, T: BuildsPattern + BuildsVariables, G: Readers<P, T>>(
     g: &G,
     t: &MakerOf<T>,

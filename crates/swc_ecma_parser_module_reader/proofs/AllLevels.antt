@@ -17,13 +17,13 @@ use Rattle.swc_ecma_parser_reader.specs.Notes.{Notes, ◌⊕◌, notes_of, all_n
 use Rattle.swc_ecma_parser_reader.specs.State.{Scope}
 use Rattle.swc_ecma_parser_reader.specs.Methods.{star}
 use Rattle.swc_ecma_parser_reader.specs.Reader.{stmt, parameters, function_body, function_word, block_from, braced, closes}
-use Rattle.swc_ecma_parser_reader.proofs.Answered.{st}
-use Rattle.swc_ecma_parser_reader.proofs.Below.{Below}
-use Rattle.swc_ecma_parser_reader.proofs.Complete.{parts_read, stmt_reads}
-use Rattle.swc_ecma_parser_reader.proofs.CompleteParts.{behind_setting, close_reads, closes_at, expect_reads, items_read, code_behind}
+use Rattle.swc_ecma_parser_completeness.proofs.Answered.{st}
+use Rattle.swc_ecma_parser_completeness.proofs.Below.{Below}
+use Rattle.swc_ecma_parser_completeness.proofs.Complete.{parts_read, stmt_reads}
+use Rattle.swc_ecma_parser_completeness.proofs.CompleteParts.{behind_setting, close_reads, closes_at, expect_reads, items_read, code_behind}
 use Rattle.swc_ecma_parser_reader.proofs.Errors.{is_error}
 use Rattle.swc_ecma_parser_reader.proofs.Loops.{stmt_shorter}
-use Rattle.swc_ecma_parser_reader.proofs.Opens.{stmt_goes}
+use Rattle.swc_ecma_parser_completeness.proofs.Opens.{stmt_goes}
 use Rattle.swc_ecma_parser_reader.proofs.Words.{plain_function, async_stands}
 use Rattle.swc_ecma_parser_reader.proofs.expressions.CompleteKinds.{seen}
 

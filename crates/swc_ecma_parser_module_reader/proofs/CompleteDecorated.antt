@@ -39,17 +39,17 @@ use Rattle.swc_ecma_parser_reader.specs.Members.{class_decl, class_expr}
 use Rattle.swc_ecma_parser_reader.specs.Notes.{Notes, ◌⊕◌, notes_of}
 use Rattle.swc_ecma_parser_reader.specs.Reader.{expr, pattern, member, parameters, object_alone, stmt, function_decl}
 use Rattle.swc_ecma_parser_reader.specs.State.{Scope, State, Outcome, Reader, and_then}
-use Rattle.swc_ecma_parser_reader.proofs.Answered.{st, Calm, ReadsCalm}
+use Rattle.swc_ecma_parser_completeness.proofs.Answered.{st, Calm, ReadsCalm}
 use Rattle.swc_ecma_parser_reader.proofs.Between.{nil-split}
-use Rattle.swc_ecma_parser_reader.proofs.Complete.{member_reads}
-use Rattle.swc_ecma_parser_reader.proofs.Calm.{calm_last}
+use Rattle.swc_ecma_parser_completeness.proofs.Complete.{member_reads}
+use Rattle.swc_ecma_parser_completeness.proofs.Calm.{calm_last}
 use Rattle.swc_ecma_parser_reader.proofs.Meets.{saw}
 use Rattle.swc_ecma_parser_reader.proofs.Notes.{notes_assoc}
-use Rattle.swc_ecma_parser_reader.proofs.Opens.{let_stands}
+use Rattle.swc_ecma_parser_completeness.proofs.Opens.{let_stands}
 use Rattle.swc_ecma_parser_reader.proofs.Words.{async_kind, async_stands}
-use Rattle.swc_ecma_parser_reader.proofs.classes.CompleteClasses.{class_decl_reads, class_expr_reads}
-use Rattle.swc_ecma_parser_reader.proofs.decorators.Leading.{leading_reads}
-use Rattle.swc_ecma_parser_reader.proofs.decorators.Levels.{decorated_in_reads}
+use Rattle.swc_ecma_parser_completeness.proofs.classes.CompleteClasses.{class_decl_reads, class_expr_reads}
+use Rattle.swc_ecma_parser_completeness.proofs.decorators.Leading.{leading_reads}
+use Rattle.swc_ecma_parser_completeness.proofs.decorators.Levels.{decorated_in_reads}
 use Rattle.swc_ecma_parser_reader.proofs.Falls.{decorated_in_falls}
 use Rattle.swc_ecma_parser_module_reader.specs.Decorated.{with_decorators, none_before, begins_decorators, no_leading, later_alone, later, decorating, by_default, named_with, default_with, behind_export, behind_default_word, export_from, export_item}
 use Rattle.swc_ecma_parser_module_reader.specs.Exports.{default_function, exported, export_decl}

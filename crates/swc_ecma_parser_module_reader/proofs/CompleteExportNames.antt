@@ -42,15 +42,17 @@ use Rattle.swc_ecma_parser_grammar.proofs.Unnoted.{joined}
 use Rattle.swc_ecma_parser_reader.specs.Notes.{Notes, no_notes, ◌⊕◌, notes_of}
 use Rattle.swc_ecma_parser_reader.specs.Reader.{expr, pattern, member, parameters, object_alone, stmt}
 use Rattle.swc_ecma_parser_reader.specs.State.{Scope, State, Outcome, Reader, moved}
-use Rattle.swc_ecma_parser_reader.proofs.Answered.{st, ReadsCalm}
-use Rattle.swc_ecma_parser_reader.proofs.Calm.{told_reads, calm_same, calm_before}
-use Rattle.swc_ecma_parser_reader.proofs.CompleteParts.{ends_read}
+use Rattle.swc_ecma_parser_completeness.proofs.Answered.{st, ReadsCalm}
+use Rattle.swc_ecma_parser_completeness.proofs.Calm.{told_reads, calm_same, calm_before}
+use Rattle.swc_ecma_parser_completeness.proofs.CompleteParts.{ends_read}
 use Rattle.swc_ecma_parser_reader.proofs.Errors.{is_error}
 use Rattle.swc_ecma_parser_reader.proofs.Notes.{or_nil}
 use Rattle.swc_ecma_parser_reader.proofs.Words.{async_kind, or_later}
-use Rattle.swc_ecma_parser_reader.proofs.expressions.CompleteKinds.{seen, token_first, named_word}
-use Rattle.swc_ecma_parser_reader.proofs.expressions.PartEnds.{no_async_function}
-use Rattle.swc_ecma_parser_reader.proofs.expressions.SoundSteps.{word_span}
+use Rattle.swc_ecma_parser_reader.proofs.expressions.CompleteKinds.{seen}
+use Rattle.swc_ecma_parser_soundness.proofs.expressions.CompleteKinds.{token_first}
+use Rattle.swc_ecma_parser_completeness.proofs.expressions.CompleteKinds.{named_word}
+use Rattle.swc_ecma_parser_soundness.proofs.expressions.PartEnds.{no_async_function}
+use Rattle.swc_ecma_parser_soundness.proofs.expressions.SoundSteps.{word_span}
 use Rattle.swc_ecma_parser_module_reader.specs.Imports.{attributes, specifiers}
 use Rattle.swc_ecma_parser_module_reader.specs.Exports.{renamed_export, plain_export, export_specifier, export_namespace, names_from, own_names, export_names, more_names, namespace_names, export_all, export_star, is_namespace_next, behind_default, is_name_from, name_from, is_default_from, default_from, begins_default_function, default_rest, export_default, export_rest, export_named, export_decl}
 use Rattle.swc_ecma_parser_module_reader.proofs.ModuleCode.{IsModule, module_env}

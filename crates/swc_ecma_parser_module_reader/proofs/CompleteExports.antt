@@ -43,18 +43,19 @@ use Rattle.swc_ecma_parser_reader.specs.Members.{class_decl}
 use Rattle.swc_ecma_parser_reader.specs.Notes.{Notes, ◌⊕◌, notes_of, all_notes_of}
 use Rattle.swc_ecma_parser_reader.specs.Reader.{expr, pattern, member, parameters, object_alone, stmt, stmt_level, const_stmt, let_stmt, function_stmt, async_or_other, variables, function_decl, function_parts, misdirected, named, await_using_or}
 use Rattle.swc_ecma_parser_reader.specs.State.{Scope, State, Reader, moved}
-use Rattle.swc_ecma_parser_reader.proofs.Answered.{st, ReadsCalm}
-use Rattle.swc_ecma_parser_reader.proofs.Below.{expr_reads, parameters_reads}
+use Rattle.swc_ecma_parser_completeness.proofs.Answered.{st, ReadsCalm}
+use Rattle.swc_ecma_parser_completeness.proofs.Below.{expr_reads, parameters_reads}
 use Rattle.swc_ecma_parser_reader.proofs.Between.{nil-split}
-use Rattle.swc_ecma_parser_reader.proofs.Complete.{member_reads, stmt_reads}
-use Rattle.swc_ecma_parser_reader.proofs.Calm.{told_reads, calm_same, calm_last, calm_before}
-use Rattle.swc_ecma_parser_reader.proofs.CompleteParts.{ends_read}
+use Rattle.swc_ecma_parser_completeness.proofs.Complete.{member_reads, stmt_reads}
+use Rattle.swc_ecma_parser_completeness.proofs.Calm.{told_reads, calm_same, calm_last, calm_before}
+use Rattle.swc_ecma_parser_completeness.proofs.CompleteParts.{ends_read}
 use Rattle.swc_ecma_parser_reader.proofs.Meets.{saw}
-use Rattle.swc_ecma_parser_reader.proofs.Opens.{let_stands}
-use Rattle.swc_ecma_parser_reader.proofs.SoundFunctions.{parameters_walk, parameters_notes}
+use Rattle.swc_ecma_parser_completeness.proofs.Opens.{let_stands}
+use Rattle.swc_ecma_parser_soundness.proofs.SoundFunctions.{parameters_walk, parameters_notes}
 use Rattle.swc_ecma_parser_reader.proofs.Words.{async_kind, async_stands}
-use Rattle.swc_ecma_parser_reader.proofs.classes.CompleteClasses.{class_decl_reads, class_expr_reads}
-use Rattle.swc_ecma_parser_reader.proofs.expressions.CompleteKinds as kinds
+use Rattle.swc_ecma_parser_completeness.proofs.classes.CompleteClasses.{class_decl_reads, class_expr_reads}
+use Rattle.swc_ecma_parser_completeness.proofs.expressions.CompleteKinds as kinds
+use Rattle.swc_ecma_parser_soundness.proofs.expressions.CompleteKinds as sound_kinds
 use Rattle.swc_ecma_parser_reader.proofs.expressions.CompleteKinds.{seen}
 use Rattle.swc_ecma_parser_module_reader.specs.Exports.{begins_default_function, is_default_from, default_name, default_function, default_expr, exported_function, exported_class, default_rest, export_default, exported, export_rest, export_named, export_decl}
 use Rattle.swc_ecma_parser_module_reader.specs.Supported.{supported_item}
@@ -228,7 +229,7 @@ module _ (n : ℕ) (k : Code) (o : IsModule k) where
 
   default_name_reads : (x : Tree) (c d : Place) (w : Scope) (f : List Fault) (h : Notes) → OptionalName k x c d → kind_at d ≡ kind.LParen → default_name (st c k w f h) ≡ Ok (x, st d k w f h)
   unfolding default_name named
-  default_name_reads x c d w f h (no_name e g) p = rw ((kinds.paren_here k.flags c (ap kind_at (sym e) ∙ p)).0, e, g) refl
+  default_name_reads x c d w f h (no_name e g) p = rw ((sound_kinds.paren_here k.flags c (ap kind_at (sym e) ∙ p)).0, e, g) refl
   default_name_reads x c d w f h (a_name text s r e) p =
       rw (kinds.named_word r.word s c d k r.reads_word (name_is_name k text s c d r), name_reads faults.ExpectedIdent text s c d k w f h r, e) refl
 

@@ -39,11 +39,13 @@ use Rattle.swc_ecma_parser_grammar.proofs.Tests.{and_yes, or_no}
 use Rattle.swc_ecma_parser_reader.specs.Notes.{Notes, ◌⊕◌, notes_of}
 use Rattle.swc_ecma_parser_reader.specs.Reader.{object_alone}
 use Rattle.swc_ecma_parser_reader.specs.State.{Scope, Outcome, Reader}
-use Rattle.swc_ecma_parser_reader.proofs.Answered as answered
-use Rattle.swc_ecma_parser_reader.proofs.Answered.{st}
-use Rattle.swc_ecma_parser_reader.proofs.CompleteParts.{ends_read}
+use Rattle.swc_ecma_parser_completeness.proofs.Answered as answered
+use Rattle.swc_ecma_parser_completeness.proofs.Answered.{st}
+use Rattle.swc_ecma_parser_completeness.proofs.CompleteParts.{ends_read}
 use Rattle.swc_ecma_parser_reader.proofs.Takes.{moves, takes_one}
-use Rattle.swc_ecma_parser_reader.proofs.expressions.CompleteKinds.{seen, token_first, named_word}
+use Rattle.swc_ecma_parser_reader.proofs.expressions.CompleteKinds.{seen}
+use Rattle.swc_ecma_parser_soundness.proofs.expressions.CompleteKinds.{token_first}
+use Rattle.swc_ecma_parser_completeness.proofs.expressions.CompleteKinds.{named_word}
 use Rattle.swc_ecma_parser_module_reader.specs.Imports.{other_name, import_specifier, binding_name, import_namespace, bindings, more_bindings, default_binding, import_clause, imported, import_from, phase_of, import_phased, is_phase_word, import_decl, str, source, begins_bindings, begins_clause, import_unphased}
 use Rattle.swc_ecma_parser_module_reader.specs.Modules.{begins_import}
 use Rattle.swc_ecma_parser_module_reader.specs.Supported.{supported_item}

@@ -22,7 +22,7 @@ use Rattle.swc_ecma_parser_grammar.specs.language.Reads.{Reads}
 use Rattle.swc_ecma_parser_grammar.proofs.StatementEntries.{statement_narrows}
 use Rattle.swc_ecma_parser_grammar.proofs.Tests.{and_both}
 use Rattle.swc_ecma_parser_reader.specs.State.{State}
-use Rattle.swc_ecma_parser_reader.proofs.CompleteScripts.{whole_reads}
+use Rattle.swc_ecma_parser_completeness.proofs.CompleteScripts.{whole_reads}
 use Rattle.swc_ecma_parser_reader.proofs.Errors.{is_error}
 use Rattle.swc_ecma_parser_module_reader.specs.Programs.{begins_module}
 use Rattle.swc_ecma_parser_module_reader.specs.Supported.{supported_item, is_led, OrderedFor}
@@ -36,7 +36,7 @@ use Rattle.swc_ecma_parser_module_reader.proofs.ItemStarts.{stmt_starts, stateme
 use Rattle.swc_ecma_parser_module_reader.proofs.ProgramParts.{import_walk, export_walk, export_module, word_seen, export_word_seen}
 use Rattle.swc_ecma_parser_grammar.specs.language.Noted.{has_meta}
 use Rattle.swc_ecma_parser_reader.specs.Notes.{Notes, ◌⊕◌, notes_of, notes_with}
-use Rattle.swc_ecma_parser_reader.proofs.Answered.{st, Calm}
+use Rattle.swc_ecma_parser_completeness.proofs.Answered.{st, Calm}
 use Rattle.swc_ecma_parser_reader.proofs.Notes.{or_nil, or_assoc}
 use Rattle.swc_ecma_parser_reader.proofs.expressions.CompleteKinds.{seen}
 use Rattle.swc_ecma_parser_module_reader.specs.Decorated.{begins_decorators}

@@ -28,7 +28,7 @@ use Rattle.swc_ecma_parser_reader.specs.Members.{class_decl, class_expr}
 use Rattle.swc_ecma_parser_reader.specs.Notes.{Notes, ◌⊕◌, notes_of}
 use Rattle.swc_ecma_parser_reader.specs.Reader.{expr, pattern, member, parameters, object_alone, function_decl, whole_stmt}
 use Rattle.swc_ecma_parser_reader.specs.State.{Scope, State, Reader, loop}
-use Rattle.swc_ecma_parser_reader.proofs.Answered.{st, Calm}
+use Rattle.swc_ecma_parser_completeness.proofs.Answered.{st, Calm}
 use Rattle.swc_ecma_parser_reader.proofs.Steps.{loop_done}
 use Rattle.swc_ecma_parser_reader.proofs.Words.{async_kind, async_stands}
 use Rattle.swc_ecma_parser_module_reader.specs.Decorated.{with_decorators, later, decorating, by_default, named_with, default_with, behind_export, behind_default_word, export_from, export_with, begins_decorators}
@@ -41,18 +41,18 @@ use Rattle.swc_ecma_parser_module_reader.proofs.DecoratedForms.{Takes, before_wa
 use Rattle.swc_ecma_parser_module_reader.proofs.ItemStarts.{exported_behind, default_behind}
 use Rattle.swc_ecma_parser_module_reader.proofs.ModuleCode.{IsModule}
 use Rattle.swc_ecma_parser_module_reader.proofs.SoundLed.{before_one}
-use Rattle.swc_ecma_parser_reader.proofs.decorators.CompleteStatements.{same_list}
+use Rattle.swc_ecma_parser_completeness.proofs.decorators.CompleteStatements.{same_list}
 use Rattle.swc_ecma_parser_grammar.specs.scaffold.Decorated.{plain_statement, decorated_statement}
 use Rattle.swc_ecma_parser_grammar.specs.scaffold.ReadsSupported.{ReadsTop, ReadsStmt}
 use Rattle.swc_ecma_parser_grammar.proofs.SupportedIn.{lift_in}
 use Rattle.swc_ecma_parser_reader.specs.DecoratedStatements.{begins_declared}
-use Rattle.swc_ecma_parser_reader.proofs.Calm.{calm_last}
+use Rattle.swc_ecma_parser_completeness.proofs.Calm.{calm_last}
 use Rattle.swc_ecma_parser_reader.proofs.Falls.{decorated_in_falls}
-use Rattle.swc_ecma_parser_reader.proofs.Opens.{plain_goes}
-use Rattle.swc_ecma_parser_reader.proofs.decorators.Declared.{declared_by, no_declared, declared_begins}
-use Rattle.swc_ecma_parser_reader.proofs.decorators.Leading.{leading_reads}
-use Rattle.swc_ecma_parser_reader.proofs.decorators.Levels.{decorated_in_reads}
-use Rattle.swc_ecma_parser_reader.proofs.expressions.Covers.{same_answer}
+use Rattle.swc_ecma_parser_completeness.proofs.Opens.{plain_goes}
+use Rattle.swc_ecma_parser_soundness.proofs.decorators.Declared.{declared_by, no_declared, declared_begins}
+use Rattle.swc_ecma_parser_completeness.proofs.decorators.Leading.{leading_reads}
+use Rattle.swc_ecma_parser_completeness.proofs.decorators.Levels.{decorated_in_reads}
+use Rattle.swc_ecma_parser_soundness.proofs.expressions.Covers.{same_answer}
 use Rattle.swc_ecma_parser_module_reader.specs.Programs.{begins_module}
 use Rattle.swc_ecma_parser_module_reader.proofs.DecoratedItems.{signs, item_cases}
 

@@ -30,14 +30,14 @@ use Rattle.swc_ecma_parser_reader.specs.DecoratorLevels.{decorated_in}
 use Rattle.swc_ecma_parser_reader.specs.Notes.{Notes, ◌⊕◌, notes_of, notes_with, all_notes_with}
 use Rattle.swc_ecma_parser_reader.specs.State.{Scope, State, loop, Outcome, and_then}
 use Rattle.swc_ecma_parser_reader.specs.Reader.{expr, pattern, member, stmt, parameters, object_alone, directs, items_turn, items, at_end}
-use Rattle.swc_ecma_parser_reader.proofs.Answered.{st, Calm}
+use Rattle.swc_ecma_parser_completeness.proofs.Answered.{st, Calm}
 use Rattle.swc_ecma_parser_reader.proofs.Between.{nil-split}
-use Rattle.swc_ecma_parser_reader.proofs.CompleteParts.{at_end_at, directs_behind, shebang_reads}
-use Rattle.swc_ecma_parser_reader.proofs.CompleteScripts.{whole_reads}
+use Rattle.swc_ecma_parser_completeness.proofs.CompleteParts.{at_end_at, directs_behind, shebang_reads}
+use Rattle.swc_ecma_parser_completeness.proofs.CompleteScripts.{whole_reads}
 use Rattle.swc_ecma_parser_reader.proofs.Errors.{is_error}
 use Rattle.swc_ecma_parser_reader.proofs.Loops.{items_stop, items_more}
 use Rattle.swc_ecma_parser_reader.proofs.Notes.{or_nil, or_true, notes_assoc}
-use Rattle.swc_ecma_parser_reader.proofs.Opens.{stmt_goes}
+use Rattle.swc_ecma_parser_completeness.proofs.Opens.{stmt_goes}
 use Rattle.swc_ecma_parser_module_reader.specs.Decorated.{export_item, begins_decorators}
 use Rattle.swc_ecma_parser_module_reader.specs.Modules.{begins_import, import_in, export_in, module_item, module_code, module_body, module_whole, decorated_item, item_behind}
 use Rattle.swc_ecma_parser_module_reader.specs.Supported.{supported_item, all_supported_items, supported_module, is_led, any_led, any_led_in, OrderedFor}

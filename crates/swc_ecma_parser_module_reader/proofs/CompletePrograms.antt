@@ -25,7 +25,7 @@ use Rattle.swc_ecma_parser_reader.specs.Notes.{Notes, ◌⊕◌, all_notes_with,
 use Rattle.swc_ecma_parser_reader.specs.Reader.{at_end, items_turn}
 use Rattle.swc_ecma_parser_reader.specs.State.{State, flagged, loop}
 use Rattle.swc_ecma_parser_reader.proofs.Between.{nil-split}
-use Rattle.swc_ecma_parser_reader.proofs.CompleteParts.{at_end_at, code_behind, behind_setting, shebang_reads}
+use Rattle.swc_ecma_parser_completeness.proofs.CompleteParts.{at_end_at, code_behind, behind_setting, shebang_reads}
 use Rattle.swc_ecma_parser_reader.proofs.Errors.{is_error}
 use Rattle.swc_ecma_parser_reader.proofs.Notes.{or_nil, or_true}
 use Rattle.swc_ecma_parser_module_reader.specs.Modules.{module_code, begins_import, item_behind, module_item}
@@ -40,7 +40,7 @@ use Rattle.swc_ecma_parser_module_reader.proofs.ProgramParts.{Item, Begins, Part
 use Rattle.swc_ecma_parser_grammar.specs.language.Contexts.{in_module}
 use Rattle.swc_ecma_parser_grammar.specs.language.Goals.{item_goal}
 use Rattle.swc_ecma_parser_reader.specs.Decorators.{Leading, has_any}
-use Rattle.swc_ecma_parser_reader.proofs.Answered.{st, Calm}
+use Rattle.swc_ecma_parser_completeness.proofs.Answered.{st, Calm}
 use Rattle.swc_ecma_parser_module_reader.specs.Decorated.{begins_decorators}
 use Rattle.swc_ecma_parser_module_reader.proofs.CompleteImports.{import_seen}
 use Rattle.swc_ecma_parser_module_reader.proofs.CompleteLed.{LedExport, export_led, led_reads}

@@ -29,12 +29,13 @@ use Rattle.swc_ecma_parser_grammar.proofs.SupportedIn.{lift_in}
 use Rattle.swc_ecma_parser_reader.specs.Notes.{Notes}
 use Rattle.swc_ecma_parser_reader.specs.Operands.{word_property}
 use Rattle.swc_ecma_parser_reader.specs.Reader.{object_alone}
-use Rattle.swc_ecma_parser_reader.proofs.Answered as answered
-use Rattle.swc_ecma_parser_reader.proofs.Answered.{st}
+use Rattle.swc_ecma_parser_completeness.proofs.Answered as answered
+use Rattle.swc_ecma_parser_completeness.proofs.Answered.{st}
 use Rattle.swc_ecma_parser_reader.proofs.Notes.{or_nil}
-use Rattle.swc_ecma_parser_reader.proofs.Objects.{object_alone_reads}
-use Rattle.swc_ecma_parser_reader.proofs.expressions.CompleteKinds.{seen, token_first}
-use Rattle.swc_ecma_parser_reader.proofs.expressions.CompleteParts.{expect_reads, literal_reads, name_reads as token_name_reads}
+use Rattle.swc_ecma_parser_completeness.proofs.Objects.{object_alone_reads}
+use Rattle.swc_ecma_parser_reader.proofs.expressions.CompleteKinds.{seen}
+use Rattle.swc_ecma_parser_soundness.proofs.expressions.CompleteKinds.{token_first}
+use Rattle.swc_ecma_parser_completeness.proofs.expressions.CompleteParts.{expect_reads, literal_reads, name_reads as token_name_reads}
 use Rattle.swc_ecma_parser_module_reader.specs.Imports.{str, source, module_name, attributes, specifiers_turn, specifiers}
 use Rattle.swc_ecma_parser_module_reader.proofs.Loops.{specifiers_stop, specifiers_more, specifiers_last}
 use Rattle.swc_ecma_parser_grammar.proofs.Naming.{name_is_name}

@@ -8,7 +8,7 @@ use Rattle.swc_ecma_parser_grammar.specs.scaffold.Entries.{no_shebang}
 use Rattle.swc_ecma_parser_grammar.specs.Looks.{sees, same_kind, whole_span}
 use Rattle.swc_ecma_parser_reader.specs.Reader.{items, at_end}
 use Rattle.swc_ecma_parser_reader.specs.State.{State, coded}
-use Rattle.swc_ecma_parser_reader.proofs.CompleteParts.{at_end_at, shebang_reads}
+use Rattle.swc_ecma_parser_completeness.proofs.CompleteParts.{at_end_at, shebang_reads}
 use Rattle.swc_ecma_parser_reader.proofs.Empty.{ended}
 use Rattle.swc_ecma_parser_reader.proofs.Loops.{items_stop}
 use Rattle.swc_ecma_parser_module_reader.specs.Modules.{module_code, module_item, module_body, module_whole}

@@ -9,10 +9,10 @@ use Rattle.swc_ecma_parser_grammar.specs.scaffold.Entries.{no_shebang}
 use Rattle.swc_ecma_parser_grammar.specs.Looks.{span_at, whole_span}
 use Rattle.swc_ecma_parser_reader.specs.Reader.{items, at_end}
 use Rattle.swc_ecma_parser_reader.specs.State.{State, coded}
-use Rattle.swc_ecma_parser_reader.proofs.CompleteParts.{at_end_at, shebang_reads}
+use Rattle.swc_ecma_parser_completeness.proofs.CompleteParts.{at_end_at, shebang_reads}
 use Rattle.swc_ecma_parser_reader.proofs.Empty.{ended}
 use Rattle.swc_ecma_parser_reader.proofs.Loops.{items_stop}
-use Rattle.swc_ecma_parser_reader.proofs.expressions.Covers.{same_answer}
+use Rattle.swc_ecma_parser_soundness.proofs.expressions.Covers.{same_answer}
 use Rattle.swc_ecma_parser_module_reader.specs.Modules.{module_item}
 use Rattle.swc_ecma_parser_module_reader.specs.Programs.{begins_module, before_module, program_code, entered, as_script, as_module, program_body, program_whole, Front, front, behind_front}
 use Rattle.swc_ecma_parser_module_reader.proofs.Empty.{no_shebang_there}

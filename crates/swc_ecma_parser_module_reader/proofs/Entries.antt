@@ -11,7 +11,7 @@ use Rattle.swc_ecma_parser_model.specs.Tree.{Tree}
 use Rattle.swc_ecma_parser_reader.specs.State.{State, Outcome, coded}
 use Rattle.swc_ecma_parser_reader.specs.Entry.{unmarked, Stays}
 use Rattle.swc_ecma_parser_reader.specs.Limits.{IsToldBy, has_out_of_memory_token}
-use Rattle.swc_ecma_parser_reader.proofs.Told.{told_by_list}
+use Rattle.swc_ecma_parser_completeness.proofs.Told.{told_by_list}
 use Rattle.swc_ecma_parser_module_reader.specs.Modules.{module_code, module_body, module_whole}
 use Rattle.swc_ecma_parser_module_reader.specs.Entry.{module_left, SoundModule, ReadsSupportedModule, GivesSupportedModule, AnswersModule}
 use Rattle.swc_ecma_parser_module_reader.proofs.Keeps as keeps

@@ -36,10 +36,11 @@ use Rattle.swc_ecma_parser_reader.proofs.Falls.{expr_falls, functions_fall, memb
 use Rattle.swc_ecma_parser_reader.proofs.classes.Falls as classes
 use Rattle.swc_ecma_parser_reader.proofs.Errors.{is_error}
 use Rattle.swc_ecma_parser_reader.proofs.Meets.{Meets, saw}
-use Rattle.swc_ecma_parser_reader.proofs.Objects.{object_alone_falls}
+use Rattle.swc_ecma_parser_completeness.proofs.Objects.{object_alone_falls}
 use Rattle.swc_ecma_parser_reader.proofs.Takes.{Falls, weaker, falls_then, falls_last, falls_coded, falls_if, less, falls_next, moves, takes_one, falls_past, falls_moved, wanted_falls, too_deep_falls, refuse_falls, name_falls, end_falls, expect_falls, loop_falls, reject_falls}
 use Rattle.swc_ecma_parser_reader.proofs.Words.{async_kind}
-use Rattle.swc_ecma_parser_reader.proofs.decorators.Leading.{leading_falls, misplaced_falls, misplaced_still}
+use Rattle.swc_ecma_parser_reader.proofs.decorators.Falls.{leading_falls, misplaced_falls}
+use Rattle.swc_ecma_parser_soundness.proofs.decorators.Leading.{misplaced_still}
 use Rattle.swc_ecma_parser_reader.proofs.Falls.{decorated_in_falls}
 use Rattle.swc_ecma_parser_reader.proofs.expressions.Falls.{falls_when, any_word_falls, star_falls, told_falls, no_end}
 use Rattle.swc_ecma_parser_reader.proofs.expressions.Loops.{shorter_by}

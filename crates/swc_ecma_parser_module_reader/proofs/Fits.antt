@@ -33,9 +33,9 @@ use Rattle.swc_ecma_parser_reader.proofs.Behind as behind
 use Rattle.swc_ecma_parser_reader.proofs.Behind.{Lost, behind_self}
 use Rattle.swc_ecma_parser_reader.proofs.Keeps.{whole_stmt_keeps, expr_keeps, member_keeps}
 use Rattle.swc_ecma_parser_reader.proofs.classes.Keeps.{class_expr_keeps}
-use Rattle.swc_ecma_parser_reader.proofs.Limits.{whole_fits}
+use Rattle.swc_ecma_parser_completeness.proofs.Limits.{whole_fits}
 use Rattle.swc_ecma_parser_reader.proofs.Meets.{Answers, Meets, answers_then, answers_if, meant}
-use Rattle.swc_ecma_parser_reader.proofs.Shallow.{Fine, fine_taken, Shallow, Kept, name_shallow}
+use Rattle.swc_ecma_parser_completeness.proofs.Shallow.{Fine, fine_taken, Shallow, Kept, name_shallow}
 use Rattle.swc_ecma_parser_reader.proofs.Words.{unreserved}
 use Rattle.swc_ecma_parser_reader.proofs.expressions.SoundSteps.{FreeWord, name_sound}
 use Rattle.swc_ecma_parser_reader.proofs.Between.{SoundStep}

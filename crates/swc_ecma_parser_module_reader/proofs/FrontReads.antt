@@ -16,13 +16,13 @@ use Rattle.swc_ecma_parser_reader.specs.Decorators.{Leading, leading}
 use Rattle.swc_ecma_parser_reader.specs.Notes.{Notes, ◌⊕◌, notes_with, all_notes_with}
 use Rattle.swc_ecma_parser_reader.specs.Reader.{directs, whole_stmt}
 use Rattle.swc_ecma_parser_reader.specs.State.{Scope, State, More, loop}
-use Rattle.swc_ecma_parser_reader.proofs.Answered.{st}
-use Rattle.swc_ecma_parser_reader.proofs.CompleteParts.{code_behind, directed_walk, directs_behind}
-use Rattle.swc_ecma_parser_reader.proofs.CompleteScripts.{whole_reads}
+use Rattle.swc_ecma_parser_completeness.proofs.Answered.{st}
+use Rattle.swc_ecma_parser_completeness.proofs.CompleteParts.{code_behind, directed_walk, directs_behind}
+use Rattle.swc_ecma_parser_completeness.proofs.CompleteScripts.{whole_reads}
 use Rattle.swc_ecma_parser_reader.proofs.Errors.{is_error}
 use Rattle.swc_ecma_parser_reader.proofs.Loops.{whole_shorter}
 use Rattle.swc_ecma_parser_reader.proofs.Notes.{or_nil}
-use Rattle.swc_ecma_parser_reader.proofs.Opens.{stmt_goes}
+use Rattle.swc_ecma_parser_completeness.proofs.Opens.{stmt_goes}
 use Rattle.swc_ecma_parser_reader.proofs.Steps.{loop_more, loop_done}
 use Rattle.swc_ecma_parser_module_reader.specs.Decorated.{begins_decorators, no_leading}
 use Rattle.swc_ecma_parser_module_reader.specs.Programs.{begins_module, before_module, front_behind, front_decorated, front_turn, front}

@@ -17,13 +17,13 @@ use Rattle.swc_ecma_parser_grammar.proofs.Tests.{or_no}
 use Rattle.swc_ecma_parser_reader.specs.Reader.{whole_stmt, plain_stmt}
 use Rattle.swc_ecma_parser_reader.specs.State.{State, Outcome, Reader, and_then}
 use Rattle.swc_ecma_parser_reader.specs.Entry.{unmarked, IsBehind, Stays}
-use Rattle.swc_ecma_parser_reader.proofs.Told.{TellOnly}
+use Rattle.swc_ecma_parser_completeness.proofs.Told.{TellOnly}
 use Rattle.swc_ecma_parser_reader.proofs.Behind.{Follows, Remembers, behind_self}
 use Rattle.swc_ecma_parser_reader.proofs.Empty.{ended}
 use Rattle.swc_ecma_parser_reader.proofs.Errors.{kind_here}
 use Rattle.swc_ecma_parser_reader.proofs.Keeps.{outcome_behind, whole_stmt_keeps, decorated_in_keeps}
 use Rattle.swc_ecma_parser_reader.proofs.Meets.{Answers, meant, answers_then, saw}
-use Rattle.swc_ecma_parser_reader.proofs.Shallow.{Fine, Shallow, Kept}
+use Rattle.swc_ecma_parser_completeness.proofs.Shallow.{Fine, Shallow, Kept}
 use Rattle.swc_ecma_parser_module_reader.specs.Modules.{begins_import, module_item, import_behind, export_behind, item_behind, decorated_item}
 use Rattle.swc_ecma_parser_module_reader.specs.Programs.{begins_module}
 use Rattle.swc_ecma_parser_module_reader.specs.Items.{turned, begun_item, item_whole, begun, decorated_alone}
@@ -34,7 +34,7 @@ use Rattle.swc_ecma_parser_module_reader.proofs.ProgramKeeps.{Stayed, Left, Leav
 use Rattle.swc_ecma_parser_reader.specs.DecoratedStatements.{stmt_behind}
 use Rattle.swc_ecma_parser_reader.specs.DecoratorLevels.{decorated_in}
 use Rattle.swc_ecma_parser_reader.specs.Decorators.{Leading, leading}
-use Rattle.swc_ecma_parser_reader.proofs.decorators.Leading.{leading_keeps}
+use Rattle.swc_ecma_parser_reader.proofs.decorators.Keeps.{leading_keeps}
 use Rattle.swc_ecma_parser_module_reader.specs.Decorated.{begins_decorators}
 use Rattle.swc_ecma_parser_module_reader.proofs.DecoratedItems.{signs, whole_above, whole_lowest, whole_behind, behind_stated, word_cases}
 use Rattle.swc_ecma_parser_module_reader.proofs.Fits.{whole_shallow}

@@ -13,9 +13,9 @@ use Rattle.swc_ecma_parser_grammar.specs.Notes.{as_note}
 use Rattle.swc_ecma_parser_reader.specs.State.{State, Outcome}
 use Rattle.swc_ecma_parser_reader.specs.Entry.{unmarked, Stays, AnswersStatement}
 use Rattle.swc_ecma_parser_reader.specs.Limits.{IsToldBy, has_out_of_memory_token}
-use Rattle.swc_ecma_parser_reader.proofs.Told.{told_by_list}
-use Rattle.swc_ecma_parser_reader.proofs.Statements as statements
-use Rattle.swc_ecma_parser_reader.proofs.expressions.Covers.{same_answer}
+use Rattle.swc_ecma_parser_completeness.proofs.Told.{told_by_list}
+use Rattle.swc_ecma_parser_completeness.proofs.Statements as statements
+use Rattle.swc_ecma_parser_soundness.proofs.expressions.Covers.{same_answer}
 use Rattle.swc_ecma_parser_module_reader.specs.Programs.{begins_module}
 use Rattle.swc_ecma_parser_module_reader.specs.Items.{item_whole}
 use Rattle.swc_ecma_parser_module_reader.specs.ItemEntry.{SoundItemAlone, GivesItem, GivesSupportedItem, AnswersItem}

@@ -44,8 +44,8 @@ use Rattle.swc_ecma_parser_grammar.proofs.ExpressionBegins.{expressions_begin}
 use Rattle.swc_ecma_parser_grammar.proofs.StatementBegins.{word_place}
 use Rattle.swc_ecma_parser_grammar.proofs.Tests.{and_yes}
 use Rattle.swc_ecma_parser_reader.proofs.Meets.{saw}
-use Rattle.swc_ecma_parser_reader.proofs.Opens.{decorators_begin, no_block_or_import, let_stands, import_stands}
-use Rattle.swc_ecma_parser_reader.proofs.expressions.CompleteKinds.{token_first}
+use Rattle.swc_ecma_parser_completeness.proofs.Opens.{decorators_begin, no_block_or_import, let_stands, import_stands}
+use Rattle.swc_ecma_parser_soundness.proofs.expressions.CompleteKinds.{token_first}
 use Rattle.swc_ecma_parser_module_reader.specs.Modules.{begins_import}
 use Rattle.swc_ecma_parser_module_reader.specs.Supported.{supported_item, supported_beside, supported_decorated}
 use Rattle.swc_ecma_parser_grammar.proofs.Naming.{name_is_free}

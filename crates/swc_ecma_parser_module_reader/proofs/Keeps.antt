@@ -40,7 +40,7 @@ use Rattle.swc_ecma_parser_reader.proofs.KeepsBlocks.{items_keeps}
 use Rattle.swc_ecma_parser_reader.proofs.Keeps.{whole_stmt_keeps, outcome_behind, stmt_keeps, expr_keeps, parameters_keep, member_keeps}
 use Rattle.swc_ecma_parser_reader.proofs.KeepsFunctions.{function_word_keeps, function_params_keep, function_body_keep}
 use Rattle.swc_ecma_parser_reader.proofs.classes.Keeps as classes
-use Rattle.swc_ecma_parser_reader.proofs.Objects.{object_alone_keeps}
+use Rattle.swc_ecma_parser_completeness.proofs.Objects.{object_alone_keeps}
 use Rattle.swc_ecma_parser_reader.proofs.Meets.{Answers, answers_then, answers_if, meant, saw}
 use Rattle.swc_ecma_parser_reader.proofs.expressions.Keeps.{star_keeps}
 use Rattle.swc_ecma_parser_reader.proofs.expressions.KeepSteps.{taken_keeps, any_word_keeps, told_keeps}
@@ -49,7 +49,7 @@ use Rattle.swc_ecma_parser_grammar.proofs.Tests.{and_yes}
 use Rattle.swc_ecma_parser_reader.proofs.Errors.{is_error}
 use Rattle.swc_ecma_parser_reader.proofs.Words.{begins_function, async_begins, function_begins}
 use Rattle.swc_ecma_parser_reader.proofs.decorators.Keeps.{misplaced_stays}
-use Rattle.swc_ecma_parser_reader.proofs.decorators.Leading.{leading_keeps, misplaced_keeps}
+use Rattle.swc_ecma_parser_reader.proofs.decorators.Keeps.{leading_keeps, misplaced_keeps}
 use Rattle.swc_ecma_parser_reader.proofs.Keeps.{decorated_in_keeps}
 use Rattle.swc_ecma_parser_module_reader.specs.Imports.{str_or, str, source, module_name, attributes, specifiers_turn, specifiers, same_name, other_name, import_specifier, binding_name, import_namespace, bindings, more_bindings, default_binding, import_clause, imported, import_from, phase_of, import_phased, is_phase_word, import_decl, begins_bindings, begins_clause, import_unphased}
 use Rattle.swc_ecma_parser_module_reader.specs.Exports.{renamed_export, plain_export, export_specifier, export_namespace, names_from, own_names, export_names, more_names, namespace_names, export_all, export_star, is_namespace_next, behind_default, is_name_from, name_from, is_default_from, default_from, default_name, default_function, default_expr, begins_default_function, exported_function, exported_class, default_rest, export_default, exported, export_rest, export_named}

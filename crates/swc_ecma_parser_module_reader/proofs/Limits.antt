@@ -31,14 +31,14 @@ use Rattle.swc_ecma_parser_reader.specs.Operands.{literal, word_property}
 use Rattle.swc_ecma_parser_reader.specs.Reader.{at_end, items_turn, items, variables, function_decl, function_parts, function_word, named, expr, pattern, member, stmt, parameters, object_alone, shebang}
 use Rattle.swc_ecma_parser_reader.specs.State.{State, Reader, moved, coded, within, name, expect, expect_word, end, loop}
 use Rattle.swc_ecma_parser_reader.specs.Words.{any_word}
-use Rattle.swc_ecma_parser_reader.proofs.Told.{TellOnly}
+use Rattle.swc_ecma_parser_completeness.proofs.Told.{TellOnly}
 use Rattle.swc_ecma_parser_reader.proofs.Meets.{Answers, answers_then, answers_if, loop_answers, meant, saw}
-use Rattle.swc_ecma_parser_reader.proofs.Objects.{object_alone_shallow}
-use Rattle.swc_ecma_parser_reader.proofs.Shallow.{Levels, Fine, fine_after, fine_taken, Shallow, Kept, name_shallow, refuse_shallow, end_shallow, expect_shallow, shebang_shallow}
+use Rattle.swc_ecma_parser_completeness.proofs.Objects.{object_alone_shallow}
+use Rattle.swc_ecma_parser_completeness.proofs.Shallow.{Levels, Fine, fine_after, fine_taken, Shallow, Kept, name_shallow, refuse_shallow, end_shallow, expect_shallow, shebang_shallow}
 use Rattle.swc_ecma_parser_reader.proofs.Words.{async_kind, async_parts}
-use Rattle.swc_ecma_parser_reader.proofs.decorators.Leading.{leading_shallow, misplaced_shallow}
-use Rattle.swc_ecma_parser_reader.proofs.Limits.{decorated_in_shallow}
-use Rattle.swc_ecma_parser_reader.proofs.expressions.LimitSteps.{reject_shallow, told_shallow, literal_shallow, any_word_shallow, unexpected_shallow, kept_more}
+use Rattle.swc_ecma_parser_completeness.proofs.decorators.Limits.{leading_shallow, misplaced_shallow}
+use Rattle.swc_ecma_parser_completeness.proofs.Limits.{decorated_in_shallow}
+use Rattle.swc_ecma_parser_completeness.proofs.expressions.LimitSteps.{reject_shallow, told_shallow, literal_shallow, any_word_shallow, unexpected_shallow, kept_more}
 use Rattle.swc_ecma_parser_module_reader.specs.Imports.{str_or, str, source, module_name, attributes, specifiers_turn, specifiers, same_name, other_name, import_specifier, binding_name, import_namespace, bindings, more_bindings, default_binding, import_clause, imported, import_from, phase_of, import_phased, is_phase_word, import_decl, begins_bindings, begins_clause, import_unphased}
 use Rattle.swc_ecma_parser_module_reader.specs.Exports.{renamed_export, plain_export, export_specifier, export_namespace, names_from, own_names, export_names, more_names, namespace_names, export_all, export_star, is_namespace_next, behind_default, is_name_from, name_from, is_default_from, default_from, default_name, default_function, default_expr, begins_default_function, exported_function, exported_class, default_rest, export_default, exported, export_rest, export_named}
 use Rattle.swc_ecma_parser_module_reader.specs.Decorated.{none_before, begins_decorators, no_leading, later_alone, later, decorating, by_default, named_with, default_with, behind_export, behind_default_word, export_from, export_with, export_item}

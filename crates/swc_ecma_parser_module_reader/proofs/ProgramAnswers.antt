@@ -13,8 +13,8 @@ use Rattle.swc_ecma_parser_grammar.specs.language.Programs.{is_module_program}
 use Rattle.swc_ecma_parser_reader.specs.State.{State, Outcome}
 use Rattle.swc_ecma_parser_reader.specs.Entry.{unmarked, Stays}
 use Rattle.swc_ecma_parser_reader.specs.Limits.{IsToldBy, has_out_of_memory_token}
-use Rattle.swc_ecma_parser_reader.proofs.Told.{told_by_list}
-use Rattle.swc_ecma_parser_reader.proofs.expressions.Covers.{same_answer}
+use Rattle.swc_ecma_parser_completeness.proofs.Told.{told_by_list}
+use Rattle.swc_ecma_parser_soundness.proofs.expressions.Covers.{same_answer}
 use Rattle.swc_ecma_parser_module_reader.specs.Programs.{program_whole}
 use Rattle.swc_ecma_parser_module_reader.specs.ProgramEntry.{program_walk, program_left, SoundProgram, ReadsSupportedProgram, GivesSupportedProgram, GivesProgram, AnswersProgram}
 use Rattle.swc_ecma_parser_module_reader.proofs.ProgramKeeps as keeps

@@ -10,8 +10,8 @@ use Rattle.swc_ecma_parser_grammar.specs.language.Items.{directed, directs_on, t
 use Rattle.swc_ecma_parser_reader.specs.Reader.{items, at_end, whole_stmt, shebang}
 use Rattle.swc_ecma_parser_reader.specs.State.{State}
 use Rattle.swc_ecma_parser_reader.proofs.Meets.{Refuses, meant, Meets}
-use Rattle.swc_ecma_parser_reader.proofs.SoundParts.{code_after, code_module, code_setting}
-use Rattle.swc_ecma_parser_reader.proofs.SoundScripts.{StoppedTops, tops_sound}
+use Rattle.swc_ecma_parser_soundness.proofs.SoundParts.{code_after, code_module, code_setting}
+use Rattle.swc_ecma_parser_soundness.proofs.SoundScripts.{StoppedTops, tops_sound}
 use Rattle.swc_ecma_parser_module_reader.specs.Modules.{module_code, module_item}
 use Rattle.swc_ecma_parser_module_reader.specs.Programs.{before_module, entered, Front, begins_module, front, behind_front}
 use Rattle.swc_ecma_parser_module_reader.proofs.SoundModules.{SoundShebang, shebang_sound}

@@ -28,7 +28,7 @@ use Rattle.swc_ecma_parser_grammar.proofs.Tests.{or_no}
 use Rattle.swc_ecma_parser_grammar.proofs.Unnoted.{joined}
 use Rattle.swc_ecma_parser_reader.proofs.expressions.CompleteKinds.{seen}
 use Rattle.swc_ecma_parser_reader.proofs.Notes.{or_assoc}
-use Rattle.swc_ecma_parser_reader.proofs.SoundParts.{code_after}
+use Rattle.swc_ecma_parser_soundness.proofs.SoundParts.{code_after}
 use Rattle.swc_ecma_parser_module_reader.specs.Modules.{module_code}
 use Rattle.swc_ecma_parser_module_reader.specs.ProgramEntry.{any_module_decl}
 use Rattle.swc_ecma_parser_module_reader.proofs.ItemForms.{IsDeclaration}

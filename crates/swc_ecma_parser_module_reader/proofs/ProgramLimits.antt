@@ -8,9 +8,9 @@ use Rattle.swc_ecma_parser_model.specs.Tree.{Tree, Text}
 use Rattle.swc_ecma_parser_grammar.specs.language.Items.{top_item}
 use Rattle.swc_ecma_parser_reader.specs.Reader.{at_end, items_turn, items, shebang}
 use Rattle.swc_ecma_parser_reader.specs.State.{State, coded, loop}
-use Rattle.swc_ecma_parser_reader.proofs.Told.{TellOnly}
+use Rattle.swc_ecma_parser_completeness.proofs.Told.{TellOnly}
 use Rattle.swc_ecma_parser_reader.proofs.Meets.{Answers, answers_then, answers_if, loop_answers, meant}
-use Rattle.swc_ecma_parser_reader.proofs.Shallow.{Fine, Shallow, Kept, shebang_shallow}
+use Rattle.swc_ecma_parser_completeness.proofs.Shallow.{Fine, Shallow, Kept, shebang_shallow}
 use Rattle.swc_ecma_parser_module_reader.specs.Modules.{module_item, item_behind}
 use Rattle.swc_ecma_parser_module_reader.specs.Programs.{begins_module, program_code, entered, as_script, as_module, program_body, program_whole, Front, front, behind_front}
 use Rattle.swc_ecma_parser_module_reader.proofs.Fits.{whole_shallow}

@@ -14,7 +14,7 @@ use Rattle.swc_ecma_parser_reader.specs.Reader.{at_end, directs, whole_stmt, she
 use Rattle.swc_ecma_parser_reader.specs.State.{State, Outcome, coded, flagged, loop, and_then, too_deep}
 use Rattle.swc_ecma_parser_reader.specs.Entry.{IsSetBack}
 use Rattle.swc_ecma_parser_reader.proofs.Loops.{whole_shorter}
-use Rattle.swc_ecma_parser_reader.proofs.expressions.Covers.{same_answer}
+use Rattle.swc_ecma_parser_soundness.proofs.expressions.Covers.{same_answer}
 use Rattle.swc_ecma_parser_module_reader.specs.Modules.{module_code}
 use Rattle.swc_ecma_parser_module_reader.specs.Programs.{before_module, program_code, entered, items_from, as_script, as_module, program_body, program_whole, Front, begins_module, front_item, front_behind, front_decorated, front_turn, front, behind_front}
 use Rattle.swc_ecma_parser_module_reader.specs.ProgramEntry.{AnswersProgram}

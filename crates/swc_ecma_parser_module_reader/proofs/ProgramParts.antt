@@ -37,7 +37,7 @@ use Rattle.swc_ecma_parser_grammar.proofs.SupportedIn.{strict_module}
 use Rattle.swc_ecma_parser_grammar.proofs.Tests.{and_yes}
 use Rattle.swc_ecma_parser_reader.specs.Reader.{at_end}
 use Rattle.swc_ecma_parser_reader.proofs.Between.{nil-split}
-use Rattle.swc_ecma_parser_reader.proofs.CompleteParts.{code_behind, directed_walk}
+use Rattle.swc_ecma_parser_completeness.proofs.CompleteParts.{code_behind, directed_walk}
 use Rattle.swc_ecma_parser_reader.proofs.Errors.{is_error}
 use Rattle.swc_ecma_parser_reader.proofs.Notes.{or_assoc}
 use Rattle.swc_ecma_parser_module_reader.specs.Modules.{begins_import}

@@ -26,7 +26,7 @@ use Rattle.swc_ecma_parser_reader.specs.Reader.{items_turn, at_end}
 use Rattle.swc_ecma_parser_reader.specs.State.{State, loop}
 use Rattle.swc_ecma_parser_reader.proofs.Between.{Sound, same, tabled-append, drops-split, nil-split, fewer-then, same-between}
 use Rattle.swc_ecma_parser_reader.proofs.Meets.{Meets, meets_then, meets_if}
-use Rattle.swc_ecma_parser_reader.proofs.decorators.Leading.{SoundLeading}
+use Rattle.swc_ecma_parser_soundness.proofs.decorators.Leading.{SoundLeading}
 use Rattle.swc_ecma_parser_reader.proofs.expressions.SoundSteps.{meets_as}
 use Rattle.swc_ecma_parser_module_reader.specs.Modules.{begins_import, item_behind, module_code, module_item}
 use Rattle.swc_ecma_parser_module_reader.specs.ProgramEntry.{any_module_decl}

@@ -42,9 +42,10 @@ use Rattle.swc_ecma_parser_reader.specs.State.{State, moved, fault, name, expect
 use Rattle.swc_ecma_parser_reader.specs.Reader.{object_alone}
 use Rattle.swc_ecma_parser_reader.proofs.Meets.{Meets, meets_then, meets_if, wanted_meets, saw}
 use Rattle.swc_ecma_parser_reader.proofs.Between.{Sound, SoundStep, same, sound_then, sound_more, sound_here, sound_as, sound_after}
-use Rattle.swc_ecma_parser_reader.proofs.expressions.SoundSteps.{meets_as, fault_sound, paired, stepped, moved_back, stands, name_sound}
+use Rattle.swc_ecma_parser_reader.proofs.expressions.SoundSteps.{meets_as, fault_sound, stands, name_sound}
+use Rattle.swc_ecma_parser_soundness.proofs.expressions.SoundSteps.{paired, stepped, moved_back}
 use Rattle.swc_ecma_parser_reader.proofs.patterns.Sound.{anything}
-use Rattle.swc_ecma_parser_reader.proofs.SoundParts.{end_sound, meets_both}
+use Rattle.swc_ecma_parser_soundness.proofs.SoundParts.{end_sound, meets_both}
 use Rattle.swc_ecma_parser_module_reader.specs.Imports.{str_or, str, source, module_name, attributes, specifiers}
 use Rattle.swc_ecma_parser_module_reader.specs.Exports.{renamed_export, plain_export, export_specifier, export_namespace, names_from, own_names, export_names, more_names, namespace_names, export_all, export_star, is_namespace_next, behind_default, is_name_from, name_from, default_from}
 use Rattle.swc_ecma_parser_module_reader.proofs.ModuleCode.{IsModule, in_module_same, module_env}

@@ -63,10 +63,11 @@ use Rattle.swc_ecma_parser_reader.proofs.Between.{Sound, same, sound_more, sound
 use Rattle.swc_ecma_parser_reader.proofs.expressions.SoundSteps.{meets_as}
 use Rattle.swc_ecma_parser_reader.proofs.patterns.Sound.{anything}
 use Rattle.swc_ecma_parser_reader.proofs.Keeps.{expr_keeps}
-use Rattle.swc_ecma_parser_reader.proofs.SoundRecovered.{declaration_end_sound}
-use Rattle.swc_ecma_parser_reader.proofs.SoundParts.{variables_stand, declarators_sound, meets_both}
-use Rattle.swc_ecma_parser_reader.proofs.SoundFunctions.{function_decl_sound, function_expr_sound}
-use Rattle.swc_ecma_parser_reader.proofs.Sound.{expr_sound, pattern_sound, parameters_sound, stmt_sound, classes_sound, class_sound as class_expr_sound}
+use Rattle.swc_ecma_parser_soundness.proofs.SoundRecovered.{declaration_end_sound}
+use Rattle.swc_ecma_parser_reader.proofs.SoundParts.{variables_stand}
+use Rattle.swc_ecma_parser_soundness.proofs.SoundParts.{declarators_sound, meets_both}
+use Rattle.swc_ecma_parser_soundness.proofs.SoundFunctions.{function_decl_sound, function_expr_sound}
+use Rattle.swc_ecma_parser_soundness.proofs.Sound.{expr_sound, pattern_sound, parameters_sound, stmt_sound, classes_sound, class_sound as class_expr_sound}
 use Rattle.swc_ecma_parser_module_reader.specs.Exports.{default_name, default_function, begins_default_function}
 use Rattle.swc_ecma_parser_module_reader.specs.Decorated.{with_decorators}
 use Rattle.swc_ecma_parser_module_reader.specs.Supported.{on_one_side, supported_item}

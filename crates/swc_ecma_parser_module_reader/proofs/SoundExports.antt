@@ -37,12 +37,13 @@ use Rattle.swc_ecma_parser_reader.specs.Reader as reader
 use Rattle.swc_ecma_parser_reader.specs.Reader.{expr, pattern, member, stmt, variables, function_decl, object_alone}
 use Rattle.swc_ecma_parser_reader.proofs.Meets.{Meets, meets_then, meets_if, saw, refuse_meets}
 use Rattle.swc_ecma_parser_reader.proofs.Between.{Sound, SoundStep, same, sound_as, sound_more, sound_moved, sound_here}
-use Rattle.swc_ecma_parser_reader.proofs.SoundParts.{end_sound, inside_sound}
-use Rattle.swc_ecma_parser_reader.proofs.Sound.{expr_sound, pattern_sound}
-use Rattle.swc_ecma_parser_reader.proofs.expressions.SoundSteps.{meets_as, paired, reject_meets}
+use Rattle.swc_ecma_parser_soundness.proofs.SoundParts.{end_sound, inside_sound}
+use Rattle.swc_ecma_parser_soundness.proofs.Sound.{expr_sound, pattern_sound}
+use Rattle.swc_ecma_parser_reader.proofs.expressions.SoundSteps.{meets_as, reject_meets}
+use Rattle.swc_ecma_parser_soundness.proofs.expressions.SoundSteps.{paired}
 use Rattle.swc_ecma_parser_reader.proofs.decorators.Shared.{DecoratorsRead}
-use Rattle.swc_ecma_parser_reader.proofs.decorators.Leading.{SoundLeading, leading_sound, misplaced_none, misplaced_sound}
-use Rattle.swc_ecma_parser_reader.proofs.Sound.{decorated_in_sound}
+use Rattle.swc_ecma_parser_soundness.proofs.decorators.Leading.{SoundLeading, leading_sound, misplaced_none, misplaced_sound}
+use Rattle.swc_ecma_parser_soundness.proofs.Sound.{decorated_in_sound}
 use Rattle.swc_ecma_parser_module_reader.specs.Decorated.{with_decorators, none_before, begins_decorators, no_leading, later_alone, later, decorating, by_default, named_with, default_with, behind_export, behind_default_word, export_from, export_item}
 use Rattle.swc_ecma_parser_module_reader.specs.Exports.{begins_default_function, is_default_from, is_name_from, default_function, default_expr, exported_function, exported_class, default_rest, export_default, exported, export_rest, export_named}
 use Rattle.swc_ecma_parser_module_reader.specs.Supported.{on_one_side, supported_item}

@@ -36,10 +36,11 @@ use Rattle.swc_ecma_parser_reader.specs.State.{State, Reader, moved, coded, faul
 use Rattle.swc_ecma_parser_reader.specs.Words.{any_word}
 use Rattle.swc_ecma_parser_reader.proofs.Meets.{Meets, meets_then, meets_if, wanted_meets, saw, refuse_meets}
 use Rattle.swc_ecma_parser_reader.proofs.Between.{Sound, SoundTree, SoundStep, same, sound_then, sound_moved, sound_here, sound_as, sound_after, within_sound}
-use Rattle.swc_ecma_parser_reader.proofs.SoundParts.{end_sound}
-use Rattle.swc_ecma_parser_reader.proofs.expressions.SoundSteps.{meets_as, paired, stepped, reject_meets, other, FreeWord, name_sound, any_word_sound}
+use Rattle.swc_ecma_parser_soundness.proofs.SoundParts.{end_sound}
+use Rattle.swc_ecma_parser_reader.proofs.expressions.SoundSteps.{meets_as, reject_meets, FreeWord, name_sound}
+use Rattle.swc_ecma_parser_soundness.proofs.expressions.SoundSteps.{paired, stepped, other, any_word_sound}
 use Rattle.swc_ecma_parser_reader.proofs.expressions.SoundLefts.{word_stands}
-use Rattle.swc_ecma_parser_reader.proofs.expressions.SoundCovers.{ident_key, free_name}
+use Rattle.swc_ecma_parser_soundness.proofs.expressions.SoundCovers.{ident_key, free_name}
 use Rattle.swc_ecma_parser_module_reader.specs.Imports.{same_name, other_name, import_specifier, binding_name, import_namespace, bindings, more_bindings, default_binding, import_clause, imported, import_from, phase_of, import_phased, is_phase_word, import_decl, str, source, module_name, attributes, specifiers, begins_bindings, begins_clause, import_unphased}
 use Rattle.swc_ecma_parser_module_reader.specs.Supported.{supported_item}
 use Rattle.swc_ecma_parser_module_reader.proofs.ModuleCode.{IsModule, in_module_same, module_env}

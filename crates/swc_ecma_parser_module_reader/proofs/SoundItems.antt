@@ -24,8 +24,8 @@ use Rattle.swc_ecma_parser_reader.specs.Limits.{has_out_of_memory_token}
 use Rattle.swc_ecma_parser_reader.proofs.Between.{Sound, same, sound_as, nil-split}
 use Rattle.swc_ecma_parser_reader.proofs.Meets.{Meets, Refuses, meets_if, too_deep_meets, saw, meant, meets_then}
 use Rattle.swc_ecma_parser_reader.proofs.Notes.{or_nil}
-use Rattle.swc_ecma_parser_reader.proofs.SoundParts.{meets_both}
-use Rattle.swc_ecma_parser_reader.proofs.Statements as statements
+use Rattle.swc_ecma_parser_soundness.proofs.SoundParts.{meets_both}
+use Rattle.swc_ecma_parser_completeness.proofs.Statements as statements
 use Rattle.swc_ecma_parser_reader.proofs.expressions.SoundSteps.{meets_as}
 use Rattle.swc_ecma_parser_module_reader.specs.Decorated.{export_item, begins_decorators}
 use Rattle.swc_ecma_parser_module_reader.specs.Imports.{import_decl}
@@ -51,7 +51,7 @@ use Rattle.swc_ecma_parser_grammar.specs.Follows.{begins_import_expression}
 use Rattle.swc_ecma_parser_grammar.proofs.Unnoted.{joined}
 use Rattle.swc_ecma_parser_reader.specs.Decorators.{Leading, leading, has_any}
 use Rattle.swc_ecma_parser_reader.proofs.Behind.{IsHeld, behind_self}
-use Rattle.swc_ecma_parser_reader.proofs.decorators.Leading.{SoundLeading}
+use Rattle.swc_ecma_parser_soundness.proofs.decorators.Leading.{SoundLeading}
 use Rattle.swc_ecma_parser_module_reader.proofs.DecoratedItems.{signs, word_cases}
 use Rattle.swc_ecma_parser_module_reader.proofs.Keeps.{list_keeps}
 use Rattle.swc_ecma_parser_module_reader.proofs.SoundLed.{SoundLed, list_sound, import_led, export_led}

@@ -27,11 +27,12 @@ use Rattle.swc_ecma_parser_reader.proofs.Meets.{Meets, Answers, meets_then, meet
 use Rattle.swc_ecma_parser_reader.proofs.Behind.{NothingLost, Kept, Lost, behind_self}
 use Rattle.swc_ecma_parser_reader.proofs.Between.{Sound, SoundStep, same, sound_as, drops-split}
 use Rattle.swc_ecma_parser_reader.proofs.Notes.{or_nil}
-use Rattle.swc_ecma_parser_reader.proofs.Sound.{decorated_in_sound}
-use Rattle.swc_ecma_parser_reader.proofs.SoundParts.{meets_both}
-use Rattle.swc_ecma_parser_reader.proofs.classes.SoundClasses.{Drops, fault_drops}
-use Rattle.swc_ecma_parser_reader.proofs.expressions.SoundSteps.{meets_as, paired, reject_meets, fault_sound}
-use Rattle.swc_ecma_parser_reader.proofs.decorators.Leading.{leading_sound}
+use Rattle.swc_ecma_parser_soundness.proofs.Sound.{decorated_in_sound}
+use Rattle.swc_ecma_parser_soundness.proofs.SoundParts.{meets_both}
+use Rattle.swc_ecma_parser_soundness.proofs.classes.SoundClasses.{Drops, fault_drops}
+use Rattle.swc_ecma_parser_reader.proofs.expressions.SoundSteps.{meets_as, reject_meets, fault_sound}
+use Rattle.swc_ecma_parser_soundness.proofs.expressions.SoundSteps.{paired}
+use Rattle.swc_ecma_parser_soundness.proofs.decorators.Leading.{leading_sound}
 use Rattle.swc_ecma_parser_module_reader.specs.Decorated.{with_decorators, begins_decorators, later_alone, later, decorating, by_default, named_with, default_with, behind_export, behind_default_word, export_from, export_with}
 use Rattle.swc_ecma_parser_module_reader.specs.Exports.{begins_default_function, default_function, exported, export_rest, default_rest}
 use Rattle.swc_ecma_parser_module_reader.proofs.DecoratedForms.{Takes}

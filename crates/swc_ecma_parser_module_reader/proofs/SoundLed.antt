@@ -38,12 +38,13 @@ use Rattle.swc_ecma_parser_reader.proofs.Between.{Sound, same, sound_here, sound
 use Rattle.swc_ecma_parser_reader.proofs.Errors.{is_error}
 use Rattle.swc_ecma_parser_reader.proofs.Meets.{Meets, Refuses, meets_then, saw, meant}
 use Rattle.swc_ecma_parser_reader.proofs.Notes.{or_assoc}
-use Rattle.swc_ecma_parser_reader.proofs.Objects.{object_alone_keeps}
-use Rattle.swc_ecma_parser_reader.proofs.Sound.{decorated_in_sound}
-use Rattle.swc_ecma_parser_reader.proofs.SoundParts.{meets_both}
-use Rattle.swc_ecma_parser_reader.proofs.classes.SoundClasses.{Drops}
-use Rattle.swc_ecma_parser_reader.proofs.decorators.Leading.{SoundLeading, leading_sound, misplaced_still}
-use Rattle.swc_ecma_parser_reader.proofs.expressions.SoundSteps.{meets_as, paired}
+use Rattle.swc_ecma_parser_completeness.proofs.Objects.{object_alone_keeps}
+use Rattle.swc_ecma_parser_soundness.proofs.Sound.{decorated_in_sound}
+use Rattle.swc_ecma_parser_soundness.proofs.SoundParts.{meets_both}
+use Rattle.swc_ecma_parser_soundness.proofs.classes.SoundClasses.{Drops}
+use Rattle.swc_ecma_parser_soundness.proofs.decorators.Leading.{SoundLeading, leading_sound, misplaced_still}
+use Rattle.swc_ecma_parser_reader.proofs.expressions.SoundSteps.{meets_as}
+use Rattle.swc_ecma_parser_soundness.proofs.expressions.SoundSteps.{paired}
 use Rattle.swc_ecma_parser_module_reader.specs.Decorated.{with_decorators, none_before, begins_decorators}
 use Rattle.swc_ecma_parser_module_reader.specs.Imports.{import_decl}
 use Rattle.swc_ecma_parser_module_reader.specs.Modules.{begins_import, import_behind, export_behind}

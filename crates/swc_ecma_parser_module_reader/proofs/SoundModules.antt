@@ -46,9 +46,10 @@ use Rattle.swc_ecma_parser_reader.proofs.Notes.{or_nil, or_true, or_assoc, notes
 use Rattle.swc_ecma_parser_reader.proofs.Meets.{Meets, Refuses, meets_then, meets_if, too_deep_meets, Turned, loop_answers, saw, meant}
 use Rattle.swc_ecma_parser_reader.proofs.Errors.{kind_here, none_counted, nothing_at_end}
 use Rattle.swc_ecma_parser_reader.proofs.Between.{Sound, SoundStep, same, nil-split, sound_then, sound_moved, sound_here, sound_as, sound_coded, flags_back}
-use Rattle.swc_ecma_parser_reader.proofs.SoundScripts.{whole_sound}
-use Rattle.swc_ecma_parser_reader.proofs.decorators.Leading.{SoundLeading}
-use Rattle.swc_ecma_parser_reader.proofs.expressions.SoundSteps.{meets_as, stands, notes_push}
+use Rattle.swc_ecma_parser_soundness.proofs.SoundScripts.{whole_sound}
+use Rattle.swc_ecma_parser_soundness.proofs.decorators.Leading.{SoundLeading}
+use Rattle.swc_ecma_parser_reader.proofs.expressions.SoundSteps.{meets_as, stands}
+use Rattle.swc_ecma_parser_soundness.proofs.expressions.SoundSteps.{notes_push}
 use Rattle.swc_ecma_parser_module_reader.specs.Entry.{SoundModule}
 use Rattle.swc_ecma_parser_module_reader.specs.Decorated.{begins_decorators, export_item}
 use Rattle.swc_ecma_parser_module_reader.specs.Imports.{import_decl}

@@ -37,9 +37,9 @@ use Rattle.swc_ecma_parser_reader.proofs.Behind.{IsHeld, Kept, Lost, behind_self
 use Rattle.swc_ecma_parser_reader.proofs.Keeps.{whole_stmt_keeps}
 use Rattle.swc_ecma_parser_reader.proofs.Errors.{none_counted, nothing_at_end}
 use Rattle.swc_ecma_parser_reader.proofs.Between.{Sound, SoundStep, sound_then, sound_as, flags_back, nil-split, drops-split, tabled-append, same-between}
-use Rattle.swc_ecma_parser_reader.proofs.SoundParts.{meets_both, code_after, code_setting}
-use Rattle.swc_ecma_parser_reader.proofs.SoundScripts.{ReadsTops, StoppedTops, tops_sound}
-use Rattle.swc_ecma_parser_reader.proofs.decorators.Leading.{SoundLeading}
+use Rattle.swc_ecma_parser_soundness.proofs.SoundParts.{meets_both, code_after, code_setting}
+use Rattle.swc_ecma_parser_soundness.proofs.SoundScripts.{ReadsTops, StoppedTops, tops_sound}
+use Rattle.swc_ecma_parser_soundness.proofs.decorators.Leading.{SoundLeading}
 use Rattle.swc_ecma_parser_reader.proofs.expressions.SoundSteps.{meets_as}
 use Rattle.swc_ecma_parser_reader.proofs.patterns.Sound.{anything}
 use Rattle.swc_ecma_parser_module_reader.specs.Modules.{begins_import, module_code, module_item}

@@ -35,9 +35,10 @@ use Rattle.swc_ecma_parser_reader.specs.State.{State, Reader, and_then, moved, e
 use Rattle.swc_ecma_parser_reader.proofs.Meets.{Meets, Refuses, meets_then, meets_if, wanted_meets, refuse_meets, Turned, loop_answers, saw}
 use Rattle.swc_ecma_parser_reader.proofs.Errors.{is_error, kind_here}
 use Rattle.swc_ecma_parser_reader.proofs.Between.{SoundTree, SoundStep, sound_then, sound_moved, sound_here, sound_as, sound_after}
-use Rattle.swc_ecma_parser_reader.proofs.Objects.{object_alone_sound}
-use Rattle.swc_ecma_parser_reader.proofs.expressions.SoundSteps.{meets_as, stands, Takes, FreeWord, expect_sound, any_word_sound, walks_push, notes_push}
-use Rattle.swc_ecma_parser_reader.proofs.expressions.SoundLists.{properties_list}
+use Rattle.swc_ecma_parser_completeness.proofs.Objects.{object_alone_sound}
+use Rattle.swc_ecma_parser_reader.proofs.expressions.SoundSteps.{meets_as, stands, FreeWord}
+use Rattle.swc_ecma_parser_soundness.proofs.expressions.SoundSteps.{Takes, expect_sound, any_word_sound, walks_push, notes_push}
+use Rattle.swc_ecma_parser_soundness.proofs.expressions.SoundLists.{properties_list}
 use Rattle.swc_ecma_parser_reader.proofs.expressions.SoundLefts.{word_stands}
 use Rattle.swc_ecma_parser_module_reader.specs.Imports.{str_or, str, source, module_name, attributes, specifiers_turn, specifiers}
 

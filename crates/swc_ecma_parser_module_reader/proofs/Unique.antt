@@ -2,8 +2,8 @@
 use Rattle.std.proofs.Common.{[], None, sym, ◌∙◌, ap}
 use Rattle.swc_ecma_parser_reader.specs.Notes.{no_notes}
 use Rattle.swc_ecma_parser_reader.specs.State.{State, Scope}
-use Rattle.swc_ecma_parser_reader.proofs.Answered.{st}
-use Rattle.swc_ecma_parser_reader.proofs.expressions.Covers.{same_answer}
+use Rattle.swc_ecma_parser_completeness.proofs.Answered.{st}
+use Rattle.swc_ecma_parser_soundness.proofs.expressions.Covers.{same_answer}
 use Rattle.swc_ecma_parser_module_reader.specs.Entry.{IsOneModule}
 use Rattle.swc_ecma_parser_module_reader.proofs.CompleteDecorated.{export_reads}
 use Rattle.swc_ecma_parser_module_reader.proofs.CompleteModules.{module_reads}

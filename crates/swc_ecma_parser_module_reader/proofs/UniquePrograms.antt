@@ -1,8 +1,8 @@
 -- A list spells one supported program at most: the reader answers each that it spells, and answers once.
 use Rattle.std.proofs.Common.{[], sym, ◌∙◌, ap}
 use Rattle.swc_ecma_parser_reader.specs.State.{State}
-use Rattle.swc_ecma_parser_reader.proofs.Answered.{st}
-use Rattle.swc_ecma_parser_reader.proofs.expressions.Covers.{same_answer}
+use Rattle.swc_ecma_parser_completeness.proofs.Answered.{st}
+use Rattle.swc_ecma_parser_soundness.proofs.expressions.Covers.{same_answer}
 use Rattle.swc_ecma_parser_module_reader.specs.ProgramEntry.{IsOneProgram}
 use Rattle.swc_ecma_parser_module_reader.proofs.CompletePrograms.{program_reads}
 use Rattle.swc_ecma_parser_module_reader.proofs.Unique.{unmarked}

@@ -21,9 +21,9 @@ use Rattle.swc_ecma_parser_reader.specs.Reader.{expr, pattern, member, stmt, par
 use Rattle.swc_ecma_parser_reader.specs.State.{State, Outcome, Reader, Step, coded, loop}
 use Rattle.swc_ecma_parser_reader.proofs.Errors.{is_error}
 use Rattle.swc_ecma_parser_reader.proofs.Meets.{Meets, Refuses, Turned, meets_then, meets_if, meant, saw, too_deep_meets, loop_answers}
-use Rattle.swc_ecma_parser_reader.proofs.SoundParts.{meets_both}
-use Rattle.swc_ecma_parser_reader.proofs.Spans.{whole_stands, leading_on_tokens, behind_stands}
-use Rattle.swc_ecma_parser_reader.proofs.decorators.Leading.{misplaced_still}
+use Rattle.swc_ecma_parser_soundness.proofs.SoundParts.{meets_both}
+use Rattle.swc_ecma_parser_soundness.proofs.Spans.{whole_stands, leading_on_tokens, behind_stands}
+use Rattle.swc_ecma_parser_soundness.proofs.decorators.Leading.{misplaced_still}
 use Rattle.swc_ecma_parser_reader.proofs.expressions.SoundSteps.{meets_as}
 use Rattle.swc_ecma_parser_span_order.specs.Forward.{in_order}
 use Rattle.swc_ecma_parser_span_order.specs.Follows.{follow_between, items_in, ItemInOrder, ItemsInOrder}

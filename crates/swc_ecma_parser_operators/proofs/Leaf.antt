@@ -36,8 +36,8 @@ use Rattle.swc_ecma_parser_reader.proofs.Errors.{is_error}
 use Rattle.swc_ecma_parser_reader.proofs.Meets.{Meets, meets_if, meets_then, wanted_meets}
 use Rattle.swc_ecma_parser_reader.proofs.Steps.{loop_done}
 use Rattle.swc_ecma_parser_reader.proofs.expressions.Awaits.{other_awaits}
-use Rattle.swc_ecma_parser_reader.proofs.expressions.CompleteKinds.{Quiet, quiet_stops, stopped}
-use Rattle.swc_ecma_parser_reader.proofs.expressions.PartEnds.{no_async_function}
+use Rattle.swc_ecma_parser_soundness.proofs.expressions.CompleteKinds.{Quiet, quiet_stops, stopped}
+use Rattle.swc_ecma_parser_soundness.proofs.expressions.PartEnds.{no_async_function}
 use Rattle.swc_ecma_parser_operators.specs.Leaf.{ends_operand, is_leaf, begins_leaf}
 
 -- ---- what ends an operand

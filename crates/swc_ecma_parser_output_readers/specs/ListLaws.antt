@@ -18,7 +18,7 @@ use Rattle.swc_ecma_parser_reader.specs.Reader.{directs, items_turn, items}
 use Rattle.swc_ecma_parser_reader.specs.State.{State, Reader, Outcome, coded, loop, GivesAs}
 use Rattle.swc_ecma_parser_reader.proofs.Between.{nil-split}
 use Rattle.swc_ecma_parser_reader.proofs.Loops.{items_stop, items_err, items_more, directs_push}
-use Rattle.swc_ecma_parser_reader.proofs.expressions.Covers.{same_answer}
+use Rattle.swc_ecma_parser_soundness.proofs.expressions.Covers.{same_answer}
 use Rattle.swc_ecma_parser_exactness.specs.Supports.{Ordered}
 use Rattle.swc_ecma_parser_exactness.proofs.Decides.{none_behind, no_faults}
 use Rattle.swc_ecma_parser_output_readers.specs.Languages.{Language, IsRead, IsExact, IsLeft, Leaves, EachSpells, DecidesOf, DecidesOne, DecidesEach}

@@ -14,10 +14,10 @@ use Rattle.swc_ecma_parser_reader.specs.Reader.{whole_stmt}
 use Rattle.swc_ecma_parser_reader.specs.Entry.{statement_entry, statement_walk}
 use Rattle.swc_ecma_parser_reader.specs.State.{State, GivesAs}
 use Rattle.swc_ecma_parser_reader.proofs.Behind.{Kept, Lost, behind_self}
-use Rattle.swc_ecma_parser_reader.proofs.CompleteScripts.{whole_reads}
+use Rattle.swc_ecma_parser_completeness.proofs.CompleteScripts.{whole_reads}
 use Rattle.swc_ecma_parser_reader.proofs.Keeps.{whole_stmt_keeps}
 use Rattle.swc_ecma_parser_reader.proofs.Meets.{meant}
-use Rattle.swc_ecma_parser_reader.proofs.SoundScripts.{whole_is_sound}
+use Rattle.swc_ecma_parser_soundness.proofs.SoundScripts.{whole_is_sound}
 use Rattle.swc_ecma_parser_exactness.proofs.Completed.{never}
 use Rattle.swc_ecma_parser_exactness.proofs.Decides.{none_behind, no_faults}
 use Rattle.swc_ecma_parser_exactness.proofs.Entries.{read_entry}

@@ -3,7 +3,7 @@ use Rattle.std.proofs.Common.{◌≡◌, ℕ, Err, Ok, ap, ◌∙◌}
 use Rattle.swc_ecma_parser_error.specs.Kind.{Fault}
 use Rattle.swc_ecma_parser_model.specs.Tree.{Tree}
 use Rattle.swc_ecma_parser_reader.specs.State.{State, Outcome, too_deep}
-use Rattle.swc_ecma_parser_reader.proofs.Sound.{pattern_code, element_code}
+use Rattle.swc_ecma_parser_soundness.proofs.Sound.{pattern_code, element_code}
 use Rattle.swc_ecma_parser_reader.proofs.patterns.Loops.{pattern_lowest, element_lowest}
 use Rattle.swc_ecma_parser_shared.specs.declared.grammar.Part.{Part}
 use Rattle.swc_ecma_parser_shared.specs.declared.grammar.Part.TheVariants as part

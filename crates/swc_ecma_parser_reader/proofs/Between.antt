@@ -1,7 +1,6 @@
 -- What is read between two states: the scope and the code stay as said, faults and notes are added, and where no fault is
 -- added the grammar has it.
-use Rattle.swc_ecma_parser_reader.specs.State.{Scope}
-use Rattle.swc_ecma_parser_reader.specs.State.{below, relabelled, unlabelled, found_as, noted}
+use Rattle.swc_ecma_parser_reader.specs.State.{Scope, below, relabelled, unlabelled, found_as, noted, State, Reader, moved, coded, flagged, within}
 use Rattle.std.proofs.Common.{◌≡◌, ℕ, ◌≤◌, arith, Bool, true, false, cond, List, [], ◌∷◌, ◌++◌, refl, sym, ◌∙◌, ap, subst, append_assoc, append-nil}
 use Rattle.std.specs.Prelude.{◌||◌}
 use Rattle.swc_ecma_parser_error.specs.Kind.{Fault}
@@ -12,7 +11,6 @@ use Rattle.swc_ecma_parser_grammar.specs.Looks.{kind_at}
 use Rattle.swc_ecma_parser_grammar.specs.Names.{Code}
 use Rattle.swc_ecma_parser_grammar.specs.Walk.{env_of, walk, is_tabled, is_dropping, tabled, drops}
 use Rattle.swc_ecma_parser_reader.specs.Notes.{Notes, no_notes, ◌⊕◌, notes_of}
-use Rattle.swc_ecma_parser_reader.specs.State.{State, Reader, moved, coded, flagged, within}
 use Rattle.swc_ecma_parser_reader.specs.Entry.{error_tokens}
 use Rattle.swc_ecma_parser_reader.specs.Limits.{has_out_of_memory_token}
 use Rattle.swc_ecma_parser_reader.proofs.Notes.{or_nil, or_assoc, notes_nil, notes_assoc}

@@ -10,7 +10,6 @@ use Rattle.swc_ecma_parser_input.specs.TokenSource.{is_out_of_memory}
 use Rattle.swc_ecma_parser_input.specs.declared.syntax.EsSyntax.{EsSyntax}
 use Rattle.swc_ecma_parser_grammar.specs.Notes.{as_note}
 use Rattle.swc_ecma_parser_reader.specs.declared.mark.Mark.{Mark}
-use Rattle.swc_ecma_parser_reader.specs.declared.mark.Mark.TheVariants as mark
 use Rattle.swc_ecma_parser_reader.specs.Calls.{lacks_ahead, marks_memory, HeldBack, stays_held, was_recorded, Left, Leaves, MemoryLasts}
 use Rattle.swc_ecma_parser_reader.specs.Entry.{last_span, IsLater, IsBehind}
 use Rattle.swc_ecma_parser_reader.specs.Limits.{has_out_of_memory_token}
@@ -116,24 +115,6 @@ module _ (s : State) (k : EsSyntax) where
     held = held_recorded fs gs hs h.held;
   }
 
-  -- more is held back
-  held_later : (fs hs gs : List Fault) → HeldBack s fs hs → HeldBack s fs (hs ++ gs)
-  held_later fs hs gs (stays_held h) = stays_held (h.0 ++ gs, ap (λ z. z ++ gs) h.1 ∙ append_assoc s.notes.held_back h.0 gs)
-  held_later fs hs gs (was_recorded before recorded behind h g) = was_recorded before recorded behind h g
-
-  pub left_held : (c : Place) (fs hs gs : List Fault) (m : Option Mark) → Left s c fs k m hs → Left s c fs k m (hs ++ gs)
-  left_held c fs hs gs m h = record {
-    read = h.read;
-    rest = h.rest;
-    tokens = h.tokens;
-    drawn = h.drawn;
-    last = h.last;
-    faults = h.faults;
-    same_setting = h.same_setting;
-    lasted = h.lasted;
-    held = held_later fs hs gs h.held;
-  }
-
   -- module code begins: what was held back is recorded
   held_released : (fs gs hs : List Fault) → map as_note gs ≡ hs → IsLater s.faults fs → HeldBack s fs hs → HeldBack s (fs ++ gs) []
   held_released fs gs hs e f (stays_held h) =
@@ -151,6 +132,24 @@ module _ (s : State) (k : EsSyntax) where
     same_setting = h.same_setting;
     lasted = h.lasted;
     held = held_released fs gs hs e h.faults h.held;
+  }
+
+  -- more is held back
+  held_later : (fs hs gs : List Fault) → HeldBack s fs hs → HeldBack s fs (hs ++ gs)
+  held_later fs hs gs (stays_held h) = stays_held (h.0 ++ gs, ap (λ z. z ++ gs) h.1 ∙ append_assoc s.notes.held_back h.0 gs)
+  held_later fs hs gs (was_recorded before recorded behind h g) = was_recorded before recorded behind h g
+
+  pub left_held : (c : Place) (fs hs gs : List Fault) (m : Option Mark) → Left s c fs k m hs → Left s c fs k m (hs ++ gs)
+  left_held c fs hs gs m h = record {
+    read = h.read;
+    rest = h.rest;
+    tokens = h.tokens;
+    drawn = h.drawn;
+    last = h.last;
+    faults = h.faults;
+    same_setting = h.same_setting;
+    lasted = h.lasted;
+    held = held_later fs hs gs h.held;
   }
 
   -- a token is taken, and the one behind the next one is drawn

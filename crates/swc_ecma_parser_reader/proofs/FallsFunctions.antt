@@ -94,13 +94,6 @@ module _ (inner : Reader Tree) (h : (s : State) → Falls 1 (length s.at.left) (
       falls_then 0 0 (length u.at.left) (function_body inner params false false u) _ (function_body_falls false false u) (λ body v.
       falls_last 0 (length v.at.left) (told (misplaced_directive (is_binding_name p) body) v) _ (told_falls (misplaced_directive (is_binding_name p) body) v))))
 
-  -- the block of an arrow function
-  pub arrow_block_falls : (w : Bool) (s : State) → Falls 1 (length s.at.left) (arrow_block inner params w s)
-  unfolding arrow_block
-  arrow_block_falls w s = let t = coded (with_in (in_arrow s.code w)) s in
-      falls_coded 1 (length s.at.left) (enclosed (braced inner true) t) _ _
-      (falls_found 1 (length s.at.left) (braced inner true (unlabelled t)) _ _ (λ _ u. refl) (braced_takes inner h true (unlabelled t)))
-
   pub method_falls : (pat inner_class : Reader Tree) (form : MethodForm) (start : Span) (x : Tree) (s : State) → Falls 0 (length s.at.left) (function_by inner params pat inner_class (property_form form start x) s)
   unfolding function_by plain_method
   method_falls pat inner_class getter_form start x s = getter_falls start x s
@@ -113,3 +106,10 @@ module _ (inner : Reader Tree) (h : (s : State) → Falls 1 (length s.at.left) (
   function_stmt_falls at s e = let b = function_begins s.at e in
       falls_if 1 (length s.at.left) at.include_decl _ _ (function_falls s b) (rw (fault_here s (fault_at (span_at s.at) faults.DeclNotAllowed) (ap is_error e))
       (function_falls (noted (fault_at (span_at s.at) faults.DeclNotAllowed) s) b))
+
+  -- the block of an arrow function
+  pub arrow_block_falls : (w : Bool) (s : State) → Falls 1 (length s.at.left) (arrow_block inner params w s)
+  unfolding arrow_block
+  arrow_block_falls w s = let t = coded (with_in (in_arrow s.code w)) s in
+      falls_coded 1 (length s.at.left) (enclosed (braced inner true) t) _ _
+      (falls_found 1 (length s.at.left) (braced inner true (unlabelled t)) _ _ (λ _ u. refl) (braced_takes inner h true (unlabelled t)))

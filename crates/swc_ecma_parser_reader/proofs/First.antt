@@ -1,8 +1,7 @@
 -- `await using` before anything else of a statement: it takes a token, loses nothing, and is not too deep of itself.
-use Rattle.std.proofs.Common.{◌≡◌, ◌≢◌, ℕ, Bool, true, false, cond, List, length, refl, sym, ◌∙◌, ap}
+use Rattle.std.proofs.Common.{◌≡◌, ◌≢◌, Bool, true, false, cond, List, length, refl, sym, ◌∙◌, ap}
 use Rattle.std.specs.Prelude.{not, ◌&&◌, ◌||◌}
 use Rattle.swc_ecma_parser_error.specs.Kind as faults
-use Rattle.swc_ecma_parser_error.specs.Kind.{Fault}
 use Rattle.swc_ecma_parser_token.specs.declared.kind.TokenKind.{TokenKind}
 use Rattle.swc_ecma_parser_token.specs.declared.kind.TokenKind.TheVariants as kind
 use Rattle.swc_ecma_parser_input.specs.Place.{after}
@@ -21,11 +20,8 @@ use Rattle.swc_ecma_parser_reader.proofs.Takes.{Falls, falls_then, falls_last, f
 use Rattle.swc_ecma_parser_reader.proofs.Meets.{Answers, Meets, answers_then, answers_if, meets_if}
 use Rattle.swc_ecma_parser_reader.proofs.Behind as behind
 use Rattle.swc_ecma_parser_reader.proofs.Behind.{Passes, NothingLost, Lost, flagged_kept, behind_after, end_keeps}
-use Rattle.swc_ecma_parser_reader.proofs.Shallow as shallow
-use Rattle.swc_ecma_parser_reader.proofs.Shallow.{Fine, Shallow, fine_after, end_shallow}
 use Rattle.swc_ecma_parser_reader.proofs.expressions.Falls.{told_falls}
 use Rattle.swc_ecma_parser_reader.proofs.expressions.KeepSteps.{told_keeps}
-use Rattle.swc_ecma_parser_reader.proofs.expressions.LimitSteps.{told_shallow}
 
 module _ (found : Reader (List Tree)) (v : Bool) (rest : Position → Reader Tree) (at : Position) where
   -- where it does not declare, nothing is read before
@@ -33,16 +29,16 @@ module _ (found : Reader (List Tree)) (v : Bool) (rest : Position → Reader Tre
   unfolding await_using_or
   not_first s e = ap (λ b. cond (b && v) (await_using_stmt found s) (rest at s)) e
 
-  pub is_first : (s : State) → is_await_using_declaration at s.code s.at ≡ true → v ≡ true → await_using_or found v rest at s ≡ await_using_stmt found s
-  unfolding await_using_or
-  is_first s e h = ap (λ b. cond (b && v) (await_using_stmt found s) (rest at s)) e ∙ ap (λ b. cond b (await_using_stmt found s) (rest at s)) h
-
   pub first_elsewhere : (s : State) → sees kind.Await s.at ≡ false → await_using_or found v rest at s ≡ rest at s
   unfolding is_await_using_declaration
   first_elsewhere s e = not_first s (ap (λ b. b && ((at.include_decl || at.top_level) && (not (breaks_at (after s.at)) && is_using_declaration s.code (after s.at)))) e)
 
   pub first_at : (j : TokenKind) (s : State) → kind_at s.at ≡ j → same_kind j kind.Await ≡ false → await_using_or found v rest at s ≡ rest at s
   first_at j s e h = first_elsewhere s (ap (λ i. same_kind i kind.Await) e ∙ h)
+
+  pub is_first : (s : State) → is_await_using_declaration at s.code s.at ≡ true → v ≡ true → await_using_or found v rest at s ≡ await_using_stmt found s
+  unfolding await_using_or
+  is_first s e h = ap (λ b. cond (b && v) (await_using_stmt found s) (rest at s)) e ∙ ap (λ b. cond b (await_using_stmt found s) (rest at s)) h
 
   pub first_meets : (P : Tree → State → Type 0) (s : State) → (kind_at s.at ≡ kind.Await → Meets P (await_using_stmt found s)) → Meets P (rest at s) → Meets P (await_using_or found v rest at s)
   unfolding await_using_or
@@ -81,15 +77,3 @@ module _ (found : Reader (List Tree)) (v : Bool) (rest : Position → Reader Tre
     pub first_keeps : Answers (behind.Kept b) (Lost b) (rest at s) → Answers (behind.Kept b) (Lost b) (await_using_or found v rest at s)
     unfolding await_using_or
     first_keeps r = answers_if _ _ (is_await_using_declaration at s.code s.at && v) _ _ (λ e. await_using_keeps (and_yes (is_await_using_declaration at s.code s.at) v e).0) (λ _. r)
-
-  module _ {T : Fault → Type 0} (m : ℕ) (h : (s : State) → Fine T m s.at.left → Answers (shallow.Kept T m) (Shallow T) (found s)) (s : State) (f : Fine T m s.at.left) where
-    await_using_shallow : Answers (shallow.Kept T m) (Shallow T) (await_using_stmt found s)
-    unfolding await_using_stmt using_from misusing
-    await_using_shallow = answers_then _ _ (within with_in found (moved (moved s))) _
-        (answers_then (shallow.Kept T m) _ (found (coded (with_in s.code) (moved (moved s)))) _ (h (coded (with_in s.code) (moved (moved s))) (fine_after m (after s.at) (fine_after m s.at f))) (λ xs t k. k)) (λ xs t k.
-        answers_then (shallow.Kept T m) _ (misusing (record { lo = (span_at s.at).lo; hi = t.at.last.hi }) xs t) _ (told_shallow m _ t k) (λ _ u j.
-        answers_then _ _ (end faults.Expected u) _ (end_shallow m u j faults.Expected (λ e. cc)) (λ _ v i. i)))
-
-    pub first_shallow : Answers (shallow.Kept T m) (Shallow T) (rest at s) → Answers (shallow.Kept T m) (Shallow T) (await_using_or found v rest at s)
-    unfolding await_using_or
-    first_shallow r = answers_if _ _ (is_await_using_declaration at s.code s.at && v) _ _ (λ _. await_using_shallow) (λ _. r)

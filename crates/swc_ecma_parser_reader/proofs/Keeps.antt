@@ -31,7 +31,6 @@ use Rattle.swc_ecma_parser_grammar.specs.Follows.{is_async_function}
 use Rattle.std.proofs.Common.{◌≡◌, ℕ, zero, suc, Bool, true, false, List, ◌++◌, length, Ok, Err, refl, Result, sym, ◌∙◌, ap, append_assoc}
 use Rattle.std.specs.Prelude.{◌&&◌}
 use Rattle.swc_ecma_parser_common.specs.declared.span.Span.{Span}
-use Rattle.swc_ecma_parser_error.specs.Kind as faults
 use Rattle.swc_ecma_parser_error.specs.Kind.{Fault, fault_of}
 use Rattle.swc_ecma_parser_token.specs.declared.kind.TokenKind.{TokenKind}
 use Rattle.swc_ecma_parser_token.specs.declared.kind.TokenKind.TheVariants as kind
@@ -143,9 +142,6 @@ module _ (n : ℕ) (b : Passing n) where
   parameters_passing : Passes (reader.parameters n)
   parameters_passing = patterns.parameter_list_keeps (expr n) (cover n) (pattern n) (element n) b.exprs b.covers b.patterns b.elements
 
-  operators_passing : (start : Span) (x : Tree) → Passes (operators n start x)
-  operators_passing start x c s f = expressions.binary_from_keeps (right_operand n) (cover n) b.operands b.covers c 1 start x s f
-
   forms_passing : (form : FunctionForm) (c s : State) → Begins form s.at → NothingLost c s → Answers (Kept c) (Lost c) (function n form s)
   unfolding function
   forms_passing = function_by_keeps (stmt n nested_item) (b.stmts nested_item) (reader.parameters n) parameters_passing (pattern n) (class_expr (expr n left_side) (member n)) b.patterns
@@ -162,6 +158,9 @@ module _ (n : ℕ) (b : Passing n) where
   exprs_passing : (class : Class) → Passes (expr (suc n) class)
   unfolding function expr
   exprs_passing class c s f = expressions.level_keeps (expr n) (cover n) b.exprs b.covers c (function n) function_passing class s f
+
+  operators_passing : (start : Span) (x : Tree) → Passes (operators n start x)
+  operators_passing start x c s f = expressions.binary_from_keeps (right_operand n) (cover n) b.operands b.covers c 1 start x s f
 
 all_passing : (n : ℕ) → Passing n
 unfolding function expr cover head_cover pattern element decorated_in member right_operand stmt

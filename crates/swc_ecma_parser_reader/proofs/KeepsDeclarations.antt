@@ -56,14 +56,6 @@ module _ (known : KeepsBelow) (at : Position) (b : State) (s : State) (f : Nothi
       (declarators_keeps known.inner_expr known.inner_pat known.below_expr known.below_pat b false word (coded (with_in s.code) (moved s)) g) (λ x t k. flagged_kept b (moved s) t g k)) (λ x t k.
       answers_then (Kept b) _ (declaration_end (known.inner_expr expression) t) _ (declaration_end_keeps (known.inner_expr expression) (known.below_expr expression) b t k) (λ _ u j. j))
 
-  pub using_keeps : is_using_declaration s.code s.at ≡ true → Answers (Kept b) (Lost b) (using_stmt (declarators known.inner_expr known.inner_pat false decl.Var) s)
-  unfolding using_stmt using_from misusing
-  using_keeps e = let g = behind_after b s (using_stands s.code s.at e) refl f in answers_then _ _ (within with_in (declarators known.inner_expr known.inner_pat false decl.Var) (moved s)) _
-      (answers_then (Kept b) _ (declarators known.inner_expr known.inner_pat false decl.Var (coded (with_in s.code) (moved s))) _
-      (declarators_keeps known.inner_expr known.inner_pat known.below_expr known.below_pat b false decl.Var (coded (with_in s.code) (moved s)) g) (λ x t k. flagged_kept b (moved s) t g k)) (λ x t k.
-      answers_then (Kept b) _ (misusing (record { lo = (span_at s.at).lo; hi = t.at.last.hi }) x t) _ (told_keeps b _ t k) (λ _ u j.
-      answers_then _ _ (end faults.Expected u) _ (end_keeps b u j faults.Expected) (λ _ v g. g)))
-
   pub const_keeps : kind_at s.at ≡ kind.Const → Answers (Kept b) (Lost b) (const_stmt known.inner known.inner_expr known.inner_pat known.inner_head known.inner_params known.inner_member known.inner_operators at s)
   unfolding const_stmt
   const_keeps e = where_declared at.include_decl
@@ -75,6 +67,14 @@ module _ (known : KeepsBelow) (at : Position) (b : State) (s : State) (f : Nothi
   pub let_keeps : kind_at s.at ≡ kind.Let → Answers (Kept b) (Lost b) (let_stmt known.inner known.inner_expr known.inner_pat known.inner_head known.inner_params known.inner_member known.inner_operators at s)
   unfolding let_stmt
   let_keeps e = answers_if _ _ (at.include_decl && is_let_declaration s.at) _ _ (λ _. variables_keeps decl.Let (ap is_error e)) (λ _. other_keeps known at b s f)
+
+  pub using_keeps : is_using_declaration s.code s.at ≡ true → Answers (Kept b) (Lost b) (using_stmt (declarators known.inner_expr known.inner_pat false decl.Var) s)
+  unfolding using_stmt using_from misusing
+  using_keeps e = let g = behind_after b s (using_stands s.code s.at e) refl f in answers_then _ _ (within with_in (declarators known.inner_expr known.inner_pat false decl.Var) (moved s)) _
+      (answers_then (Kept b) _ (declarators known.inner_expr known.inner_pat false decl.Var (coded (with_in s.code) (moved s))) _
+      (declarators_keeps known.inner_expr known.inner_pat known.below_expr known.below_pat b false decl.Var (coded (with_in s.code) (moved s)) g) (λ x t k. flagged_kept b (moved s) t g k)) (λ x t k.
+      answers_then (Kept b) _ (misusing (record { lo = (span_at s.at).lo; hi = t.at.last.hi }) x t) _ (told_keeps b _ t k) (λ _ u j.
+      answers_then _ _ (end faults.Expected u) _ (end_keeps b u j faults.Expected) (λ _ v g. g)))
 
 pub declarators_keeps_all : (inner_expr : Class → Reader Tree) (inner_pat : Reader Tree) → ((class : Class) → Passes (inner_expr class)) → Passes inner_pat → Passes (declarators inner_expr inner_pat false decl.Var)
 declarators_keeps_all inner_expr inner_pat e p b s f = declarators_keeps inner_expr inner_pat e p b false decl.Var s f

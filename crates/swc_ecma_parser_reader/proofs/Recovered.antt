@@ -20,12 +20,9 @@ use Rattle.swc_ecma_parser_grammar.proofs.Tests.{or_no}
 use Rattle.swc_ecma_parser_reader.specs.State.{State, Outcome, Reader, moved, coded, within, fault, fault_at, put_back, dropped_as, attempted, says_out_of_memory}
 use Rattle.swc_ecma_parser_reader.specs.Recovery.{passed_at, passed_in, any_token, behind_any, end_turn, up_to_end, no_end, declaration_end}
 use Rattle.swc_ecma_parser_reader.specs.Entry.{IsBehind, error_tokens}
-use Rattle.swc_ecma_parser_reader.proofs.Meets.{Answers, answers_then, answers_if, loop_answers, meant}
+use Rattle.swc_ecma_parser_reader.proofs.Meets.{Answers, answers_then, answers_if, meant}
 use Rattle.swc_ecma_parser_reader.proofs.Behind.{Remembers, IsHeld, NothingLost, Kept, Lost, Passes, behind_self, behind_seen, behind_taken, error_taken, error_lost, flagged_kept, fault_keeps, loop_keeps}
 use Rattle.swc_ecma_parser_reader.proofs.Takes.{Falls, falls_past}
-use Rattle.swc_ecma_parser_reader.proofs.Shallow as shallow
-use Rattle.swc_ecma_parser_reader.proofs.Shallow.{Fine, Shallow, Levels, error_shallow, fine_after, fault_shallow}
-use Rattle.swc_ecma_parser_reader.proofs.Told.{TellOnly, tell_last}
 
 -- ---- what is left is the last of what was
 
@@ -51,15 +48,6 @@ behind_errors s t h =
     let e : error_tokens s.at.left ≡ error_tokens (h.read ++ t.at.left) = ap error_tokens h.tokens in
     let f = errors_left h.read t.at.left in omega arith
 
-pub behind_fine : {T : Fault → Type 0} (m : ℕ) (s t : State) → Fine T m s.at.left → IsBehind s t → Fine T m t.at.left
-behind_fine {T} m s t f h = let g = behind_length s t h in record {
-  few = few_enough (length t.at.left) (length s.at.left) m g f.few;
-  told = tell_last T h.read t.at.left (subst (TellOnly T) h.tokens f.told);
-}
-  where
-    few_enough : (a b c : ℕ) → a ≤ b → b ≤ c → a ≤ c
-    few_enough a b c h g = omega arith
-
 -- what loses nothing puts no token back
 pub kept_falls : {A : Type 0} (s : State) (o : Outcome A) → Answers (Kept s) (Lost s) o → Falls 0 (length s.at.left) o
 kept_falls s (Ok p) h = let g = behind_length s p.1 h.0 in omega arith
@@ -80,18 +68,10 @@ dropped_keeps b s f (Ok p) h = put_back_kept b s p.1 f h.0 h.1 h.2 h.3.setting h
 dropped_keeps b s f (Err e) h = answers_if (Kept b) (Lost b) (is_some e.1.scope.mark || says_out_of_memory e.0.kind) _ _ (λ _. h)
     (λ n. let g = or_no (is_some e.1.scope.mark) (says_out_of_memory e.0.kind) n in put_back_kept b s e.1 f h.0 h.1 (h.2 g.1) h.3.setting (h.3.mark g.0))
 
-dropped_shallow : {T : Fault → Type 0} {A : Type 0} (m : ℕ) (s : State) → Fine T m s.at.left → (o : Outcome A) → Answers (Kept s) (Lost s) o → Answers (shallow.Kept T m) (Shallow T) o → Answers (shallow.Kept T m) (Shallow T) (dropped_as s o)
-dropped_shallow {T} m s f (Ok p) h k = k
-dropped_shallow {T} m s f (Err e) h k = answers_if (shallow.Kept T m) (Shallow T) (is_some e.1.scope.mark || says_out_of_memory e.0.kind) _ _ (λ _. k) (λ _. behind_fine m s e.1 f h.0)
-
 module _ {A : Type 0} (p : Reader A) (passes : Passes p) where
   pub attempted_keeps : Passes (attempted p)
   unfolding attempted
   attempted_keeps b s f = dropped_keeps b s f.3.in_module (p s) (passes b s f)
-
-  pub attempted_shallow : {T : Fault → Type 0} (m : ℕ) (s : State) → Fine T m s.at.left → Answers (shallow.Kept T m) (Shallow T) (p s) → Answers (shallow.Kept T m) (Shallow T) (attempted p s)
-  unfolding attempted
-  attempted_shallow m s f h = dropped_shallow m s f (p s) (passes s s (behind_self s)) h
 
 -- where a token is read first, it is taken
 pub attempted_takes : {A : Type 0} (p q : Reader A) (s : State) → kind_at s.at ≢ kind.End → p s ≡ q (moved s) → Passes q → Falls 1 (length s.at.left) (attempted p s)
@@ -150,39 +130,6 @@ module _ (expr : Reader Tree) (passes : Passes expr) where
 
   pub declaration_end_falls : (s : State) → Falls 0 (length s.at.left) (declaration_end expr s)
   declaration_end_falls s = kept_falls s (declaration_end expr s) (declaration_end_keeps s s (behind_self s))
-
--- ---- it is not too deep of itself
-
-module _ {T : Fault → Type 0} (m : ℕ) (s : State) (f : Fine T m s.at.left) where
-  passed_at_shallow : (u : TokenAndSpan) (ts : List TokenAndSpan) (v : Token) → s.at.left ≡ u ∷ ts → u.token ≡ v → Answers (shallow.Kept T m) (Shallow T) (passed_at s v)
-  passed_at_shallow u ts (token.Error e) h i = answers_if _ _ (means_out_of_memory e.kind) _ _ (λ _. error_shallow m s u ts e h i f) (λ _. fine_after m s.at f)
-  passed_at_shallow u ts _ h i = fine_after m s.at f
-
-  passed_in_shallow : (ts : List TokenAndSpan) → s.at.left ≡ ts → Answers (shallow.Kept T m) (Shallow T) (passed_in s ts)
-  passed_in_shallow [] h = f
-  passed_in_shallow (u ∷ ts) h = passed_at_shallow u ts u.token h refl
-
-  any_shallow : Answers (shallow.Kept T m) (Shallow T) (any_token s)
-  unfolding any_token
-  any_shallow = passed_in_shallow s.at.left refl
-
-up_to_end_shallow : {T : Fault → Type 0} (m : ℕ) (s : State) → Fine T m s.at.left → Answers (shallow.Kept T m) (Shallow T) (up_to_end s)
-unfolding up_to_end end_turn behind_any
-up_to_end_shallow {T} m s f = loop_answers end_turn (shallow.Kept T m) (shallow.Kept T m) (Shallow T)
-    (λ x t g. answers_if _ _ (sees kind.Semi t.at) _ _ (λ _. fine_after m t.at g) (λ _. answers_if _ _ (can_end t.at) _ _ (λ _. g)
-    (λ _. answers_then _ _ (any_token t) _ (any_shallow m t g) (λ _ u k. answers_if _ _ (sees kind.Error u.at) _ _ (λ _. k) (λ _. k)))))
-    (λ t e. cc) tt s f
-
-module _ {T : Fault → Type 0} (expr : Reader Tree) (passes : Passes expr) (n : ℕ) (levels : Levels T n expr) where
-  inside_shallow : Levels T n (within with_in expr)
-  inside_shallow m s enough f = answers_then (shallow.Kept T m) _ (expr (coded (with_in s.code) s)) _ (levels m (coded (with_in s.code) s) enough f) (λ x t k. k)
-
-  pub declaration_end_shallow : Levels T n (declaration_end expr)
-  unfolding declaration_end no_end
-  declaration_end_shallow m s enough f = answers_if _ _ (sees kind.Semi s.at) _ _ (λ _. fine_after m s.at f) (λ _. answers_if _ _ (can_end s.at) _ _ (λ _. f)
-      (λ _. answers_then (shallow.Kept T m) _ (fault _ s) _ (fault_shallow m s f (fault_at (span_at s.at) faults.TS1005)) (λ _ t g.
-      answers_then (shallow.Kept T m) _ (attempted (within with_in expr) t) _ (attempted_shallow (within with_in expr) (inside_passes expr passes) m t g (inside_shallow m t enough g))
-      (λ _ u k. up_to_end_shallow m u k))))
 
 -- ---- as code meets it
 

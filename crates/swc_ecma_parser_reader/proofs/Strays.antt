@@ -3,22 +3,15 @@ use Rattle.std.proofs.Common.{◌≡◌, ◌⊎◌, inl, inr, false, length, Ok,
 use Rattle.swc_ecma_parser_error.specs.Kind as faults
 use Rattle.swc_ecma_parser_error.specs.Kind.{Fault}
 use Rattle.swc_ecma_parser_token.specs.declared.kind.TokenKind.TheVariants as kind
-use Rattle.swc_ecma_parser_input.specs.Place.{Place}
-use Rattle.swc_ecma_parser_model.specs.Tree as tree
 use Rattle.swc_ecma_parser_model.specs.Tree.{Tree}
 use Rattle.swc_ecma_parser_grammar.specs.Looks.{kind_at, sees, same_kind, span_at}
-use Rattle.swc_ecma_parser_grammar.specs.Names.{Code}
-use Rattle.swc_ecma_parser_grammar.specs.Walk.{walk, env_of}
-use Rattle.swc_ecma_parser_reader.specs.State.{State, Reader, noted, fault, fault_at, put_back, attempted}
+use Rattle.swc_ecma_parser_reader.specs.State.{State, Reader, noted, fault_at, put_back, attempted}
 use Rattle.swc_ecma_parser_reader.specs.Reader.{braced, caught, handler, finalizer, stray}
 use Rattle.swc_ecma_parser_reader.proofs.Behind.{Passes, behind_self}
 use Rattle.swc_ecma_parser_reader.proofs.Errors.{is_error, fault_here}
 use Rattle.swc_ecma_parser_reader.proofs.KeepsBlocks.{braces_keep}
-use Rattle.swc_ecma_parser_reader.proofs.KeepsTry.{caught_keeps, handler_keeps, finalizer_keeps}
+use Rattle.swc_ecma_parser_reader.proofs.KeepsTry.{caught_keeps, finalizer_keeps}
 use Rattle.swc_ecma_parser_reader.proofs.Recovered.{attempted_keeps, attempted_takes, kept_falls}
-use Rattle.swc_ecma_parser_reader.proofs.Between.{SoundTree, sound_as}
-use Rattle.swc_ecma_parser_reader.proofs.Meets.{Meets, meets_then}
-use Rattle.swc_ecma_parser_reader.proofs.SoundRecovered.{fault_drops, attempted_aside, drops_on, drops_sound}
 use Rattle.swc_ecma_parser_reader.proofs.Takes.{Falls, falls_next, falls_last}
 use Rattle.swc_ecma_parser_reader.proofs.expressions.CompleteKinds.{seen}
 use Rattle.swc_ecma_parser_reader.proofs.expressions.SoundSteps.{elsewhere}
@@ -50,13 +43,3 @@ module _ (inner : Reader Tree) (below : Passes inner) (pat : Reader Tree) (below
   stray_falls s (inr e) = let m = noted (fault_at (span_at s.at) faults.TS1005) s in
       rw (fault_here s (fault_at (span_at s.at) faults.TS1005) (ap is_error e), no_catch inner pat m (elsewhere s.at kind.Finally kind.Catch e refl))
       (falls_last 1 (length s.at.left) (attempted (finalizer inner) (put_back m m)) _ (finally_takes (put_back m m) e))
-
-  -- no rule has what it is read as
-  pub stray_sound : (Rule : Code → Tree → Place → Place → Type 0) (s : State) → Meets (λ x t. SoundTree Rule s x t) (stray inner pat s)
-  unfolding stray
-  stray_sound Rule s =
-      let x = tree.expr_stmt (span_at s.at) (tree.invalid (span_at s.at)) in
-      meets_then _ (fault (fault_at (span_at s.at) faults.TS1005) s) _ (fault_drops (fault_at (span_at s.at) faults.TS1005) s refl) (λ _ m d.
-      meets_then _ (attempted (handler inner pat) m) _ (attempted_aside (handler inner pat) (handler_keeps inner below pat below_pat) m) (λ _ i a.
-      meets_then _ (attempted (finalizer inner) i) _ (attempted_aside (finalizer inner) (finalizer_keeps inner below) i) (λ _ t b.
-      sound_as s t refl refl refl (λ r. r) (drops_sound (λ k l. walk (env_of k l) x) (λ k. Rule k x) s t (drops_on s i t (drops_on s m i d a) b)))))

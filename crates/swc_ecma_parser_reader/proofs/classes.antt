@@ -1,14 +1,5 @@
 pub mod Shared
 pub mod Words
-pub mod Goes
 pub mod Falls
 pub mod Loops
-pub mod Limits
 pub mod Keeps
-pub mod SoundKeys
-pub mod SoundMembers
-pub mod SoundClasses
-pub mod CompleteKeys
-pub mod CompleteMembers
-pub mod CompleteClasses
-pub mod Codes

@@ -123,7 +123,7 @@ pub fn close<P: Cursor, T: Trees>(p: &mut P, v: Cover<T::Expr>) -> PResult<T::Ex
 }
 
 /// The refusal of what stands where the `{` of an object must.
-#[tactic(auto, using(swc_ecma_parser_reader::proofs::Objects::brace_refused))]
+#[tactic(auto, using(swc_ecma_parser_soundness::proofs::Objects::brace_refused))]
 pub fn no_brace<P: Cursor>(p: &mut P) -> Error
     requires { looks.sees kind.LBrace (P.seen p.old).at ≡ false }
     ensures { kind_of result.kind ≢ kinds.OutOfMemory

@@ -27,7 +27,7 @@ pub fn since<P: Cursor>(p: &P, start: Span) -> Span
 }
 
 /// Where a whole begins: the span of the first token, or, where none is left, the empty one at the end of what was read last.
-#[tactic(auto, using(swc_ecma_parser_reader::proofs::Empty::start_ends, swc_ecma_parser_reader::proofs::Empty::start_goes))]
+#[tactic(auto, using(swc_ecma_parser_soundness::proofs::Empty::start_ends, swc_ecma_parser_soundness::proofs::Empty::start_goes))]
 pub fn whole_start<P: Cursor>(p: &P) -> Span
     ensures { result ≡ start_at (P.seen p.now).at }
 {

@@ -17,8 +17,8 @@ use Rattle.swc_ecma_parser_grammar.proofs.Tests.{and_yes}
 use Rattle.swc_ecma_parser_reader.specs.Entry.{last_span, TakesSome, StartsAt, at_once, behind_decorators, TakenBehind, errors_behind, dropped_behind, StandsAt, Stand, StandsAsScript, unmarked, AnswersScript, AnswersStatement}
 use Rattle.swc_ecma_parser_reader.specs.Reader.{whole_stmt, script}
 use Rattle.swc_ecma_parser_reader.specs.State.{State}
-use Rattle.swc_ecma_parser_reader.proofs.SoundScripts.{script_is_sound}
-use Rattle.swc_ecma_parser_reader.proofs.Spans.{whole_is_on_tokens}
+use Rattle.swc_ecma_parser_soundness.proofs.SoundScripts.{script_is_sound}
+use Rattle.swc_ecma_parser_soundness.proofs.Spans.{whole_is_on_tokens}
 use Rattle.swc_ecma_parser_span_order.specs.Forward.{in_order}
 use Rattle.swc_ecma_parser_span_order.specs.Follows.{follow, follow_between, items_in, ItemInOrder, ItemsInOrder}
 use Rattle.swc_ecma_parser_span_order.specs.Laws.{StatementsFollow, ScriptsFollow}

@@ -27,7 +27,7 @@ use Rattle.swc_ecma_parser_reader.proofs.Behind.{Kept, Lost, behind_self}
 use Rattle.swc_ecma_parser_reader.proofs.KeepsTry.{stray_keeps}
 use Rattle.swc_ecma_parser_reader.proofs.Meets.{Answers, Meets, Refuses, meets_then, meets_if, wanted_meets, refuse_meets, loop_answers}
 use Rattle.swc_ecma_parser_reader.proofs.Recovered.{Lossless}
-use Rattle.swc_ecma_parser_reader.proofs.SoundParts.{after_return_meets, labelled_meets}
+use Rattle.swc_ecma_parser_soundness.proofs.SoundParts.{after_return_meets, labelled_meets}
 use Rattle.swc_ecma_parser_reader.proofs.Strays.{stray_falls}
 use Rattle.swc_ecma_parser_reader.proofs.Takes.{Falls}
 use Rattle.swc_ecma_parser_reader.proofs.expressions.SoundSteps.{meets_as}

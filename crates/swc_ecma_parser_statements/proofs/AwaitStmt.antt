@@ -9,8 +9,8 @@ use Rattle.swc_ecma_parser_reader.specs.AwaitWords.{begins_await_using, behind_a
 use Rattle.swc_ecma_parser_reader.specs.Expressions.{Cover}
 use Rattle.swc_ecma_parser_reader.specs.Reader.{nests}
 use Rattle.swc_ecma_parser_reader.specs.State.{State, Outcome, moved, coded}
-use Rattle.swc_ecma_parser_reader.proofs.AwaitWords.{await_code}
-use Rattle.swc_ecma_parser_reader.proofs.HeadWords.{answered}
+use Rattle.swc_ecma_parser_soundness.proofs.AwaitWords.{await_code}
+use Rattle.swc_ecma_parser_soundness.proofs.HeadWords.{answered}
 
 pub was_taken : (s u : State) (x : Unit {0}) → ◌≡◌ {A = Outcome (Unit {0})} (Ok (tt, moved s)) (Ok (x, u)) → u ≡ moved s
 was_taken s u x e = answered (Ok (x, u)) x tt u (moved s) refl (sym e)

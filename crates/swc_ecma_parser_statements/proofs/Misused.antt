@@ -7,7 +7,7 @@ use Rattle.swc_ecma_parser_model.specs.Tree.{Tree}
 use Rattle.swc_ecma_parser_grammar.specs.scaffold.Using.{misused, each_misused}
 use Rattle.swc_ecma_parser_reader.specs.Jumps.{told}
 use Rattle.swc_ecma_parser_reader.specs.State.{State, and_then}
-use Rattle.swc_ecma_parser_reader.proofs.Plain.{told_append}
+use Rattle.swc_ecma_parser_soundness.proofs.Plain.{told_append}
 
 pub told_ok : (fs gs : List Fault) (s t : State) → told fs s ≡ Ok (tt, t) → told (fs ++ gs) s ≡ told gs t
 told_ok fs gs s t e = told_append fs gs s ∙ ap (λ o. and_then o (λ _. told gs)) e

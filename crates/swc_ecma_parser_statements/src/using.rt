@@ -134,7 +134,7 @@ fn may_declare<P: Cursor>(p: &P, at: Position) -> bool
 }
 
 /// The same, where what stands further in can be read in so many levels.
-#[tactic(auto, using(swc_ecma_parser_reader::proofs::AwaitWords::shut, swc_ecma_parser_reader::proofs::AwaitWords::opened))]
+#[tactic(auto, using(swc_ecma_parser_soundness::proofs::AwaitWords::shut, swc_ecma_parser_soundness::proofs::AwaitWords::opened))]
 pub fn begins_await_using<P: Cursor>(p: &P, depth: usize, at: Position) -> bool
     ensures { result ≡ (rules.nests depth && words.begins_await_using at (P.seen p.now).at) }
 {

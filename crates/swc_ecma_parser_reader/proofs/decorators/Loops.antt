@@ -1,18 +1,17 @@
 -- What the code of decorators cites: chains and lists of them, unfolded turn by turn, and levels, where a number is 0 or not.
-use Rattle.std.proofs.Common.{◌≡◌, ℕ, suc, ◌-◌, ◌<◌, true, false, List, [], ◌∷◌, ◌++◌, length, Ok, Err, refl}
+use Rattle.std.proofs.Common.{◌≡◌, ℕ, ◌-◌, ◌<◌, true, false, List, [], ◌∷◌, ◌++◌, length, Ok, Err, refl}
 use Rattle.swc_ecma_parser_common.specs.declared.span.Span.{Span}
 use Rattle.swc_ecma_parser_error.specs.Kind.{Fault}
 use Rattle.swc_ecma_parser_token.specs.declared.kind.TokenKind.TheVariants as kind
 use Rattle.swc_ecma_parser_model.specs.Tree.{Tree}
 use Rattle.swc_ecma_parser_grammar.specs.Looks.{sees}
-use Rattle.swc_ecma_parser_grammar.specs.language.Goals.{Class, expression}
+use Rattle.swc_ecma_parser_grammar.specs.language.Goals.{expression}
 use Rattle.swc_ecma_parser_reader.specs.State.{State, loop, too_deep}
 use Rattle.swc_ecma_parser_reader.specs.Expressions.{accessed, called, expr_level}
 use Rattle.swc_ecma_parser_reader.specs.Decorators.{chain_turn, decorated, decorator, decorators_turn}
 use Rattle.swc_ecma_parser_reader.specs.DecoratorLevels.{decorated_in}
 use Rattle.swc_ecma_parser_reader.specs.Reader.{expr, cover, function}
 use Rattle.swc_ecma_parser_reader.proofs.Falls.{decorated_in_falls}
-use Rattle.swc_ecma_parser_reader.proofs.Sound.{expr_code}
 use Rattle.swc_ecma_parser_reader.proofs.Steps.{loop_more, loop_done, loop_err}
 use Rattle.swc_ecma_parser_reader.proofs.expressions.Loops.{shorter_by, accessed_shorter, called_shorter, deeper}
 use Rattle.swc_ecma_parser_reader.proofs.decorators.Falls.{decorator_falls}
@@ -71,8 +70,3 @@ decorated_lowest n s e = rw e refl
 pub decorated_above : (n : ℕ) (s : State) → 0 < n → decorated_in n s ≡ decorated (expr (n - 1)) (cover (n - 1)) (expr_level (expr (n - 1)) (cover (n - 1)) (function (n - 1)) expression) s
 unfolding function expr decorated_in
 decorated_above n s h = deeper (λ k. decorated_in k s) n h
-
--- an expression of the level of the whole leaves the code as it was
-pub whole_code : (n : ℕ) (class : Class) (s : State) (x : Tree) (t : State) → expr_level (expr n) (cover n) (function n) class s ≡ Ok (x, t) → t.code ≡ s.code
-unfolding function expr
-whole_code n class s x t e = expr_code (suc n) class s x t e

@@ -40,7 +40,7 @@ use Rattle.swc_ecma_parser_reader.specs.Arrows.{begins_named_arrow, Group, behin
 use Rattle.swc_ecma_parser_reader.specs.AsyncArrows.{Argument, closed_arguments, closed_argument, argument_pattern, argument_parameter, argument_parameters, async_called, spread_argument, plain_argument, argument, either_turn, either_arguments, begins_async_arrow, async_named_arrow, behind_async, async_grouped}
 use Rattle.swc_ecma_parser_reader.specs.Yields.{begins_yield, bare_yield, yielded, behind_yield, yield_expr}
 use Rattle.swc_ecma_parser_reader.specs.Heads.{sequenced, head_expr}
-use Rattle.swc_ecma_parser_reader.proofs.Takes.{Falls, falls_then, falls_last, falls_coded, falls_found, falls_if, less, falls_next, moves, takes, takes_one, falls_past, falls_moved, wanted_falls, refuse_falls, refused_falls, fault_falls, expect_falls, loop_falls, reference_falls, reject_falls}
+use Rattle.swc_ecma_parser_reader.proofs.Takes.{Falls, falls_then, falls_last, falls_coded, falls_found, falls_if, less, falls_next, moves, takes, takes_one, falls_past, falls_moved, wanted_falls, refuse_falls, fault_falls, expect_falls, loop_falls, reference_falls, reject_falls}
 use Rattle.swc_ecma_parser_reader.proofs.Meets.{saw}
 use Rattle.swc_ecma_parser_reader.proofs.expressions.FallsTemplates.{new_target_falls, in_word_falls, regex_falls, pieces_fall, template_falls}
 use Rattle.swc_ecma_parser_input.specs.declared.context.Context.{Context}

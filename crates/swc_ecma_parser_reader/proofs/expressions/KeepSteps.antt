@@ -46,15 +46,6 @@ module _ (b : State) (s : State) (f : NothingLost b s) where
   pub unexpected_keeps : {A : Type 0} (P : A → State → Type 0) → Answers P (Lost b) (wanted faults.Unexpected s)
   unexpected_keeps P = wanted_keeps P faults.Unexpected b s f
 
-  pub taken_keeps : (ts : List TokenAndSpan) → s.at.left ≡ ts → (o : Option Tree) → literal_in ts ≡ o → Answers (Kept b) (Lost b) (taken o s)
-  taken_keeps ts is None e = f
-  taken_keeps [] is (Some x) e = cc
-  taken_keeps (u ∷ ts) is (Some x) e = behind_taken b s u ts is (literal_stands u.span u.token x e) f
-
-  pub literal_keeps : Answers (Kept b) (Lost b) (literal s)
-  unfolding literal
-  literal_keeps = taken_keeps s.at.left refl (literal_in s.at.left) refl
-
   regex_taken : (ts : List TokenAndSpan) → s.at.left ≡ ts → (o : Option Tree) → regex_in ts ≡ o → Answers (Kept b) (Lost b) (regex_or o s)
   regex_taken ts is None e = unexpected_keeps _
   regex_taken [] is (Some x) e = cc
@@ -71,6 +62,35 @@ module _ (b : State) (s : State) (f : NothingLost b s) where
   pub in_word_keeps : Answers (Kept b) (Lost b) (in_word s)
   unfolding in_word
   in_word_keeps = answers_if _ _ (sees kind.In s.at && s.code.flags.include_in_expr) _ _ (λ e. behind_seen b s kind.In (and_yes (sees kind.In s.at) _ e).0 refl f) (λ _. unexpected_keeps _)
+
+  pub closed_keeps : (x : Tree) → Answers (Kept b) (Lost b) (closed_left x s)
+  unfolding closed_left
+  closed_keeps x = answers_if _ _ (continues_left_side s.at) _ _ (λ _. unexpected_keeps _) (λ _. f)
+
+  pub unassigned_keeps : (x : Tree) → Answers (Kept b) (Lost b) (unassigned x s)
+  unfolding unassigned
+  unassigned_keeps x = answers_if _ _ (continues_conditional s.at) _ _ (λ _. unexpected_keeps _) (λ _. f)
+
+  pub unheaded_keeps : (is_async : Bool) (x : Tree) → Answers (Kept b) (Lost b) (unheaded is_async x s)
+  unfolding unheaded
+  unheaded_keeps is_async x = answers_if _ _ (heads_arrow is_async x s) _ _ (λ _. unexpected_keeps _) (λ _. f)
+
+  pub shorthand_name_keeps : (span : Span) (text : Text) → Answers (Kept b) (Lost b) (shorthand_name span text s)
+  unfolding shorthand_name
+  shorthand_name_keeps span text = answers_then _ _ (as_name may_refer_to_await span text s) _ (as_name_keeps b s f may_refer_to_await span text) (λ _ t g. g)
+
+  pub shorthand_keeps : (x : Tree) → Answers (Kept b) (Lost b) (shorthand x s)
+  shorthand_keeps (tree.ident span text) = shorthand_name_keeps span text
+  shorthand_keeps _ = unexpected_keeps _
+
+  pub taken_keeps : (ts : List TokenAndSpan) → s.at.left ≡ ts → (o : Option Tree) → literal_in ts ≡ o → Answers (Kept b) (Lost b) (taken o s)
+  taken_keeps ts is None e = f
+  taken_keeps [] is (Some x) e = cc
+  taken_keeps (u ∷ ts) is (Some x) e = behind_taken b s u ts is (literal_stands u.span u.token x e) f
+
+  pub literal_keeps : Answers (Kept b) (Lost b) (literal s)
+  unfolding literal
+  literal_keeps = taken_keeps s.at.left refl (literal_in s.at.left) refl
 
   pub word_by_keeps : (u : TokenAndSpan) (ts : List TokenAndSpan) → s.at.left ≡ u ∷ ts → (v : Token) (span : Span) → u.token ≡ v → Answers (Kept b) (Lost b) (word_by s v span)
   word_by_keeps u ts is (token.Word w) span g = behind_taken b s u ts is (rw g refl) f
@@ -101,29 +121,9 @@ module _ (b : State) (s : State) (f : NothingLost b s) where
   unfolding simple
   simple_keeps x = answers_if _ _ (is_simple_target x) _ _ (λ _. refl) (λ _. reject_keeps _ faults.NotSimpleAssign (span_of x) b s f)
 
-  pub closed_keeps : (x : Tree) → Answers (Kept b) (Lost b) (closed_left x s)
-  unfolding closed_left
-  closed_keeps x = answers_if _ _ (continues_left_side s.at) _ _ (λ _. unexpected_keeps _) (λ _. f)
-
   pub unmixed_keeps : (start : Span) (op : BinaryOp) (x y : Tree) → Answers (Kept b) (Lost b) (unmixed start op x y s)
   unfolding unmixed
   unmixed_keeps start op x y = answers_if _ _ (mixes op x || mixes op y) _ _ (λ _. reject_keeps _ faults.NullishCoalescingWithLogicalOp _ b s f) (λ _. f)
-
-  pub unassigned_keeps : (x : Tree) → Answers (Kept b) (Lost b) (unassigned x s)
-  unfolding unassigned
-  unassigned_keeps x = answers_if _ _ (continues_conditional s.at) _ _ (λ _. unexpected_keeps _) (λ _. f)
-
-  pub unheaded_keeps : (is_async : Bool) (x : Tree) → Answers (Kept b) (Lost b) (unheaded is_async x s)
-  unfolding unheaded
-  unheaded_keeps is_async x = answers_if _ _ (heads_arrow is_async x s) _ _ (λ _. unexpected_keeps _) (λ _. f)
-
-  pub shorthand_name_keeps : (span : Span) (text : Text) → Answers (Kept b) (Lost b) (shorthand_name span text s)
-  unfolding shorthand_name
-  shorthand_name_keeps span text = answers_then _ _ (as_name may_refer_to_await span text s) _ (as_name_keeps b s f may_refer_to_await span text) (λ _ t g. g)
-
-  pub shorthand_keeps : (x : Tree) → Answers (Kept b) (Lost b) (shorthand x s)
-  shorthand_keeps (tree.ident span text) = shorthand_name_keeps span text
-  shorthand_keeps _ = unexpected_keeps _
 
   -- a refusal of the left operand, or the state as it is
   pub left_operand_keeps : (op : BinaryOp) (x : Tree) → Answers (λ _ t. t ≡ s) (Lost b) (left_operand op x s)

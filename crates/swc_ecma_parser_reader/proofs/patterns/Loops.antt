@@ -16,6 +16,7 @@ use Rattle.swc_ecma_parser_reader.proofs.expressions.Loops.{shorter_by, kept_by,
 use Rattle.swc_ecma_parser_reader.proofs.patterns.Falls.{property_falls}
 
 -- ---- elements: `]` ends them, a comma with nothing before it stands behind a hole, and `]` stands behind the rest; behind each other it
+
 -- stands, or a comma
 
 module _ (n : ℕ) where

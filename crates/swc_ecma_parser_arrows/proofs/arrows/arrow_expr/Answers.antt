@@ -7,7 +7,7 @@ use Rattle.swc_ecma_parser_grammar.specs.language.Goals.{assignment}
 use Rattle.swc_ecma_parser_cursor.specs.Around.{left_body}
 use Rattle.swc_ecma_parser_reader.specs.State.{State, Reader, coded}
 use Rattle.swc_ecma_parser_reader.specs.Reader.{expr}
-use Rattle.swc_ecma_parser_reader.proofs.Sound.{expr_code}
+use Rattle.swc_ecma_parser_soundness.proofs.Sound.{expr_code}
 use Rattle.swc_ecma_parser_functions.proofs.Enclosed.{reached, body_err, entered, body_given}
 use Rattle.swc_ecma_parser_arrows.proofs.NoBlocks.{expr_no_block}
 use Rattle.swc_ecma_parser_arrows.proofs.arrows.arrow_expr.Goals as goal

@@ -1,5 +1,5 @@
 use Rattle.std.proofs.Common.{sym, ap, ◌∙◌}
-use Rattle.swc_ecma_parser_reader.proofs.classes.Codes.{members_code}
+use Rattle.swc_ecma_parser_soundness.proofs.classes.Codes.{members_code}
 use Rattle.swc_ecma_parser_classes.proofs.class.class_parts_with.Goals as goal
 
 pub set_flags-requires-2 : goal.set_flags-requires-2

@@ -2,7 +2,7 @@ use Rattle.std.proofs.Common.{◌≡◌, Err, subst, ◌∙◌}
 use Rattle.std.proofs.lemmas.Result.{err_from_is_err_and}
 use Rattle.swc_ecma_parser_error.specs.Kind.{Fault, fault_of}
 use Rattle.swc_ecma_parser_reader.specs.State.{State, fault}
-use Rattle.swc_ecma_parser_reader.proofs.Plain.{duplicate, told_err}
+use Rattle.swc_ecma_parser_soundness.proofs.Plain.{duplicate, told_err}
 use Rattle.swc_ecma_parser_control.proofs.label.duplicate.Goals as goal
 
 pub returns-in_err-fault : goal.returns-in_err-fault

@@ -1,6 +1,6 @@
 use Rattle.std.proofs.Common.{◌≡◌, replicate}
 use Rattle.swc_ecma_parser_reader.specs.Reader as rules
-use Rattle.swc_ecma_parser_reader.proofs.Plain.{duplicate}
+use Rattle.swc_ecma_parser_soundness.proofs.Plain.{duplicate}
 use Rattle.swc_ecma_parser_control.proofs.label.duplicate.Given as goal
 
 -- what all of them come to is what the rest of them comes to

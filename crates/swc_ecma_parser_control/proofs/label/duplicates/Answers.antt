@@ -2,7 +2,7 @@ use Rattle.std.proofs.Common.{replicate, count_by, sym, ap, subst, ◌∙◌}
 use Rattle.std.specs.Str.{bytes_eq}
 use Rattle.swc_ecma_parser_reader.specs.State.{Gives}
 use Rattle.swc_ecma_parser_reader.specs.Reader.{told}
-use Rattle.swc_ecma_parser_reader.proofs.Plain.{duplicate, duplicates_counted}
+use Rattle.swc_ecma_parser_soundness.proofs.Plain.{duplicate, duplicates_counted}
 use Rattle.swc_ecma_parser_control.proofs.label.duplicates.Goals as goal
 
 pub returns : goal.returns

@@ -2,7 +2,7 @@ use Rattle.std.proofs.Common.{Ok, Err, refl, arith, sym, ap, subst, ◌∙◌}
 use Rattle.std.proofs.lemmas.Result.{err_from_is_err_and}
 use Rattle.swc_ecma_parser_error.specs.Kind.{Fault, fault_of}
 use Rattle.swc_ecma_parser_reader.specs.State.{State, GivesAs}
-use Rattle.swc_ecma_parser_reader.proofs.Sound.{declarators_code}
+use Rattle.swc_ecma_parser_soundness.proofs.Sound.{declarators_code}
 use Rattle.swc_ecma_parser_knot.proofs.Declared.{no_class, no_var}
 use Rattle.swc_ecma_parser_reader.proofs.patterns.Loops.{pattern_above, element_above}
 use Rattle.swc_ecma_parser_shared.specs.Covers.{cover_of, read}

@@ -3,7 +3,7 @@ use Rattle.std.proofs.lemmas.Result.{err_from_is_err_and}
 use Rattle.swc_ecma_parser_input.specs.declared.context.Context.{Context}
 use Rattle.swc_ecma_parser_grammar.specs.language.Contexts as contexts
 use Rattle.swc_ecma_parser_reader.specs.State.{coded}
-use Rattle.swc_ecma_parser_reader.proofs.HeadWords.{pattern_declares}
+use Rattle.swc_ecma_parser_soundness.proofs.HeadWords.{pattern_declares}
 use Rattle.swc_ecma_parser_loops.proofs.AsyncHead.{refused, refused_behind, code_stays}
 use Rattle.swc_ecma_parser_loops.proofs.head.async_head.Goals as goal
 

@@ -1,5 +1,5 @@
 use Rattle.std.proofs.Common.{sym, ap, ◌∙◌}
-use Rattle.swc_ecma_parser_reader.proofs.Sound.{head_code_stays}
+use Rattle.swc_ecma_parser_soundness.proofs.Sound.{head_code_stays}
 use Rattle.swc_ecma_parser_loops.proofs.head.head_expression.Goals as goal
 
 pub set_flags-requires-2 : goal.set_flags-requires-2

@@ -1,5 +1,5 @@
 use Rattle.std.proofs.Common.{sym, ap, ◌∙◌}
-use Rattle.swc_ecma_parser_reader.proofs.Sound.{declarators_code}
+use Rattle.swc_ecma_parser_soundness.proofs.Sound.{declarators_code}
 use Rattle.swc_ecma_parser_loops.proofs.Flags.{head_module}
 use Rattle.swc_ecma_parser_loops.proofs.head.head_variables.Goals as goal
 

@@ -1,7 +1,7 @@
 -- A name that a head begins with declares nothing.
 use Rattle.std.proofs.Common.{◌≡◌, sym, ap, ◌∙◌}
 use Rattle.swc_ecma_parser_grammar.specs.Own.{head_faults}
-use Rattle.swc_ecma_parser_reader.proofs.HeadWords.{pattern_declares}
+use Rattle.swc_ecma_parser_soundness.proofs.HeadWords.{pattern_declares}
 use Rattle.swc_ecma_parser_loops.proofs.head.named_head.Goals as goal
 
 pub returns-clause-bare : goal.returns-clause-bare

@@ -1,5 +1,5 @@
 use Rattle.std.proofs.Common.{sym, ap, ◌∙◌}
-use Rattle.swc_ecma_parser_reader.proofs.classes.Codes.{block_code}
+use Rattle.swc_ecma_parser_soundness.proofs.classes.Codes.{block_code}
 use Rattle.swc_ecma_parser_members.proofs.methods.static_block.Goals as goal
 
 pub set_flags-requires-2 : goal.set_flags-requires-2

@@ -1,5 +1,5 @@
 use Rattle.std.proofs.Common.{sym, ap, ◌∙◌}
-use Rattle.swc_ecma_parser_reader.proofs.decorators.Loops.{whole_code}
+use Rattle.swc_ecma_parser_soundness.proofs.decorators.Loops.{whole_code}
 use Rattle.swc_ecma_parser_operators.proofs.decorator.group.Goals as goal
 
 pub set_flags-requires-2 : goal.set_flags-requires-2

@@ -1,6 +1,6 @@
 use Rattle.std.proofs.Common.{Err}
 use Rattle.swc_ecma_parser_error.specs.Kind.{fault_of}
-use Rattle.swc_ecma_parser_reader.proofs.Objects.{brace_unread}
+use Rattle.swc_ecma_parser_soundness.proofs.Objects.{brace_unread}
 use Rattle.swc_ecma_parser_shared.proofs.cover.no_brace.Goals as goal
 
 pub returns-in-Ok : goal.returns-in-Ok

@@ -1,7 +1,7 @@
 use Rattle.std.proofs.Common.{◌≡◌, ap, subst, ◌∙◌}
 use Rattle.std.specs.Prelude.{IfOk, option_map}
 use Rattle.swc_ecma_parser_model.specs.Targets.{as_target}
-use Rattle.swc_ecma_parser_reader.proofs.expressions.Targets.{literal_target}
+use Rattle.swc_ecma_parser_soundness.proofs.expressions.Targets.{literal_target}
 use Rattle.swc_ecma_parser_shared.proofs.cover.target.Goals as goal
 
 pub returns-in-Some-clause-pattern : goal.returns-in-Some-clause-pattern

@@ -1,5 +1,5 @@
 use Rattle.std.proofs.Common.{sym, ap, ◌∙◌}
-use Rattle.swc_ecma_parser_reader.proofs.Sound.{declarators_code}
+use Rattle.swc_ecma_parser_soundness.proofs.Sound.{declarators_code}
 use Rattle.swc_ecma_parser_statements.proofs.using.using_from.Goals as goal
 
 pub set_flags-requires-2 : goal.set_flags-requires-2

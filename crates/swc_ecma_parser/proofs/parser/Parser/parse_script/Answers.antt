@@ -1,7 +1,7 @@
 use Rattle.std.proofs.Common.{sym, ap, ◌∙◌, subst}
 use Rattle.swc_ecma_parser_ast.specs.View.{view_script}
 use Rattle.swc_ecma_parser_reader.specs.Entry.{unmarked}
-use Rattle.swc_ecma_parser_reader.proofs.Entries as entries
+use Rattle.swc_ecma_parser_completeness.proofs.Entries as entries
 use Rattle.swc_ecma_parser_reader.proofs.Keeps as keeps
 use Rattle.swc_ecma_parser_exactness.proofs.Completed.{script_completes}
 use Rattle.swc_ecma_parser_exactness.proofs.Decided.{script_decided}

@@ -1,7 +1,7 @@
 use Rattle.std.proofs.Common.{true, sym, ap, ◌∙◌, subst}
 use Rattle.swc_ecma_parser_ast.specs.View.{view_stmt}
 use Rattle.swc_ecma_parser_reader.specs.Entry.{unmarked}
-use Rattle.swc_ecma_parser_reader.proofs.Statements as statements
+use Rattle.swc_ecma_parser_completeness.proofs.Statements as statements
 use Rattle.swc_ecma_parser_reader.proofs.Keeps as keeps
 use Rattle.swc_ecma_parser_exactness.proofs.Completed.{statement_completes}
 use Rattle.swc_ecma_parser_exactness.proofs.Decided.{statement_decided}

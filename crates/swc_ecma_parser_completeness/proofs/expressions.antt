@@ -1,0 +1,16 @@
+pub mod LimitSteps
+pub mod Limits
+pub mod CompleteKinds
+pub mod PartEnds
+pub mod CompleteMethods
+pub mod Yields
+pub mod NamedArrows
+pub mod CompleteParts
+pub mod CompleteCovers
+pub mod CompleteTemplates
+pub mod CompleteLefts
+pub mod CompleteArrows
+pub mod CompleteAsync
+pub mod Complete
+pub mod HeadEnds
+pub mod CompleteHeads

@@ -1,0 +1,4 @@
+pub mod SoundKeys
+pub mod SoundMembers
+pub mod SoundClasses
+pub mod Codes

@@ -1,0 +1,9 @@
+pub mod Bare
+pub mod Declared
+pub mod Dressed
+pub mod Labels
+pub mod Spans
+pub mod Sound
+pub mod Loops
+pub mod Leading
+pub mod SoundStatements
