@@ -4,6 +4,7 @@
 
 pub mod headline;
 mod lexing;
+mod own;
 mod parser;
 
 pub use lexing::reads_plain_texts;

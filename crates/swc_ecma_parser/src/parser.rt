@@ -31,6 +31,7 @@ ghost use Rattle.swc_ecma_parser_token.specs.declared.token.TokenAndSpan.{TokenA
 ghost use Rattle.swc_ecma_parser.specs.Reading.{IsReading};
 ghost use Rattle.swc_ecma_parser_entries.specs.Refusals.{Refuses};
 
+use crate::own::ByType;
 use std::alloc::Global;
 use std::marker::Model;
 use swc_ecma_parser_ast::{Module, ModuleItem, Program, Script, Stmt};
@@ -197,7 +198,7 @@ impl<I: Tokens> Parser<I> {
         let alloc = self.alloc;
         let limit = self.limit as usize;
         let state = self.state.take().unwrap();
-        let (state, read) = script::<I, Ast>(alloc, state, limit);
+        let (state, read) = script::<I, ByType, Ast>(alloc, state, limit);
         self.state = Some(state);
         read
     }
@@ -288,7 +289,7 @@ impl<I: Tokens> Parser<I> {
         let alloc = self.alloc;
         let limit = self.limit as usize;
         let state = self.state.take().unwrap();
-        let (state, read) = module::<I, Ast>(alloc, state, limit);
+        let (state, read) = module::<I, ByType, Ast>(alloc, state, limit);
         self.state = Some(state);
         read
     }
@@ -383,7 +384,7 @@ impl<I: Tokens> Parser<I> {
         let alloc = self.alloc;
         let limit = self.limit as usize;
         let state = self.state.take().unwrap();
-        let (state, read) = program::<I, Ast>(alloc, state, limit);
+        let (state, read) = program::<I, ByType, Ast>(alloc, state, limit);
         self.state = Some(state);
         read
     }
@@ -480,7 +481,7 @@ impl<I: Tokens> Parser<I> {
         let alloc = self.alloc;
         let limit = self.limit as usize;
         let state = self.state.take().unwrap();
-        let (state, read) = item::<I, Ast>(alloc, state, limit);
+        let (state, read) = item::<I, ByType, Ast>(alloc, state, limit);
         self.state = Some(state);
         read
     }
@@ -576,7 +577,7 @@ impl<I: Tokens> Parser<I> {
             include_decl: false,
             top_level,
         };
-        let (state, read) = statement::<I, Ast>(alloc, state, limit, at);
+        let (state, read) = statement::<I, ByType, Ast>(alloc, state, limit, at);
         self.state = Some(state);
         read
     }
@@ -671,7 +672,7 @@ impl<I: Tokens> Parser<I> {
             include_decl: true,
             top_level,
         };
-        let (state, read) = statement::<I, Ast>(alloc, state, limit, at);
+        let (state, read) = statement::<I, ByType, Ast>(alloc, state, limit, at);
         self.state = Some(state);
         read
     }

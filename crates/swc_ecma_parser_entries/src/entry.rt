@@ -28,9 +28,11 @@ use swc_ecma_parser_grammar::Position;
 use swc_ecma_parser_input::{Context, Tokens};
 use swc_ecma_parser_knot::knot::leading;
 use swc_ecma_parser_module_items::decorated::begins_decorators;
-use swc_ecma_parser_module_items::items::{item_behind, module_body, module_item};
+use swc_ecma_parser_module_items::items::{item_behind, module_body};
+use swc_ecma_parser_module_items::own::ReadsItems;
 use swc_ecma_parser_module_items::programs::begins_module;
-use swc_ecma_parser_scripts::script::{script_body, whole_stmt};
+use swc_ecma_parser_scripts::own::ReadsStatements;
+use swc_ecma_parser_scripts::script::script_body;
 use swc_ecma_parser_state::{Call, Origin, State};
 use swc_ecma_parser_token::TokenKind;
 use swc_ecma_parser_trees::{
@@ -84,7 +86,7 @@ fn ended<O: Origin, I: Tokens, X>(
 }
 
 /// Reads a script.
-fn script_in<O: Origin, I: Tokens, T: BuildsStatements + BuildsScript>(
+fn script_in<O: Origin, I: Tokens, K: ReadsStatements<T>, T: BuildsStatements + BuildsScript>(
     alloc: Global,
     call: &mut Call<O, I>,
     limit: usize,
@@ -103,7 +105,7 @@ fn script_in<O: Origin, I: Tokens, T: BuildsStatements + BuildsScript>(
     call.enter_script();
     let inner = call.flags();
     let maker: MakerOf<T> = Maker::new(alloc);
-    let read = script_body::<Call<O, I>, T>(&maker, call, limit);
+    let read = script_body::<K, Call<O, I>, T>(&maker, call, limit);
     maker.finish();
     let script = read?;
     call.leave_script(inner);
@@ -111,7 +113,7 @@ fn script_in<O: Origin, I: Tokens, T: BuildsStatements + BuildsScript>(
 }
 
 /// A script, from where the call begins.
-fn script_from<O: Origin, I: Tokens, T: BuildsStatements + BuildsScript>(
+fn script_from<O: Origin, I: Tokens, K: ReadsStatements<T>, T: BuildsStatements + BuildsScript>(
     alloc: Global,
     state: State<I>,
     limit: usize,
@@ -132,12 +134,12 @@ fn script_from<O: Origin, I: Tokens, T: BuildsStatements + BuildsScript>(
     let outer = state.flags();
     let found_module_item = state.found_module_item();
     let mut call = state.begin::<O>();
-    let read = script_in::<O, I, T>(alloc, &mut call, limit);
+    let read = script_in::<O, I, K, T>(alloc, &mut call, limit);
     ended(call, read, outer, found_module_item)
 }
 
 /// A script, whose items may stand so many levels deep.
-pub fn script<I: Tokens, T: BuildsStatements + BuildsScript>(
+pub fn script<I: Tokens, K: ReadsStatements<T>, T: BuildsStatements + BuildsScript>(
     alloc: Global,
     state: State<I>,
     limit: usize,
@@ -154,15 +156,16 @@ pub fn script<I: Tokens, T: BuildsStatements + BuildsScript>(
     ensures ahead { lacks_ahead state.buffer.place ≡ true
         → IsErrAnd result.1 (λ e. kind_of e.kind ≡ OutOfMemory) }
 {
-    script_from::<Brand, I, T>(alloc, state, limit)
+    script_from::<Brand, I, K, T>(alloc, state, limit)
 }
 
 /// Reads a module.
-fn module_in<O: Origin, I: Tokens, T: BuildsStatements + BuildsExport + BuildsVarDecl>(
-    alloc: Global,
-    call: &mut Call<O, I>,
-    limit: usize,
-) -> PResult<T::Module>
+fn module_in<
+    O: Origin,
+    I: Tokens,
+    K: ReadsItems<T>,
+    T: BuildsStatements + BuildsExport + BuildsVarDecl,
+>(alloc: Global, call: &mut Call<O, I>, limit: usize) -> PResult<T::Module>
     ensures answers { (s : reader.State) → call.old ≡ begun s → (u : reader.State)
         × IsEntered (unmarked s) u × AnswersModule T.module_of limit u result call.new }
     ensures refuses { (s : reader.State) → call.old ≡ begun s
@@ -177,17 +180,18 @@ fn module_in<O: Origin, I: Tokens, T: BuildsStatements + BuildsExport + BuildsVa
         return Err(call.lost());
     }
     let maker: MakerOf<T> = Maker::new(alloc);
-    let read = module_body::<Call<O, I>, T>(&maker, call, limit);
+    let read = module_body::<K, Call<O, I>, T>(&maker, call, limit);
     maker.finish();
     read
 }
 
 /// A module, from where the call begins.
-fn module_from<O: Origin, I: Tokens, T: BuildsStatements + BuildsExport + BuildsVarDecl>(
-    alloc: Global,
-    state: State<I>,
-    limit: usize,
-) -> (State<I>, PResult<T::Module>)
+fn module_from<
+    O: Origin,
+    I: Tokens,
+    K: ReadsItems<T>,
+    T: BuildsStatements + BuildsExport + BuildsVarDecl,
+>(alloc: Global, state: State<I>, limit: usize) -> (State<I>, PResult<T::Module>)
     requires { O.start ≡ state }
     ensures answers { (u : reader.State) × IsEntered (unmarked (seen state)) u
         × AnswersModule T.module_of limit u result.1 (seen result.0) }
@@ -204,12 +208,12 @@ fn module_from<O: Origin, I: Tokens, T: BuildsStatements + BuildsExport + Builds
     let outer = state.flags();
     let found_module_item = state.found_module_item();
     let mut call = state.begin::<O>();
-    let read = module_in::<O, I, T>(alloc, &mut call, limit);
+    let read = module_in::<O, I, K, T>(alloc, &mut call, limit);
     ended(call, read, outer, found_module_item)
 }
 
 /// A module, whose items may stand so many levels deep.
-pub fn module<I: Tokens, T: BuildsStatements + BuildsExport + BuildsVarDecl>(
+pub fn module<I: Tokens, K: ReadsItems<T>, T: BuildsStatements + BuildsExport + BuildsVarDecl>(
     alloc: Global,
     state: State<I>,
     limit: usize,
@@ -226,16 +230,16 @@ pub fn module<I: Tokens, T: BuildsStatements + BuildsExport + BuildsVarDecl>(
     ensures ahead { lacks_ahead state.buffer.place ≡ true
         → IsErrAnd result.1 (λ e. kind_of e.kind ≡ OutOfMemory) }
 {
-    module_from::<Brand, I, T>(alloc, state, limit)
+    module_from::<Brand, I, K, T>(alloc, state, limit)
 }
 
 /// Reads a program. A script leaves the context `outer` behind it, which stood before.
-fn program_in<O: Origin, I: Tokens, T: BuildsStatements + BuildsExport + BuildsVarDecl>(
-    alloc: Global,
-    call: &mut Call<O, I>,
-    limit: usize,
-    outer: Context,
-) -> PResult<T::Program>
+fn program_in<
+    O: Origin,
+    I: Tokens,
+    K: ReadsItems<T>,
+    T: BuildsStatements + BuildsExport + BuildsVarDecl,
+>(alloc: Global, call: &mut Call<O, I>, limit: usize, outer: Context) -> PResult<T::Program>
     ensures answers { (s : reader.State) → call.old ≡ begun s → outer ≡ s.code.flags
         → AnswersProgram T.program_of limit (unmarked s) result call.new }
     ensures refuses { (s : reader.State) → call.old ≡ begun s → outer ≡ s.code.flags
@@ -249,17 +253,18 @@ fn program_in<O: Origin, I: Tokens, T: BuildsStatements + BuildsExport + BuildsV
     }
     call.enter_program();
     let maker: MakerOf<T> = Maker::new(alloc);
-    let read = program_body::<O, I, T>(&maker, call, limit, outer);
+    let read = program_body::<O, I, K, T>(&maker, call, limit, outer);
     maker.finish();
     read
 }
 
 /// A program, from where the call begins.
-fn program_from<O: Origin, I: Tokens, T: BuildsStatements + BuildsExport + BuildsVarDecl>(
-    alloc: Global,
-    state: State<I>,
-    limit: usize,
-) -> (State<I>, PResult<T::Program>)
+fn program_from<
+    O: Origin,
+    I: Tokens,
+    K: ReadsItems<T>,
+    T: BuildsStatements + BuildsExport + BuildsVarDecl,
+>(alloc: Global, state: State<I>, limit: usize) -> (State<I>, PResult<T::Program>)
     requires { O.start ≡ state }
     ensures answers { AnswersProgram T.program_of limit (unmarked (seen state)) result.1
         (seen result.0) }
@@ -276,12 +281,12 @@ fn program_from<O: Origin, I: Tokens, T: BuildsStatements + BuildsExport + Build
     let outer = state.flags();
     let found_module_item = state.found_module_item();
     let mut call = state.begin::<O>();
-    let read = program_in::<O, I, T>(alloc, &mut call, limit, outer);
+    let read = program_in::<O, I, K, T>(alloc, &mut call, limit, outer);
     ended(call, read, outer, found_module_item)
 }
 
 /// A program, whose items may stand so many levels deep.
-pub fn program<I: Tokens, T: BuildsStatements + BuildsExport + BuildsVarDecl>(
+pub fn program<I: Tokens, K: ReadsItems<T>, T: BuildsStatements + BuildsExport + BuildsVarDecl>(
     alloc: Global,
     state: State<I>,
     limit: usize,
@@ -298,7 +303,7 @@ pub fn program<I: Tokens, T: BuildsStatements + BuildsExport + BuildsVarDecl>(
     ensures ahead { lacks_ahead state.buffer.place ≡ true
         → IsErrAnd result.1 (λ e. kind_of e.kind ≡ OutOfMemory) }
 {
-    program_from::<Brand, I, T>(alloc, state, limit)
+    program_from::<Brand, I, K, T>(alloc, state, limit)
 }
 
 /// Makes module code of what begins with an import or an export.
@@ -313,11 +318,12 @@ fn begin_item<O: Origin, I: Tokens>(call: &mut Call<O, I>)
 }
 
 /// One item of a module, in so many levels. Decorators before it are read as the code around.
-fn item_alone<O: Origin, I: Tokens, T: BuildsStatements + BuildsExport + BuildsVarDecl>(
-    t: &MakerOf<T>,
-    call: &mut Call<O, I>,
-    limit: usize,
-) -> PResult<T::Item>
+fn item_alone<
+    O: Origin,
+    I: Tokens,
+    K: ReadsItems<T>,
+    T: BuildsStatements + BuildsExport + BuildsVarDecl,
+>(t: &MakerOf<T>, call: &mut Call<O, I>, limit: usize) -> PResult<T::Item>
     ensures { (recorded : List Fault)
         × GivesAs (λ x. (T.item_of x, map as_note recorded)) (item_whole limit recorded call.old)
         result call.new
@@ -326,7 +332,7 @@ fn item_alone<O: Origin, I: Tokens, T: BuildsStatements + BuildsExport + BuildsV
 {
     if !begins_decorators(call) {
         begin_item(call);
-        return module_item::<Call<O, I>, T>(t, call, limit);
+        return K::module_item::<Call<O, I>>(t, call, limit);
     }
     if limit == 0 {
         return Err(call.too_deep());
@@ -337,11 +343,12 @@ fn item_alone<O: Origin, I: Tokens, T: BuildsStatements + BuildsExport + BuildsV
 }
 
 /// Reads one item of a module.
-fn item_in<O: Origin, I: Tokens, T: BuildsStatements + BuildsExport + BuildsVarDecl>(
-    alloc: Global,
-    call: &mut Call<O, I>,
-    limit: usize,
-) -> PResult<T::Item>
+fn item_in<
+    O: Origin,
+    I: Tokens,
+    K: ReadsItems<T>,
+    T: BuildsStatements + BuildsExport + BuildsVarDecl,
+>(alloc: Global, call: &mut Call<O, I>, limit: usize) -> PResult<T::Item>
     ensures answers { (s : reader.State) → call.old ≡ begun s
         → AnswersItem T.item_of limit (unmarked s) result call.new }
     ensures refuses { (s : reader.State) → call.old ≡ begun s
@@ -358,17 +365,18 @@ fn item_in<O: Origin, I: Tokens, T: BuildsStatements + BuildsExport + BuildsVarD
         return Err(call.eof());
     }
     let maker: MakerOf<T> = Maker::new(alloc);
-    let read = item_alone::<O, I, T>(&maker, call, limit);
+    let read = item_alone::<O, I, K, T>(&maker, call, limit);
     maker.finish();
     read
 }
 
 /// One item of a module, from where the call begins.
-fn item_from<O: Origin, I: Tokens, T: BuildsStatements + BuildsExport + BuildsVarDecl>(
-    alloc: Global,
-    state: State<I>,
-    limit: usize,
-) -> (State<I>, PResult<T::Item>)
+fn item_from<
+    O: Origin,
+    I: Tokens,
+    K: ReadsItems<T>,
+    T: BuildsStatements + BuildsExport + BuildsVarDecl,
+>(alloc: Global, state: State<I>, limit: usize) -> (State<I>, PResult<T::Item>)
     requires { O.start ≡ state }
     ensures answers { AnswersItem T.item_of limit (unmarked (seen state)) result.1 (seen result.0) }
     ensures refuses { Refuses (seen state).code.flags.module programs.module_item limit
@@ -386,12 +394,12 @@ fn item_from<O: Origin, I: Tokens, T: BuildsStatements + BuildsExport + BuildsVa
     let outer = state.flags();
     let found_module_item = state.found_module_item();
     let mut call = state.begin::<O>();
-    let read = item_in::<O, I, T>(alloc, &mut call, limit);
+    let read = item_in::<O, I, K, T>(alloc, &mut call, limit);
     ended(call, read, outer, found_module_item)
 }
 
 /// One item of a module, which may nest so many levels deep.
-pub fn item<I: Tokens, T: BuildsStatements + BuildsExport + BuildsVarDecl>(
+pub fn item<I: Tokens, K: ReadsItems<T>, T: BuildsStatements + BuildsExport + BuildsVarDecl>(
     alloc: Global,
     state: State<I>,
     limit: usize,
@@ -409,11 +417,11 @@ pub fn item<I: Tokens, T: BuildsStatements + BuildsExport + BuildsVarDecl>(
     ensures ahead { lacks_ahead state.buffer.place ≡ true
         → IsErrAnd result.1 (λ e. kind_of e.kind ≡ OutOfMemory) }
 {
-    item_from::<Brand, I, T>(alloc, state, limit)
+    item_from::<Brand, I, K, T>(alloc, state, limit)
 }
 
 /// Reads a statement in its place.
-fn statement_in<O: Origin, I: Tokens, T: BuildsStatements>(
+fn statement_in<O: Origin, I: Tokens, K: ReadsStatements<T>, T: BuildsStatements>(
     alloc: Global,
     call: &mut Call<O, I>,
     limit: usize,
@@ -436,13 +444,13 @@ fn statement_in<O: Origin, I: Tokens, T: BuildsStatements>(
         return Err(call.eof());
     }
     let maker: MakerOf<T> = Maker::new(alloc);
-    let read = whole_stmt::<Call<O, I>, T>(&maker, call, limit, at);
+    let read = K::whole_stmt::<Call<O, I>>(&maker, call, limit, at);
     maker.finish();
     read
 }
 
 /// A statement in its place, from where the call begins.
-fn statement_from<O: Origin, I: Tokens, T: BuildsStatements>(
+fn statement_from<O: Origin, I: Tokens, K: ReadsStatements<T>, T: BuildsStatements>(
     alloc: Global,
     state: State<I>,
     limit: usize,
@@ -466,12 +474,12 @@ fn statement_from<O: Origin, I: Tokens, T: BuildsStatements>(
     let outer = state.flags();
     let found_module_item = state.found_module_item();
     let mut call = state.begin::<O>();
-    let read = statement_in::<O, I, T>(alloc, &mut call, limit, at);
+    let read = statement_in::<O, I, K, T>(alloc, &mut call, limit, at);
     ended(call, read, outer, found_module_item)
 }
 
 /// A statement in its place, which may nest so many levels deep.
-pub fn statement<I: Tokens, T: BuildsStatements>(
+pub fn statement<I: Tokens, K: ReadsStatements<T>, T: BuildsStatements>(
     alloc: Global,
     state: State<I>,
     limit: usize,
@@ -491,5 +499,5 @@ pub fn statement<I: Tokens, T: BuildsStatements>(
     ensures ahead { lacks_ahead state.buffer.place ≡ true
         → IsErrAnd result.1 (λ e. kind_of e.kind ≡ OutOfMemory) }
 {
-    statement_from::<Brand, I, T>(alloc, state, limit, at)
+    statement_from::<Brand, I, K, T>(alloc, state, limit, at)
 }

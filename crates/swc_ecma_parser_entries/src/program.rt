@@ -11,6 +11,7 @@ ghost use Rattle.swc_ecma_parser_reader.specs.State as reader;
 use swc_ecma_parser_cursor::Cursor;
 use swc_ecma_parser_error::PResult;
 use swc_ecma_parser_input::{Context, Tokens};
+use swc_ecma_parser_module_items::own::ReadsItems;
 use swc_ecma_parser_module_items::programs::{items_from, statements};
 use swc_ecma_parser_shared::steps::{since, whole_start};
 use swc_ecma_parser_state::{Call, Origin};
@@ -30,6 +31,7 @@ fn is_script<O: Origin, I: Tokens>(state: &Call<O, I>) -> bool
 pub(crate) fn program_body<
     O: Origin,
     I: Tokens,
+    K: ReadsItems<T>,
     T: BuildsStatements + BuildsExport + BuildsVarDecl,
 >(t: &MakerOf<T>, state: &mut Call<O, I>, limit: usize, outer: Context) -> PResult<T::Program>
     ensures answers { (s : reader.State) → outer ≡ s.code.flags
@@ -42,14 +44,14 @@ pub(crate) fn program_body<
 {
     let start = whole_start(state);
     let shebang = state.shebang()?;
-    let front = statements::<Call<O, I>, T>(t, state, limit)?;
+    let front = statements::<K, Call<O, I>, T>(t, state, limit)?;
     if is_script(state) {
         let span = since(state, start);
         state.leave_program(outer);
         return Ok(T::script_program(T::script(span, front.before, shebang)));
     }
     state.enter_module();
-    let body = items_from::<Call<O, I>, T>(t, state, limit, front)?;
+    let body = items_from::<K, Call<O, I>, T>(t, state, limit, front)?;
     let span = since(state, start);
     Ok(T::module_program(T::module(span, body, shebang)))
 }

@@ -9,12 +9,11 @@ ghost use Rattle.swc_ecma_parser_reader.specs.State.{GivesAs};
 
 use crate::decorated::{begins_decorators, export_item, export_with};
 use crate::inner::Objects;
+use crate::own::ReadsItems;
 use swc_ecma_parser_cursor::Cursor;
 use swc_ecma_parser_error::PResult;
 use swc_ecma_parser_grammar::Position;
 use swc_ecma_parser_knot::knot::{leading, stmt_behind};
-use swc_ecma_parser_lists as lists;
-use swc_ecma_parser_lists::{ListEnd, Listed};
 use swc_ecma_parser_members::decorators::{Leading, misplaced};
 use swc_ecma_parser_modules::imports::import_decl;
 use swc_ecma_parser_scripts::script::whole_stmt;
@@ -150,35 +149,12 @@ pub(crate) fn at_end<P: Cursor>(p: &P) -> bool
     p.sees(TokenKind::End)
 }
 
-/// Items of a module, as what stands in a list.
-pub struct ModuleItems;
-
-impl<P: Cursor, T: BuildsStatements + BuildsExport + BuildsVarDecl> Listed<P, T> for ModuleItems {
-    ghost use Rattle.swc_ecma_parser_module_reader.proofs.Falls.{item_shorter};
-
-    type Item = T::Item;
-
-    ghost held = { T.item_of };
-
-    ghost item = { λ n at. modules.module_item n };
-
-    ghost takes = { λ n at. item_shorter n };
-
-    fn is_use_strict(one: &T::Item) -> bool {
-        T::is_use_strict_item(one)
-    }
-
-    fn can_precede_directive(one: &T::Item) -> bool {
-        T::is_string_item(one)
-    }
-
-    fn read(t: &MakerOf<T>, p: &mut P, limit: usize, at: Position) -> PResult<T::Item> {
-        module_item::<P, T>(t, p, limit)
-    }
-}
-
 /// The items of a module behind these, the first of all of which can be directives; `directives` says whether the next can be one.
-pub(crate) fn items_behind<P: Cursor, T: BuildsStatements + BuildsExport + BuildsVarDecl>(
+pub(crate) fn items_behind<
+    K: ReadsItems<T>,
+    P: Cursor,
+    T: BuildsStatements + BuildsExport + BuildsVarDecl,
+>(
     t: &MakerOf<T>,
     p: &mut P,
     limit: usize,
@@ -191,36 +167,28 @@ pub(crate) fn items_behind<P: Cursor, T: BuildsStatements + BuildsExport + Build
         (map T.item_of before.items) (P.seen p.old)) result (P.seen p.new) }
     ensures outright { (P.seen p.old).at.left ≡ [] → IsOk result }
 {
-    lists::items_behind::<ModuleItems, P, T>(
-        t,
-        p,
-        limit,
-        TOP_ITEM,
-        ListEnd::Tokens,
-        before,
-        directives,
-    )
+    K::items_behind::<P>(t, p, limit, before, directives)
 }
 
 /// The items of a module, the first of which can be directives.
 #[tactic(auto, unfolding(swc_ecma_parser_reader::specs::Reader::items))]
-pub(crate) fn items<P: Cursor, T: BuildsStatements + BuildsExport + BuildsVarDecl>(
-    t: &MakerOf<T>,
-    p: &mut P,
-    limit: usize,
-) -> PResult<Vec<T::Item>>
+pub(crate) fn items<
+    K: ReadsItems<T>,
+    P: Cursor,
+    T: BuildsStatements + BuildsExport + BuildsVarDecl,
+>(t: &MakerOf<T>, p: &mut P, limit: usize) -> PResult<Vec<T::Item>>
     ensures gives { GivesAs (λ found. map T.item_of found.items)
         (rules.items (modules.module_item limit) rules.at_end true (P.seen p.old)) result
         (P.seen p.new) }
     ensures outright { (P.seen p.old).at.left ≡ [] → IsOk result }
 {
     let none = Vec::new(t.alloc);
-    items_behind::<P, T>(t, p, limit, none, true)
+    items_behind::<K, P, T>(t, p, limit, none, true)
 }
 
-/// A module, whose items may stand so many levels deep.
+/// A module, whose items may stand so many levels deep; `K` reads them.
 #[tactic(auto, unfolding(swc_ecma_parser_module_reader::specs::Modules::module_body, swc_ecma_parser_grammar::specs::Looks::whole_span))]
-pub fn module_body<P: Cursor, T: BuildsStatements + BuildsExport + BuildsVarDecl>(
+pub fn module_body<K: ReadsItems<T>, P: Cursor, T: BuildsStatements + BuildsExport + BuildsVarDecl>(
     t: &MakerOf<T>,
     p: &mut P,
     limit: usize,
@@ -231,7 +199,7 @@ pub fn module_body<P: Cursor, T: BuildsStatements + BuildsExport + BuildsVarDecl
 {
     let start = whole_start(p);
     let shebang = p.shebang()?;
-    let body = items::<P, T>(t, p, limit)?;
+    let body = items::<K, P, T>(t, p, limit)?;
     let span = since(p, start);
     Ok(T::module(span, body, shebang))
 }

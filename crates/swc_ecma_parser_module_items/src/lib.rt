@@ -6,4 +6,5 @@ pub mod decorated;
 pub mod exported;
 mod inner;
 pub mod items;
+pub mod own;
 pub mod programs;

@@ -12,12 +12,13 @@ ghost use Rattle.swc_ecma_parser_reader.specs.State.{GivesAs};
 
 use crate::decorated::{begins_decorators, no_leading};
 use crate::items::{TOP_ITEM, at_end, begins_import, item_behind, items, items_behind};
+use crate::own::ReadsItems;
 use swc_ecma_parser_bodies::body::direct;
 use swc_ecma_parser_cursor::Cursor;
 use swc_ecma_parser_error::PResult;
 use swc_ecma_parser_knot::knot::{leading, stmt_behind};
 use swc_ecma_parser_members::decorators::Leading;
-use swc_ecma_parser_scripts::script::whole_stmt;
+use swc_ecma_parser_scripts::own::ReadsStatements;
 use swc_ecma_parser_shared::steps::{grown, pushed};
 use swc_ecma_parser_token::TokenKind;
 use swc_ecma_parser_trees::{BuildsExport, BuildsItem, BuildsStatements, BuildsVarDecl, MakerOf};
@@ -78,7 +79,7 @@ fn front_decorated<P: Cursor, T: BuildsStatements>(
 
 /// A statement, or what stands before an import or export.
 #[tactic(auto, unfolding(swc_ecma_parser_module_reader::specs::Turns::turn))]
-fn front_item<P: Cursor, T: BuildsStatements>(
+fn front_item<K: ReadsStatements<T>, P: Cursor, T: BuildsStatements>(
     t: &MakerOf<T>,
     p: &mut P,
     limit: usize,
@@ -89,14 +90,14 @@ fn front_item<P: Cursor, T: BuildsStatements>(
     if begins_decorators(p) {
         return front_decorated::<P, T>(t, p, limit);
     }
-    let stmt = whole_stmt::<P, T>(t, p, limit, TOP_ITEM)?;
+    let stmt = K::whole_stmt::<P>(t, p, limit, TOP_ITEM)?;
     Ok(Led::Statement(stmt))
 }
 
 /// The statements of a program before its first import or export, the first of which can be directives, and the decorators before
 /// that.
 #[tactic(auto, unfolding(swc_ecma_parser_module_reader::specs::Programs::front), using(swc_ecma_parser_module_reader::proofs::Fronts::front_stop, swc_ecma_parser_module_reader::proofs::Turns::front_err, swc_ecma_parser_module_reader::proofs::Turns::front_word, swc_ecma_parser_module_reader::proofs::Turns::front_read, swc_ecma_parser_bodies::proofs::Items::body_next, swc_ecma_parser_module_reader::proofs::Turns::turn_shorter, std::proofs::lemmas::List::map_push))]
-pub fn statements<P: Cursor, T: BuildsStatements>(
+pub fn statements<K: ReadsStatements<T>, P: Cursor, T: BuildsStatements>(
     t: &MakerOf<T>,
     p: &mut P,
     limit: usize,
@@ -108,7 +109,7 @@ pub fn statements<P: Cursor, T: BuildsStatements>(
     let mut found = Vec::new(t.alloc);
     let mut directives = true;
     'statements: while !before_module(p) {
-        let led = front_item::<P, T>(t, p, limit)?;
+        let led = front_item::<K, P, T>(t, p, limit)?;
         match led {
             Led::Word(list) => {
                 return Ok(Front {
@@ -188,7 +189,7 @@ fn first_behind<P: Cursor, T: BuildsStatements + BuildsExport + BuildsVarDecl>(
 
 /// The items of a program from its first import or export on, with the decorators before that.
 #[tactic(auto, unfolding(swc_ecma_parser_module_reader::specs::Programs::behind_front))]
-fn behind_front<P: Cursor, T: BuildsStatements + BuildsExport + BuildsVarDecl>(
+fn behind_front<K: ReadsItems<T>, P: Cursor, T: BuildsStatements + BuildsExport + BuildsVarDecl>(
     t: &MakerOf<T>,
     p: &mut P,
     limit: usize,
@@ -200,18 +201,18 @@ fn behind_front<P: Cursor, T: BuildsStatements + BuildsExport + BuildsVarDecl>(
     ensures outright { (P.seen p.old).at.left ≡ [] → list.found.items ≡ [] → IsOk result }
 {
     if list.found.is_empty() {
-        return items::<P, T>(t, p, limit);
+        return items::<K, P, T>(t, p, limit);
     }
     let first = first_behind::<P, T>(t, p, limit, list)?;
     let directives = T::is_string_item(&first);
     let mut found = Vec::new(t.alloc);
     pushed(p, &mut found, first)?;
-    items_behind::<P, T>(t, p, limit, found, directives)
+    items_behind::<K, P, T>(t, p, limit, found, directives)
 }
 
 /// The items of a program that turned out to be a module: its statements before its first import or export, and what stands from
 /// there on, in module code.
-pub fn items_from<P: Cursor, T: BuildsStatements + BuildsExport + BuildsVarDecl>(
+pub fn items_from<K: ReadsItems<T>, P: Cursor, T: BuildsStatements + BuildsExport + BuildsVarDecl>(
     t: &MakerOf<T>,
     p: &mut P,
     limit: usize,
@@ -223,7 +224,7 @@ pub fn items_from<P: Cursor, T: BuildsStatements + BuildsExport + BuildsVarDecl>
     ensures outright { (P.seen p.old).at.left ≡ [] → front.before.items ≡ []
         → front.list.found.items ≡ [] → IsOk result }
 {
-    let behind = behind_front::<P, T>(t, p, limit, front.list)?;
+    let behind = behind_front::<K, P, T>(t, p, limit, front.list)?;
     let before = as_items::<P, T>(t, p, front.before)?;
     joined::<P, T>(p, before, behind)
 }

@@ -7,7 +7,7 @@ mod levels;
 mod like;
 mod places;
 
-pub use body::block_body;
+pub use body::{block_body, body_behind};
 pub use levels::Levels;
 pub use like::{StmtLikeParser, module_item_as, stmt_like, whole_stmt_as};
 pub use swc_ecma_parser_lists::ListEnd;

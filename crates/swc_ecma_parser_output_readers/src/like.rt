@@ -72,6 +72,7 @@ fn begins_item<P: Cursor>(p: &P) -> bool
 }
 
 /// What was made, where want of memory is the only fault; it is noted that memory ran out.
+#[inline(always)]
 fn made<P: Cursor, A>(p: &mut P, made: PResult<A>) -> PResult<A>
     ensures made { IfOk result (λ a. made ≡ Ok a) }
     ensures state { IfOk result (λ a. P.seen p.new ≡ P.seen p.old) }

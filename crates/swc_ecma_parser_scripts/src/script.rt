@@ -5,11 +5,12 @@ ghost use Rattle.swc_ecma_parser_grammar.specs.language.Items.{top_item};
 ghost use Rattle.swc_ecma_parser_reader.specs.Reader as rules;
 ghost use Rattle.swc_ecma_parser_reader.specs.State.{Gives, GivesAs};
 
+use crate::own::ReadsStatements;
 use swc_ecma_parser_cursor::Cursor;
 use swc_ecma_parser_error::{PResult, SyntaxError};
 use swc_ecma_parser_grammar::Position;
 use swc_ecma_parser_knot::knot::stmt;
-use swc_ecma_parser_lists::{ListEnd, Listed, items};
+use swc_ecma_parser_lists::ListEnd;
 use swc_ecma_parser_shared::steps::{since, whole_start};
 use swc_ecma_parser_token::TokenKind;
 use swc_ecma_parser_trees::{BuildsScript, BuildsStatements, MakerOf};
@@ -50,35 +51,8 @@ pub fn whole_stmt<P: Cursor, T: BuildsStatements>(
     stmt::<P, T>(t, p, limit, at)
 }
 
-/// Statements, as what stands in a list.
-pub struct Statements;
-
-impl<P: Cursor, T: BuildsStatements> Listed<P, T> for Statements {
-    ghost use Rattle.swc_ecma_parser_reader.proofs.Loops.{whole_shorter};
-
-    type Item = T::Stmt;
-
-    ghost held = { T.stmt_of };
-
-    ghost item = { rules.whole_stmt };
-
-    ghost takes = { whole_shorter };
-
-    fn is_use_strict(one: &T::Stmt) -> bool {
-        T::is_use_strict(one)
-    }
-
-    fn can_precede_directive(one: &T::Stmt) -> bool {
-        T::is_string_statement(one)
-    }
-
-    fn read(t: &MakerOf<T>, p: &mut P, limit: usize, at: Position) -> PResult<T::Stmt> {
-        whole_stmt::<P, T>(t, p, limit, at)
-    }
-}
-
 /// The statements of a script, the first of which can be directives.
-fn top_statements<P: Cursor, T: BuildsStatements>(
+fn top_statements<K: ReadsStatements<T>, P: Cursor, T: BuildsStatements>(
     t: &MakerOf<T>,
     p: &mut P,
     limit: usize,
@@ -88,12 +62,12 @@ fn top_statements<P: Cursor, T: BuildsStatements>(
         (P.seen p.new) }
     ensures outright { (P.seen p.old).at.left ≡ [] → IsOk result }
 {
-    items::<Statements, P, T>(t, p, limit, TOP_ITEM, ListEnd::Tokens, true)
+    K::stmts::<P>(t, p, limit, TOP_ITEM, ListEnd::Tokens, true)
 }
 
-/// A script, whose items may stand so many levels deep.
+/// A script, whose items may stand so many levels deep; `K` reads its statements.
 #[tactic(auto, unfolding(swc_ecma_parser_reader::specs::Reader::script_body, swc_ecma_parser_grammar::specs::Looks::whole_span))]
-pub fn script_body<P: Cursor, T: BuildsStatements + BuildsScript>(
+pub fn script_body<K: ReadsStatements<T>, P: Cursor, T: BuildsStatements + BuildsScript>(
     t: &MakerOf<T>,
     p: &mut P,
     limit: usize,
@@ -104,7 +78,7 @@ pub fn script_body<P: Cursor, T: BuildsStatements + BuildsScript>(
 {
     let start = whole_start(p);
     let shebang = p.shebang()?;
-    let body = top_statements::<P, T>(t, p, limit)?;
+    let body = top_statements::<K, P, T>(t, p, limit)?;
     let span = since(p, start);
     Ok(T::script(span, body, shebang))
 }
