@@ -1,2 +1,0 @@
-mod Parsed
-mod Measured

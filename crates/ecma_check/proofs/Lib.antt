@@ -1,7 +1,0 @@
-mod Arguments
-mod Clean
-mod Files
-mod Marks
-mod Names
-mod Results
-mod Sums

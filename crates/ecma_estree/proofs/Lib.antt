@@ -1,3 +1,0 @@
-pub mod Directives
-pub mod Exported
-pub mod Listed

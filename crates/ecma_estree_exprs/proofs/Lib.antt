@@ -1,4 +1,0 @@
-mod Arguments
-pub mod AsExpr
-mod Decorators
-pub mod Steps

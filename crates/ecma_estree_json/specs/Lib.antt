@@ -1,7 +1,0 @@
-pub mod Estree
-pub mod Json
-pub mod Law
-pub mod Lists
-pub mod Made
-pub mod Parts
-pub mod Reading

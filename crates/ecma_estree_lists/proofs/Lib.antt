@@ -1,2 +1,0 @@
-mod Closed
-mod Listed

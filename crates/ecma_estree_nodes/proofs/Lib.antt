@@ -1,6 +1,0 @@
-mod Lists
-mod Numbers
-mod Pieces
-mod Scan
-mod Trees
-mod Words

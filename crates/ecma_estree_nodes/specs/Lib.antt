@@ -1,3 +1,0 @@
-pub mod Law
-pub mod Nodes
-pub mod Reading

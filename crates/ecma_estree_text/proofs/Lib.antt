@@ -1,6 +1,0 @@
-mod Counts
-mod Digits
-mod Points
-mod Regexes
-mod Spots
-mod Value

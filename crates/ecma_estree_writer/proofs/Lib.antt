@@ -1,2 +1,0 @@
-mod Pending
-pub mod Written

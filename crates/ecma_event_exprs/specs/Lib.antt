@@ -1,4 +1,0 @@
-pub mod Events
-pub mod Literals
-pub mod Misplaced
-pub mod Pending

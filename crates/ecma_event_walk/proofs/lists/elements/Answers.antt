@@ -1,9 +1,0 @@
--- The first part, and those behind it.
-use Rattle.ecma_event_exprs.proofs.Firsts.{first_part}
-use Rattle.ecma_event_exprs.specs.Events.{used}
-use Rattle.swc_ecma_parser_ast.specs.Parts.{view_option}
-use Rattle.swc_ecma_parser_ast.specs.View.{view_expr_or_spread}
-use Rattle.ecma_event_walk.proofs.lists.elements.Goals as goal
-
-pub returns-in-Some : goal.returns-in-Some
-returns-in-Some c = first_part (view_option view_expr_or_spread) c.element.result _ c.args.walk.now used c.in-Some.x.now c.in-Some.rest.now c.args.parts.now c.in-Some.ensures.cases.0 c.element.ensures

@@ -1,3 +1,0 @@
-pub mod Exports
-pub mod Kept
-pub mod Places

@@ -1,4 +1,0 @@
-mod Back
-mod Chars
-pub mod Columns
-mod Safe

@@ -1,5 +1,0 @@
-pub mod Excerpt
-pub mod Json
-pub mod Shown
-pub mod Text
-pub mod Early

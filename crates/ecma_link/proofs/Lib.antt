@@ -1,3 +1,0 @@
-mod Reasons
-mod Same
-mod Words

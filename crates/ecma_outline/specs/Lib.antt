@@ -1,4 +1,0 @@
-pub mod Bytes
-pub mod Outline
-pub mod Piece
-pub mod Source

@@ -1,7 +1,0 @@
-pub mod Bytes
-pub mod Classes
-pub mod Escapes
-pub mod Groups
-pub mod Numbers
-pub mod Patterns
-pub mod Sets

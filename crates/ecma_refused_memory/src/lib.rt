@@ -1,6 +1,0 @@
-//! Rows that are read while memory is refused.
-#![tactic(auto)]
-
-mod memory;
-
-pub use memory::refuse_rows;

@@ -1,5 +1,0 @@
-mod ItemLines
-pub mod Joined
-mod ModuleReports
-mod ProgramReports
-mod Reported

@@ -1,3 +1,0 @@
-mod Payloads
-mod Read
-mod Said

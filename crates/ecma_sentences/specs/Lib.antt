@@ -1,5 +1,0 @@
-pub mod Look
-pub mod Message
-pub mod Note
-pub mod Payload
-pub mod Sentence

@@ -1,6 +1,0 @@
-pub mod Decided
-pub mod Forms
-pub mod Looked
-pub mod Number
-pub mod Situation
-pub mod Texts

@@ -1,4 +1,0 @@
-mod Kept
-mod Answered
-pub mod Same
-pub mod Plainness

@@ -1,2 +1,0 @@
-mod NoBlocks
-mod ArrowParts

@@ -1,6 +1,0 @@
-use Rattle.std.proofs.Common.{◌∙◌}
-use Rattle.swc_ecma_parser_ast.proofs.Derived.{derived_stmt}
-use Rattle.swc_ecma_parser_ast.proofs.node.equal_boxed_stmts.Goals as goal
-
-pub returns : goal.returns
-returns g c = c.eq.ensures ∙ derived_stmt g.row.N g.N.PartialEq g.N.PartialEq-dict c.args.a.now.value c.args.b.now.value

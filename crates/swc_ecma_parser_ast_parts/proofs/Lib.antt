@@ -1,3 +1,0 @@
-pub mod Binding
-pub mod Kind
-pub mod Turned

@@ -1,4 +1,0 @@
-mod ByKind
-pub mod Clauses
-pub mod Labels
-pub mod Strays

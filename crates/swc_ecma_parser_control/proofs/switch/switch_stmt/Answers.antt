@@ -1,7 +1,0 @@
-use Rattle.std.proofs.Common.{sym, ap, ◌∙◌}
-use Rattle.swc_ecma_parser_reader.proofs.Sound.{clauses_code}
-use Rattle.swc_ecma_parser_control.proofs.switch.switch_stmt.Goals as goal
-
-pub set_flags-requires-2 : goal.set_flags-requires-2
-set_flags-requires-2 g c =
-    sym (ap (λ k. k.flags.«module») (clauses_code _ _ _ _ c.in_ok-cases.ensures) ∙ ap (λ s. s.code.flags.«module») c.set_flags.ensures ∙ ap (λ f. f.«module») c.in_breakable.ensures)

@@ -1,4 +1,0 @@
-pub mod Around
-pub mod Labels
-pub mod Literals
-pub mod Wanted

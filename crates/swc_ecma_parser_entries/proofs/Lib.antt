@@ -1,6 +1,0 @@
-mod ItemAlone
-mod SetBack
-mod Begun
-mod Read
-mod Ended
-mod Programs

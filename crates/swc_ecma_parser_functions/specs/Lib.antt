@@ -1,2 +1,0 @@
-pub mod Late
-pub mod Methods

@@ -1,4 +1,0 @@
-pub mod Steps
-pub mod Expressions
-pub mod Statements
-pub mod Entries

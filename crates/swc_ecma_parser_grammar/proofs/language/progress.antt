@@ -1,3 +1,0 @@
-pub mod Steps
-pub mod Expressions
-pub mod Statements

@@ -1,3 +1,0 @@
-pub mod Bumped
-mod Opened
-pub mod Ordered

@@ -1,8 +1,0 @@
-use Rattle.std.proofs.Common.{◌≡◌, ◌∙◌, sym, ap, true, None, is_none}
-use Rattle.swc_ecma_parser_input.proofs.Opened.{opened_place}
-use Rattle.swc_ecma_parser_input.proofs.buffer.Buffer.new.Goals as goal
-
-pub returns-clause-left : goal.returns-clause-left
-returns-clause-left g c =
-    opened_place _ _ _ _ _ _ _ c.start_pos-start.ensures c.draw-cur.ensures.draws c.draw-next.ensures.draws
-    (λ e. c.draw-next.ensures.none (c.draw-cur.ensures.told ∙ ap is_none e)) c.of.ensures

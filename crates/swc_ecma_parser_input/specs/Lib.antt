@@ -1,9 +1,0 @@
-pub mod Setting
-pub mod TokenSource
-pub mod Place
-pub mod Buffered
-pub mod Faults
-pub mod Ringed
-pub mod View
-pub mod Captured
-pub mod Drawn

@@ -1,2 +1,0 @@
-mod Turns
-mod Texts

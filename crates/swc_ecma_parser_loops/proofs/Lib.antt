@@ -1,5 +1,0 @@
-pub mod AsyncHead
-mod Awaits
-mod Flags
-mod Misdeclared
-mod Targets

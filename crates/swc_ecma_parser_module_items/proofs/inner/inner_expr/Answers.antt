@@ -1,7 +1,0 @@
-use Rattle.std.proofs.Common.{sym, ap, ◌∙◌}
-use Rattle.swc_ecma_parser_reader.proofs.Sound.{expr_code}
-use Rattle.swc_ecma_parser_module_items.proofs.inner.inner_expr.Goals as goal
-
-pub set_flags-requires-2 : goal.set_flags-requires-2
-set_flags-requires-2 g c =
-    sym (ap (λ k. k.flags.«module») (expr_code _ _ _ _ _ c.in_ok-inner.ensures) ∙ ap (λ s. s.code.flags.«module») c.set_flags.ensures ∙ ap (λ f. f.«module») c.with_in.ensures)

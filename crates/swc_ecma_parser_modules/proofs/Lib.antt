@@ -1,3 +1,0 @@
-pub mod Bindings
-pub mod Steps
-pub mod Misnamed

@@ -1,7 +1,0 @@
-use Rattle.std.proofs.Common.{sym, ap, ◌∙◌}
-use Rattle.swc_ecma_parser_modules.proofs.Bindings.{name_code}
-use Rattle.swc_ecma_parser_modules.proofs.imports.binding_name.Goals as goal
-
-pub set_flags-requires-2 : goal.set_flags-requires-2
-set_flags-requires-2 g c =
-    sym (ap (λ k. k.flags.«module») (name_code _ _ _ _ c.in_ok-name.ensures) ∙ ap (λ s. s.code.flags.«module») c.set_flags.ensures ∙ ap (λ f. f.«module») c.outside_functions.ensures)

@@ -1,2 +1,0 @@
-mod Handles
-mod Plain

@@ -1,8 +1,0 @@
-use Rattle.std.proofs.Common.{sym, ap, ◌∙◌}
-use Rattle.swc_ecma_parser_patterns.proofs.Patterns.{read_pat_code}
-use Rattle.swc_ecma_parser_patterns.proofs.pat.inner_pat.Goals as goal
-
-pub set_flags-requires-2 : goal.set_flags-requires-2
-set_flags-requires-2 g c =
-    sym (ap (λ k. k.flags.«module») (read_pat_code _ c.args.part _ _ _ c.in_ok-inner.ensures)
-    ∙ ap (λ s. s.code.flags.«module») c.set_flags.ensures ∙ ap (λ f. f.«module») c.with_in.ensures)

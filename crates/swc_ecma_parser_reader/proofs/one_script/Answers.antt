@@ -1,5 +1,0 @@
-use Rattle.swc_ecma_parser_reader.proofs.Unique.{script_is_one}
-use Rattle.swc_ecma_parser_reader.proofs.one_script.Goals as goal
-
-pub returns : goal.returns
-returns c = script_is_one

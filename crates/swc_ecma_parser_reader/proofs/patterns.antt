@@ -1,6 +1,0 @@
-pub mod Falls
-pub mod Loops
-pub mod Limits
-pub mod Keeps
-pub mod Sound
-pub mod Complete

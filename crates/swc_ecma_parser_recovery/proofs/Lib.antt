@@ -1,2 +1,0 @@
-pub mod Dropped
-mod UpToEnd

@@ -1,2 +1,0 @@
-pub mod Special
-pub mod Words

@@ -1,7 +1,0 @@
-pub mod Chars
-pub mod Numbers
-pub mod Step
-pub mod Scan
-pub mod Runs
-pub mod Splits
-pub mod Lone

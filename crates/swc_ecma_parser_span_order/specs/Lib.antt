@@ -1,3 +1,0 @@
-pub mod Forward
-pub mod Follows
-pub mod Laws

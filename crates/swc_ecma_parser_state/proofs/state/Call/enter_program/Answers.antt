@@ -1,6 +1,0 @@
-use Rattle.std.proofs.Common.{true}
-use Rattle.swc_ecma_parser_state.proofs.Underway.{sets}
-use Rattle.swc_ecma_parser_state.proofs.state.Call.enter_program.Goals as goal
-
-pub invariant_of-self : goal.invariant_of-self
-invariant_of-self g c = sets g.O.Origin.start (record c.ctx-outer.result { can_be_module = true }) c.self.inside.buffer _ c.self.inside.mark c.set_ctx.ensures c.self.invariant

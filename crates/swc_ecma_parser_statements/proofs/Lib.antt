@@ -1,3 +1,0 @@
-mod Misused
-mod AwaitStmt
-mod Returned

@@ -1,3 +1,0 @@
-import pofashere from './index.js';
-
-export const { parse, visitorKeys, walk, StackOverflowError, version } = pofashere;

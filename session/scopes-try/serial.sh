@@ -1,0 +1,4 @@
+#!/bin/bash
+cd /work/h/scopes
+/tmp/scopes/chk.sh ecma_scopes
+/work/h/hv python3 /work/h/s/session/nat.py ecma_test_early /tmp/scopes/test /work/h/scopes > /tmp/scopes/nat.log 2>&1; echo "done $?" >> /tmp/scopes/nat.log
