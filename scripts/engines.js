@@ -23,7 +23,7 @@ const FILE = path.join(__dirname, 'engines.tsv');
 const LONGEST = 140;
 const GOALS = ['script', 'module'];
 
-/** What the parsers do not agree with ECMA-262 on, or what ecma-check does not look at: names of groups. */
+/** What the parsers do not agree with ECMA-262 on: equal names of groups in different alternatives. */
 const LEFT_OUT = /\(\?<(?![=!])|\\k/;
 
 /** What is put into a text in place of one of its tokens, or beside it. */

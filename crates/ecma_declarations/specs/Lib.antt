@@ -1,3 +1,1 @@
 pub mod Declarations
-pub mod Entries
-pub mod Names

@@ -2,14 +2,13 @@
 
 ghost use Rattle.std.specs.Prelude.{◌≡◌, ◌∷◌, ◌++◌, ◌&&◌, not, [], map, IfOk, OnOk};
 ghost use Rattle.ecma_declarations.specs.Declarations as rule;
-ghost use Rattle.ecma_declarations.specs.Declarations.{errors_of, next, told};
-ghost use Rattle.ecma_declarations.specs.Entries.{named};
+ghost use Rattle.ecma_declarations.specs.Declarations.{errors_of, told};
 ghost use Rattle.ecma_events.specs.Event as steps;
 ghost use Rattle.ecma_events.specs.Event.{event_of};
+ghost use Rattle.ecma_scopes.specs.Entries.{named};
 
-use crate::names::{Entry, Found, Names};
-use crate::scopes::{Scopes, is_var};
 use ecma_events::{Binding, EarlyError, EarlyErrorKind, Event, Region, Role};
+use ecma_scopes::{Entry, Found, Names, Scopes, is_var};
 use std::alloc::{AllocError, Global};
 use swc_ecma_parser_common::Span;
 use swc_ecma_parser_model::Ident;
@@ -199,24 +198,19 @@ fn tell_left(errors: &mut Vec<EarlyError>, scopes: &Scopes<'_>) -> Result<(), Al
     tell_crossings(errors, here.start, scopes.vars(), here.names.entries())
 }
 
-/// Tells what is wrong at a name, and goes behind it.
-fn name<'a>(
+/// Tells what is wrong at a name.
+fn tell_name(
     errors: &mut Vec<EarlyError>,
-    scopes: &mut Scopes<'a>,
+    scopes: &Scopes<'_>,
     role: Role,
-    name: &'a Ident,
+    name: &Ident,
 ) -> Result<(), AllocError>
-    ensures errors { OnOk result
+    ensures { OnOk result
         (errors.new.items
-        ≡ errors.old.items ++ told scopes.old (steps.name role name.now.span name.now.sym)) }
-    ensures scopes { OnOk result
-        (scopes.new ≡ next scopes.old (steps.name role name.now.span name.now.sym)) }
+        ≡ errors.old.items ++ told scopes.now (steps.name role name.now.span name.now.sym)) }
 {
     match role {
-        Role::Declared(binding, _) => {
-            tell_repeated(errors, scopes, binding, name)?;
-            scopes.declare(binding, name)
-        }
+        Role::Declared(binding, _) => tell_repeated(errors, scopes, binding, name),
         Role::Used | Role::Assigned | Role::Own => Ok(()),
     }
 }
@@ -236,26 +230,21 @@ fn tell_bare(
     tell(errors, EarlyErrorKind::MissingInitializer, span, None)
 }
 
-/// Tells what is wrong at an event, and goes behind it.
-fn step<'a>(
+/// Tells what is wrong at an event.
+fn tell_event(
     errors: &mut Vec<EarlyError>,
-    scopes: &mut Scopes<'a>,
-    event: &Event<'a>,
+    scopes: &Scopes<'_>,
+    event: &Event<'_>,
 ) -> Result<(), AllocError>
-    ensures errors { OnOk result
-        (errors.new.items ≡ errors.old.items ++ told scopes.old (event_of event.now)) }
-    ensures scopes { OnOk result (scopes.new ≡ next scopes.old (event_of event.now)) }
+    ensures { OnOk result
+        (errors.new.items ≡ errors.old.items ++ told scopes.now (event_of event.now)) }
 {
     match *event {
-        Event::Enter(region, span) => scopes.enter(region, span),
-        Event::Leave => {
-            tell_left(errors, scopes)?;
-            scopes.leave();
-            Ok(())
-        }
-        Event::Name(role, x) => name(errors, scopes, role, x),
+        Event::Leave => tell_left(errors, scopes),
+        Event::Name(role, name) => tell_name(errors, scopes, role, name),
         Event::Bare(span) => tell_bare(errors, scopes, span),
-        Event::Body
+        Event::Enter(_, _)
+        | Event::Body
         | Event::Members
         | Event::DeleteName(_)
         | Event::DeletePrivate(_)
@@ -295,7 +284,8 @@ pub fn declaration_errors(
     let mut errors = Vec::new(alloc);
     let mut scopes = Scopes::new(alloc);
     for event in events {
-        step(&mut errors, &mut scopes, event)?;
+        tell_event(&mut errors, &scopes, event)?;
+        scopes.advance(event)?;
     }
     Ok(errors)
 }

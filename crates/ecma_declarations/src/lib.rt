@@ -4,7 +4,5 @@
 #![tactic(auto)]
 
 mod check;
-mod names;
-mod scopes;
 
 pub use check::declaration_errors;

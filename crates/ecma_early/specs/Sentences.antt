@@ -62,6 +62,8 @@ pattern_sentence_of pattern.InvalidNameReference = codes "expected `<`, the name
 pattern_sentence_of pattern.InvalidReference = codes "this regular expression has no group of the number after its `\\`; count its `(`, or write `\\x01` for the character (ECMA-262, 22.2.1.1)"
 pattern_sentence_of pattern.InvalidEscape = codes "a `\\` of this regular expression begins no escape; remove it, or complete the escape (ECMA-262, 22.2.1)"
 pattern_sentence_of pattern.InvalidProperty = codes "no Unicode property has the name after `\\p` or `\\P`; write one such as `\\p{L}` or `\\p{Script=Greek}` (ECMA-262, 22.2.1)"
+pattern_sentence_of pattern.EqualGroupNames = codes "two groups of this regular expression have one name and might both take part in a match; rename one of the two (ECMA-262, 22.2.1.1)"
+pattern_sentence_of pattern.UnknownGroupName = codes "no group of this regular expression has the name after `\\k`; correct its spelling, or name a group so (ECMA-262, 22.2.1.1)"
 pattern_sentence_of pattern.UnclosedClass = codes "a `[` of this regular expression is never closed; close it with `]`, or write `\\[` (ECMA-262, 22.2.1)"
 pattern_sentence_of pattern.RangeOutOfOrder = codes "a range of this regular expression ends before it begins; swap its ends, or write `\\-` (ECMA-262, 22.2.1.1)"
 pattern_sentence_of pattern.SetInRange = codes "a range of this regular expression begins or ends with more than one character; write `\\-` for a `-` (ECMA-262, 22.2.1.1)"

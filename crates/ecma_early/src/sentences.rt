@@ -102,6 +102,12 @@ fn pattern_sentence(wrong: PatternError) -> &'static str
         PatternError::InvalidProperty => {
             "no Unicode property has the name after `\\p` or `\\P`; write one such as `\\p{L}` or `\\p{Script=Greek}` (ECMA-262, 22.2.1)"
         }
+        PatternError::EqualGroupNames => {
+            "two groups of this regular expression have one name and might both take part in a match; rename one of the two (ECMA-262, 22.2.1.1)"
+        }
+        PatternError::UnknownGroupName => {
+            "no group of this regular expression has the name after `\\k`; correct its spelling, or name a group so (ECMA-262, 22.2.1.1)"
+        }
         PatternError::UnclosedClass => {
             "a `[` of this regular expression is never closed; close it with `]`, or write `\\[` (ECMA-262, 22.2.1)"
         }

@@ -1,7 +1,7 @@
 -- Escapes of a pattern, behind their `\\` (22.2.1).
 use Rattle.std.specs.Prelude.{ℕ, Bool, true, false, not, ◌&&◌, ◌||◌, ◌==◌, ◌%◌, if◌then◌else◌, List, [], ◌∷◌, Option, Some, None}
-use Rattle.ecma_patterns.specs.Bytes.{begins, begins_letter, first, tail}
-use Rattle.ecma_patterns.specs.Numbers.{braced_digits, four_digits, is_high, is_low, low_behind, paired, two_digits}
+use Rattle.ecma_patterns.specs.Bytes.{begins, begins_letter, bytes_ahead, first, tail}
+use Rattle.ecma_patterns.specs.Numbers.{braced_digits, bytes_behind, code_point, four_digits, is_high, is_low, low_behind, paired, two_digits}
 use Rattle.ecma_patterns.specs.declared.pattern.Ahead.{Ahead}
 use Rattle.ecma_patterns.specs.declared.pattern.Ahead.TheVariants as ahead
 use Rattle.ecma_patterns.specs.declared.pattern.End.{End}
@@ -76,6 +76,10 @@ escape_of b bs =
 -- an escape in a name, with any flags
 abbrev pub escape_in_name : List ℕ → Option Escape
 escape_in_name bs = if begins 117 bs then unicode_escape (tail bs) else None
+
+-- a character of a name: an escape, or as it is written
+abbrev pub char_in_name : ℕ → List ℕ → Option Escape
+char_in_name b bs = if b == 92 then escape_in_name bs else Some (char_escape (code_point b bs) (bytes_ahead (bytes_behind b)))
 
 -- behind a `\`, a property of strings (with the flag `v`)
 abbrev pub names_strings : List ℕ → Bool

@@ -1,8 +1,7 @@
 -- Groups of a pattern: how many capture, their names, and modifiers.
 use Rattle.std.specs.Prelude.{ℕ, Bool, true, false, not, ◌&&◌, ◌||◌, ◌==◌, ◌+◌, nat_lt, if◌then◌else◌, List, [], ◌∷◌, Option, Some, None}
-use Rattle.ecma_patterns.specs.Bytes.{begins, bytes_ahead, is_skipped, past, tail}
-use Rattle.ecma_patterns.specs.Escapes.{escape_in_name}
-use Rattle.ecma_patterns.specs.Numbers.{bytes_behind, code_point}
+use Rattle.ecma_patterns.specs.Bytes.{begins, is_skipped, past, tail}
+use Rattle.ecma_patterns.specs.Escapes.{char_in_name}
 use Rattle.ecma_patterns.specs.declared.pattern.Ahead.{Ahead}
 use Rattle.ecma_patterns.specs.declared.pattern.Ahead.TheVariants as ahead
 use Rattle.ecma_patterns.specs.declared.pattern.Counted.{Counted}
@@ -56,15 +55,10 @@ abbrev pub named_by : (is_first : Bool) → End → Ahead → Option Ahead
 named_by is_first end.Set a = None
 named_by is_first (end.Char c) a = if is_in_name is_first c then Some a else None
 
-abbrev pub escaped_name : (is_first : Bool) → Option Escape → Option Ahead
-escaped_name is_first None = None
-escaped_name is_first (Some e) = named_by is_first e.end e.ahead
-
--- what is looked at behind a byte of a name: nothing, an escape, or none, where it is no name
-abbrev pub behind_name : (is_first : Bool) → ℕ → List ℕ → Option Ahead
-behind_name is_first b bs =
-    if b == 92 then escaped_name is_first (escape_in_name bs) else
-    if is_in_name is_first (code_point b bs) then Some (bytes_ahead (bytes_behind b)) else None
+-- what is left of a character of a name; none, where it is no name
+abbrev pub behind_name : (is_first : Bool) → Option Escape → Option Ahead
+behind_name is_first None = None
+behind_name is_first (Some e) = named_by is_first e.end e.ahead
 
 -- a name with its `>`
 abbrev pub name_from : Option Ahead → (is_first : Bool) → List ℕ → Bool
@@ -72,7 +66,7 @@ name_from None is_first bs = false
 name_from (Some a) is_first [] = false
 name_from (Some a) is_first (b ∷ bs) =
     if is_skipped a b then name_from (Some (past a b)) is_first bs else
-    if b == 62 then not is_first else name_from (behind_name is_first b bs) false bs
+    if b == 62 then not is_first else name_from (behind_name is_first (char_in_name b bs)) false bs
 
 abbrev pub is_name : List ℕ → Bool
 is_name bs = name_from (Some ahead.Nothing) true bs

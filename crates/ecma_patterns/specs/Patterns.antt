@@ -1,11 +1,17 @@
 -- What is wrong with the pattern of a regular expression: a machine that goes over its bytes with what a quantifier would repeat, where in a class one
 -- stands, what was looked at already, and the groups and classes that stand around. It follows the grammar of 22.2.1; without the flags `u` and `v` that
 -- of B.1.2.
-use Rattle.std.specs.Prelude.{ℕ, Bool, true, false, not, ◌&&◌, ◌||◌, ◌==◌, nat_le, if◌then◌else◌, List, [], ◌∷◌, Option, Some, None, Result, Ok, Err}
+use Rattle.std.specs.Prelude.{ℕ, Bool, true, false, not, ◌&&◌, ◌||◌, ◌==◌, ◌++◌, nat_le, if◌then◌else◌, List, [], ◌∷◌, Option, Some, None, Result, Ok, Err}
+use Rattle.ecma_group_names.specs.GroupNames.{name_error}
+use Rattle.ecma_group_names.specs.declared.mark.Mark.{Mark}
+use Rattle.ecma_group_names.specs.declared.mark.Mark.TheVariants as mark
+use Rattle.ecma_group_names.specs.declared.mark.NameError.{NameError}
+use Rattle.ecma_group_names.specs.declared.mark.NameError.TheVariants as name
 use Rattle.ecma_patterns.specs.Bytes.{begins, begins_digit, is_digit, is_skipped, past, tail}
 use Rattle.ecma_patterns.specs.Classes.{in_class, past_class}
 use Rattle.ecma_patterns.specs.Escapes.{escape_error, escape_of, names_strings}
 use Rattle.ecma_patterns.specs.Groups.{are_modifiers, is_name, mode_of}
+use Rattle.ecma_patterns.specs.Names.{name_of}
 use Rattle.ecma_patterns.specs.Numbers.{braces_of, decimal}
 use Rattle.ecma_patterns.specs.Sets.{joined, negation, past_set, past_strings, set_in}
 use Rattle.ecma_patterns.specs.declared.pattern.Ahead.{Ahead}
@@ -34,6 +40,9 @@ outside l a = record { last = l; class = class.Outside; ahead = a }
 abbrev pub stays : At → Step
 stays a = record { at = a; turn = turn.Stay }
 
+abbrev pub turns : Last → Ahead → Turn → Step
+turns l a t = record { at = outside l a; turn = t }
+
 abbrev pub goes_on : Last → Ahead → Result Step PatternError
 goes_on l a = Ok (stays (outside l a))
 
@@ -61,13 +70,13 @@ braced is_unicode l braces.Plain = bracket is_unicode
 braced is_unicode l bs = repeated l bs
 
 abbrev pub opened : (is_repeatable : Bool) → Ahead → Result Step PatternError
-opened is_repeatable a = Ok (record { at = outside last.Nothing a; turn = turn.Open is_repeatable })
+opened is_repeatable a = Ok (turns last.Nothing a (turn.Open is_repeatable))
 
 -- behind `(?<`
 abbrev pub angled : List ℕ → Result Step PatternError
 angled bs =
     if begins 61 bs || begins 33 bs then opened false (ahead.Bytes 3) else
-    if is_name bs then opened true (ahead.Past 62) else Err error.InvalidGroupName
+    if is_name bs then Ok (turns last.Nothing (ahead.Past 62) turn.Name) else Err error.InvalidGroupName
 
 -- behind `(?`; without the flag `u` a lookahead may be repeated (B.1.2)
 abbrev pub marked : (is_unicode : Bool) → List ℕ → Result Step PatternError
@@ -89,7 +98,7 @@ class_opened has_sets bs = if has_sets then set_in turn.Stay bs else Ok (stays (
 abbrev pub reference : Mode → List ℕ → Result Step PatternError
 reference m bs =
     if not m.is_unicode && not m.has_names then atom (ahead.Bytes 1) else
-    if begins 60 bs && is_name (tail bs) then atom (ahead.Past 62) else Err error.InvalidNameReference
+    if begins 60 bs && is_name (tail bs) then Ok (turns last.Atom (ahead.Past 62) turn.Reference) else Err error.InvalidNameReference
 
 -- `\0`, and the numbers of groups
 abbrev pub numbered : (captures : ℕ) → List ℕ → Result Step PatternError
@@ -114,12 +123,13 @@ escaped m (b ∷ bs) =
 -- a byte outside of classes
 abbrev pub past_text : Mode → Last → ℕ → List ℕ → Result Step PatternError
 past_text m l b bs =
-    if b == 94 || (b == 36 || b == 124) then goes_on last.Nothing ahead.Nothing else
+    if b == 94 || b == 36 then goes_on last.Nothing ahead.Nothing else
+    if b == 124 then Ok (turns last.Nothing ahead.Nothing turn.Alternative) else
     if b == 42 || (b == 43 || b == 63) then quantified l b else
     if b == 123 then braced m.is_unicode l (braces_of bs) else
     if b == 125 || b == 93 then bracket m.is_unicode else
     if b == 40 then group m.is_unicode bs else
-    if b == 41 then Ok (record { at = outside last.Nothing ahead.Nothing; turn = turn.Close }) else
+    if b == 41 then Ok (turns last.Nothing ahead.Nothing turn.Close) else
     if b == 91 then class_opened m.has_sets bs else
     if b == 92 then escaped m bs else atom ahead.Nothing
 
@@ -174,6 +184,9 @@ left rs (l ∷ ls) s = stands (at_level (joined l l.stage end.Set s)) rs ls
 abbrev pub turned : At → List Bool → List Level → Turn → Result State PatternError
 turned a rs ls turn.Stay = state a rs ls
 turned a rs ls (turn.Open r) = state a (r ∷ rs) ls
+turned a rs ls turn.Name = state a (true ∷ rs) ls
+turned a rs ls turn.Alternative = state a rs ls
+turned a rs ls turn.Reference = state a rs ls
 turned a rs ls turn.Close = closed rs ls
 turned a rs ls (turn.Enter l) = state a rs (l ∷ ls)
 turned a rs ls (turn.Leave s) = left rs ls s
@@ -182,21 +195,40 @@ abbrev pub behind : List Bool → List Level → Result Step PatternError → Re
 behind rs ls (Err e) = Err e
 behind rs ls (Ok s) = turned s.at rs ls s.turn
 
+-- what names of groups depend on; a name stands two bytes behind, as in `(?<a>` and `\k<a>`
+abbrev pub marks_of : Turn → List ℕ → List Mark
+marks_of (turn.Open r) bs = mark.Group ∷ []
+marks_of turn.Name bs = mark.Named (name_of (tail (tail bs))) ∷ []
+marks_of turn.Alternative bs = mark.Alternative ∷ []
+marks_of turn.Reference bs = mark.Reference (name_of (tail (tail bs))) ∷ []
+marks_of turn.Close bs = mark.Close ∷ []
+marks_of _ bs = []
+
+abbrev pub marks_behind : List Mark → Result Step PatternError → List ℕ → List Mark
+marks_behind ms (Err e) bs = ms
+marks_behind ms (Ok s) bs = ms ++ marks_of s.turn bs
+
+abbrev pub name_wrong : Option NameError → Option PatternError
+name_wrong None = None
+name_wrong (Some name.Equal) = Some error.EqualGroupNames
+name_wrong (Some name.Unknown) = Some error.UnknownGroupName
+
 abbrev pub is_outside : Class → Bool
 is_outside class.Outside = true
 is_outside _ = false
 
-abbrev pub unclosed : List Bool → Option PatternError
-unclosed [] = None
-unclosed (r ∷ rs) = Some error.UnclosedGroup
+-- names are compared once the whole pattern is one of the grammar (22.2.1.1)
+abbrev pub unclosed : List Mark → List Bool → Option PatternError
+unclosed ms [] = name_wrong (name_error ms)
+unclosed ms (r ∷ rs) = Some error.UnclosedGroup
 
-abbrev pub at_end : At → List Bool → Option PatternError
-at_end a rs = if not (is_outside a.class) then Some error.UnclosedClass else unclosed rs
+abbrev pub at_end : List Mark → At → List Bool → Option PatternError
+at_end ms a rs = if not (is_outside a.class) then Some error.UnclosedClass else unclosed ms rs
 
-abbrev pub runs : Mode → Result State PatternError → List ℕ → Option PatternError
-runs m (Err e) bs = Some e
-runs m (Ok s) [] = at_end s.at s.around
-runs m (Ok s) (b ∷ bs) = runs m (behind s.around s.classes (step m s.at b bs)) bs
+abbrev pub runs : Mode → List Mark → Result State PatternError → List ℕ → Option PatternError
+runs m ms (Err e) bs = Some e
+runs m ms (Ok s) [] = at_end ms s.at s.around
+runs m ms (Ok s) (b ∷ bs) = runs m (marks_behind ms (step m s.at b bs) bs) (behind s.around s.classes (step m s.at b bs)) bs
 
 -- where a pattern begins
 abbrev pub start : Result State PatternError
@@ -204,4 +236,4 @@ start = state (outside last.Nothing ahead.Nothing) [] []
 
 -- a pattern as a whole
 unfoldable pub pattern_error : PatternFlags → List ℕ → Option PatternError
-pattern_error f bs = runs (mode_of f bs) start bs
+pattern_error f bs = runs (mode_of f bs) [] start bs

@@ -3,8 +3,11 @@
 ghost use Rattle.std.specs.Prelude.{◌≡◌};
 ghost use Rattle.ecma_patterns.specs.Escapes as escape;
 
-use crate::bytes::{begins, begins_letter, first, tail};
-use crate::numbers::{braced_digits, four_digits, is_high, is_low, low_behind, paired, two_digits};
+use crate::bytes::{begins, begins_letter, bytes_ahead, first, tail};
+use crate::numbers::{
+    braced_digits, bytes_behind, code_point, four_digits, is_high, is_low, low_behind, paired,
+    two_digits,
+};
 use crate::pattern::{Ahead, End, Escape, PatternError};
 use ecma_properties::{is_property, is_string_property};
 
@@ -189,12 +192,23 @@ pub(crate) fn escape_of(byte: u8, rest: &[u8]) -> Option<Escape>
 }
 
 /// An escape in a name.
-pub(crate) fn escape_in_name(bytes: &[u8]) -> Option<Escape>
+fn escape_in_name(bytes: &[u8]) -> Option<Escape>
     ensures { result ≡ escape.escape_in_name bytes.now }
 {
     if begins(b'u', bytes) {
         unicode_escape(tail(bytes))
     } else {
         None
+    }
+}
+
+/// A character of a name: an escape, or as it is written.
+pub(crate) fn char_in_name(byte: u8, rest: &[u8]) -> Option<Escape>
+    ensures { result ≡ escape.char_in_name byte rest.now }
+{
+    if byte == b'\\' {
+        escape_in_name(rest)
+    } else {
+        Some(char_escape(code_point(byte, rest), bytes_ahead(bytes_behind(byte))))
     }
 }

@@ -3,9 +3,8 @@
 ghost use Rattle.std.specs.Prelude.{◌≡◌};
 ghost use Rattle.ecma_patterns.specs.Groups as group;
 
-use crate::bytes::{begins, bytes_ahead, is_skipped, past, tail};
-use crate::escapes::escape_in_name;
-use crate::numbers::{bytes_behind, code_point};
+use crate::bytes::{begins, is_skipped, past, tail};
+use crate::escapes::char_in_name;
 use crate::pattern::{Ahead, Counted, End, Escape, Mode, PatternFlags};
 use swc_ecma_parser_scan::{is_name_part, is_name_start};
 
@@ -108,9 +107,9 @@ fn is_in_name(is_first: bool, code: u32) -> bool
     }
 }
 
-/// An escape in a name.
-fn escaped_name(is_first: bool, found: Option<Escape>) -> Option<Ahead>
-    ensures { result ≡ group.escaped_name is_first found }
+/// What is left of a character of a name.
+fn behind_name(is_first: bool, found: Option<Escape>) -> Option<Ahead>
+    ensures { result ≡ group.behind_name is_first found }
 {
     match found {
         Some(found) => match found.end {
@@ -127,19 +126,6 @@ fn escaped_name(is_first: bool, found: Option<Escape>) -> Option<Ahead>
     }
 }
 
-/// What is looked at behind a byte of a name.
-fn behind_name(is_first: bool, byte: u8, rest: &[u8]) -> Option<Ahead>
-    ensures { result ≡ group.behind_name is_first byte rest.now }
-{
-    if byte == b'\\' {
-        escaped_name(is_first, escape_in_name(rest))
-    } else if is_in_name(is_first, code_point(byte, rest)) {
-        Some(bytes_ahead(bytes_behind(byte)))
-    } else {
-        None
-    }
-}
-
 /// Whether a name stands here, and its `>`.
 pub(crate) fn is_name(bytes: &[u8]) -> bool
     ensures { result ≡ group.is_name bytes.now }
@@ -153,7 +139,7 @@ pub(crate) fn is_name(bytes: &[u8]) -> bool
         } else if *byte == b'>' {
             return !is_first;
         } else {
-            match behind_name(is_first, *byte, more) {
+            match behind_name(is_first, char_in_name(*byte, more)) {
                 Some(found) => ahead = found,
                 None => return false,
             }

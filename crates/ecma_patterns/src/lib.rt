@@ -1,7 +1,6 @@
 //! The syntax of regular expressions (ECMA-262, 22.2.1 and B.1.2), byte by byte.
 //!
-//! `Patterns.antt` has the definition. Names of groups and of properties are looked at by their letters alone: neither whether a property exists, nor
-//! whether two groups have one name or none has the name that is referred to.
+//! `Patterns.antt` has the definition. Names of groups are compared by `ecma_group_names`, once the whole pattern is one of the grammar.
 #![tactic(auto)]
 
 mod bytes;
@@ -9,6 +8,7 @@ mod classes;
 mod escapes;
 mod groups;
 mod machine;
+mod names;
 mod numbers;
 mod pattern;
 mod sets;

@@ -1,18 +1,20 @@
 //! The machine that goes over the bytes of a pattern.
 
-ghost use Rattle.std.specs.Prelude.{◌≡◌, IfOk};
+ghost use Rattle.std.specs.Prelude.{◌≡◌, ◌++◌, IfOk, OnOk};
 ghost use Rattle.ecma_patterns.specs.Patterns as pattern;
 
 use crate::bytes::{begins, begins_digit, is_digit, is_skipped, past, tail};
 use crate::classes::{in_class, past_class};
 use crate::escapes::{escape_error, escape_of, names_strings};
 use crate::groups::{are_modifiers, is_name, mode_of};
+use crate::names::name_of;
 use crate::numbers::{braces_of, decimal};
 use crate::pattern::{
     Ahead, At, Braces, Class, End, Escape, Last, Level, Mode, PatternError, PatternFlags, Step,
     Turn,
 };
 use crate::sets::{joined, negation, past_set, past_strings, set_in};
+use ecma_group_names::{Mark, NameError, name_error};
 use std::alloc::{AllocError, Global};
 use std::collections::VecDeque;
 
@@ -32,6 +34,15 @@ fn stays(at: At) -> Step
     Step {
         at,
         turn: Turn::Stay,
+    }
+}
+
+fn turns(last: Last, ahead: Ahead, turn: Turn) -> Step
+    ensures { result ≡ pattern.turns last ahead turn }
+{
+    Step {
+        at: outside(last, ahead),
+        turn,
     }
 }
 
@@ -100,10 +111,7 @@ fn braced(is_unicode: bool, last: Last, braces: Braces) -> Result<Step, PatternE
 fn opened(is_repeatable: bool, ahead: Ahead) -> Result<Step, PatternError>
     ensures { result ≡ pattern.opened is_repeatable ahead }
 {
-    Ok(Step {
-        at: outside(Last::Nothing, ahead),
-        turn: Turn::Open(is_repeatable),
-    })
+    Ok(turns(Last::Nothing, ahead, Turn::Open(is_repeatable)))
 }
 
 /// Behind `(?<`.
@@ -113,7 +121,7 @@ fn angled(bytes: &[u8]) -> Result<Step, PatternError>
     if begins(b'=', bytes) || begins(b'!', bytes) {
         opened(false, Ahead::Bytes(3))
     } else if is_name(bytes) {
-        opened(true, Ahead::Past(b'>'))
+        Ok(turns(Last::Nothing, Ahead::Past(b'>'), Turn::Name))
     } else {
         Err(PatternError::InvalidGroupName)
     }
@@ -165,7 +173,7 @@ fn reference(mode: &Mode, bytes: &[u8]) -> Result<Step, PatternError>
     if !mode.is_unicode && !mode.has_names {
         atom(Ahead::Bytes(1))
     } else if begins(b'<', bytes) && is_name(tail(bytes)) {
-        atom(Ahead::Past(b'>'))
+        Ok(turns(Last::Atom, Ahead::Past(b'>'), Turn::Reference))
     } else {
         Err(PatternError::InvalidNameReference)
     }
@@ -225,8 +233,10 @@ fn escaped(mode: &Mode, bytes: &[u8]) -> Result<Step, PatternError>
 fn past_text(mode: &Mode, last: Last, byte: u8, rest: &[u8]) -> Result<Step, PatternError>
     ensures { result ≡ pattern.past_text mode.now last byte rest.now }
 {
-    if byte == b'^' || byte == b'$' || byte == b'|' {
+    if byte == b'^' || byte == b'$' {
         goes_on(Last::Nothing, Ahead::Nothing)
+    } else if byte == b'|' {
+        Ok(turns(Last::Nothing, Ahead::Nothing, Turn::Alternative))
     } else if byte == b'*' || byte == b'+' || byte == b'?' {
         quantified(last, byte)
     } else if byte == b'{' {
@@ -236,10 +246,7 @@ fn past_text(mode: &Mode, last: Last, byte: u8, rest: &[u8]) -> Result<Step, Pat
     } else if byte == b'(' {
         group(mode.is_unicode, rest)
     } else if byte == b')' {
-        Ok(Step {
-            at: outside(Last::Nothing, Ahead::Nothing),
-            turn: Turn::Close,
-        })
+        Ok(turns(Last::Nothing, Ahead::Nothing, Turn::Close))
     } else if byte == b'[' {
         class_opened(mode.has_sets, rest)
     } else if byte == b'\\' {
@@ -330,9 +337,13 @@ impl Around {
             ≡ pattern.turned step.at self.old.groups.items self.old.classes.items step.turn) }
     {
         match step.turn {
-            Turn::Stay => Ok(Ok(step.at)),
+            Turn::Stay | Turn::Alternative | Turn::Reference => Ok(Ok(step.at)),
             Turn::Open(is_repeatable) => {
                 self.groups.push_front(is_repeatable)?;
+                Ok(Ok(step.at))
+            }
+            Turn::Name => {
+                self.groups.push_front(true)?;
                 Ok(Ok(step.at))
             }
             Turn::Close => match self.groups.pop_front() {
@@ -361,8 +372,35 @@ fn entered(level: Result<Level, PatternError>) -> Result<At, PatternError>
     }
 }
 
+/// Adds what names depend on, by the bytes behind.
+fn add_mark(alloc: Global, marks: &mut Vec<Mark>, turn: Turn, rest: &[u8]) -> Result<(), AllocError>
+    ensures { OnOk result
+        (marks.new.items ≡ marks.old.items ++ pattern.marks_of turn rest.now) }
+{
+    let mark = match turn {
+        Turn::Open(_) => Mark::Group,
+        Turn::Name => Mark::Named(name_of(alloc, tail(tail(rest)))?),
+        Turn::Alternative => Mark::Alternative,
+        Turn::Reference => Mark::Reference(name_of(alloc, tail(tail(rest)))?),
+        Turn::Close => Mark::Close,
+        Turn::Stay | Turn::Enter(_) | Turn::Leave(_) => return Ok(()),
+    };
+    marks.push(mark)?;
+    Ok(())
+}
+
+fn name_wrong(error: Option<NameError>) -> Option<PatternError>
+    ensures { result ≡ pattern.name_wrong error }
+{
+    match error {
+        Some(NameError::Equal) => Some(PatternError::EqualGroupNames),
+        Some(NameError::Unknown) => Some(PatternError::UnknownGroupName),
+        None => None,
+    }
+}
+
 /// What is wrong with the pattern of a regular expression: exactly `pattern_error` of its bytes in UTF-8, the first thing that is (ECMA-262, 22.2.1 and
-/// B.1.2). It fails only where memory runs out.
+/// B.1.2), and of one that the grammar has the first name of a group that is. It fails only where memory runs out.
 #[tactic(auto, unfolding(crate::specs::Patterns::pattern_error))]
 pub fn pattern_error(
     alloc: Global,
@@ -376,6 +414,7 @@ pub fn pattern_error(
         groups: VecDeque::new(alloc),
         classes: VecDeque::new(alloc),
     };
+    let mut marks = Vec::new(alloc);
     let mut at = outside(Last::Nothing, Ahead::Nothing);
     let mut rest = bytes;
     while let [byte, more @ ..] = rest {
@@ -383,6 +422,7 @@ pub fn pattern_error(
             Ok(step) => step,
             Err(error) => return Ok(Some(error)),
         };
+        add_mark(alloc, &mut marks, step.turn, more)?;
         at = match around.turn(step)? {
             Ok(at) => at,
             Err(error) => return Ok(Some(error)),
@@ -392,7 +432,7 @@ pub fn pattern_error(
     if !is_outside(at.class) {
         Ok(Some(PatternError::UnclosedClass))
     } else if around.groups.is_empty() {
-        Ok(None)
+        Ok(name_wrong(name_error(alloc, marks.as_slice())?))
     } else {
         Ok(Some(PatternError::UnclosedGroup))
     }

@@ -25,6 +25,10 @@ pub enum PatternError {
     InvalidEscape,
     /// A `\p` or `\P` that names no property.
     InvalidProperty,
+    /// A group has the name of an earlier one that might take part in a match together with it.
+    EqualGroupNames,
+    /// A `\k` with a name that no group has.
+    UnknownGroupName,
     /// A `[` that is not closed.
     UnclosedClass,
     /// A range that ends before it begins, as in `[b-a]`.
@@ -151,8 +155,14 @@ pub(crate) struct At {
 #[derive(Clone, Copy)]
 pub(crate) enum Turn {
     Stay,
-    /// One group more, and whether it may be repeated as a whole.
+    /// One group without a name more, and whether it may be repeated as a whole.
     Open(bool),
+    /// One group with a name more. The name stands two bytes behind.
+    Name,
+    /// The next alternative.
+    Alternative,
+    /// A reference to a name, which stands two bytes behind.
+    Reference,
     Close,
     /// One class more.
     Enter(Level),

@@ -10,9 +10,9 @@ use Rattle.ecma_sentences.specs.Look.{look_at}
 use Rattle.ecma_situations.specs.Number.{number}
 use Rattle.ecma_sentences.specs.Payload.{inner_of}
 use Rattle.ecma_sentences.specs.Sentence.{sentence_of}
-use Rattle.ecma_situations.specs.Situation.{words}
-use Rattle.ecma_situations.specs.declared.situation.Situation.{Situation}
-use Rattle.ecma_situations.specs.declared.situation.Situation.TheVariants as situation
+use Rattle.ecma_words.specs.Situation.{words}
+use Rattle.ecma_words.specs.declared.situation.Situation.{Situation}
+use Rattle.ecma_words.specs.declared.situation.Situation.TheVariants as situation
 
 -- the situation of a fault, by its kind and what stands around it
 abbrev pub situation_of : Kind → Looked → Situation

@@ -14,10 +14,10 @@ use Rattle.ecma_sentences.specs.Look.{found_at, found_lexeme, look_at, opener_of
 use Rattle.ecma_sentences.specs.Message.{situation_of}
 use Rattle.ecma_outline.specs.Outline.{outlined}
 use Rattle.ecma_sentences.specs.Payload.{inner_of}
-use Rattle.ecma_situations.specs.Situation.{beside}
+use Rattle.ecma_words.specs.Situation.{beside}
 use Rattle.ecma_sentences.specs.declared.note.Note.{Note}
-use Rattle.ecma_situations.specs.declared.situation.Beside.{Beside}
-use Rattle.ecma_situations.specs.declared.situation.Beside.TheVariants as places
+use Rattle.ecma_words.specs.declared.situation.Beside.{Beside}
+use Rattle.ecma_words.specs.declared.situation.Beside.TheVariants as places
 
 -- a note as its place and its sentence
 abbrev pub noted : Option Note → Option (Span × List ℕ)

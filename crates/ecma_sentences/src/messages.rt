@@ -11,9 +11,10 @@ use crate::payload::inner_of;
 use crate::sentences::sentence;
 use ecma_outline::{Source, is_start, piece};
 use ecma_situations::{
-    Look, Situation, character, declaration_end, escape, expected, module_item, name, number,
-    statement_end, target, unexpected, words,
+    Look, character, declaration_end, escape, expected, module_item, name, number, statement_end,
+    target, unexpected,
 };
+use ecma_words::{Situation, words};
 use std::alloc::{AllocError, Global};
 use swc_ecma_parser_error::{Error, SyntaxError};
 

@@ -9,7 +9,8 @@ use crate::look::{index_of, lexeme_of, look, opener_of};
 use crate::messages::situation_of;
 use crate::payload::inner_of;
 use ecma_outline::Source;
-use ecma_situations::{Beside, Look, place_beside};
+use ecma_situations::Look;
+use ecma_words::{Beside, place_beside};
 use swc_ecma_parser_common::{BytePos, Span};
 use swc_ecma_parser_error::{Error, SyntaxError};
 

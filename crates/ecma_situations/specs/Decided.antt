@@ -3,13 +3,18 @@ use Rattle.std.specs.Prelude.{ℕ, List, ◌&&◌, ◌||◌, Bool, not, if◌the
 use Rattle.std.specs.Str.{bytes_eq}
 use Rattle.ecma_situations.specs.Forms.{form, is_form, is_in_template, is_name_form, name_form, slash}
 use Rattle.ecma_situations.specs.Looked.{Looked}
-use Rattle.ecma_situations.specs.Texts.{is_closer, is_dash, is_declaring, is_else_if, is_function_word, is_invisible, is_modifier, is_name, is_slash, is_smart_apostrophe, is_smart_quote, is_type_word, is_typed_head, is_value}
-use Rattle.ecma_situations.specs.declared.situation.Situation.{Situation}
-use Rattle.ecma_situations.specs.declared.situation.Situation.TheVariants as situation
+use Rattle.ecma_situations.specs.Slips.{behind_let, end_slip, is_arrow_body, is_as, is_assertion, is_called, is_mark_slip, is_operand_slip, is_other_operator, is_slip, is_statement_slip, is_typed_import, is_walrus, is_word_slip, mark_slip, operand_sign, slip, statement_slip, typed, variable_end, word_slip}
+use Rattle.ecma_situations.specs.Texts.{is_closer, is_dash, is_declaring, is_else_if, is_fullwidth, is_function_word, is_invisible, is_modifier, is_name, is_slash, is_smart_apostrophe, is_smart_quote, is_statement_word, is_type_word, is_typed_head, is_value, is_value_word}
+use Rattle.ecma_words.specs.declared.situation.Situation.{Situation}
+use Rattle.ecma_words.specs.declared.situation.Situation.TheVariants as situation
+
+-- A type stands behind a parameter
+unfoldable pub is_typed_parameter : Looked → Bool
+is_typed_parameter l = (bytes_eq l.wanted (codes ")") || bytes_eq l.wanted (codes ",")) && bytes_eq l.opener (codes "(") && not (is_value l.after || bytes_eq l.head (codes "for"))
 
 -- A type stands behind a parameter, or behind parameters
 unfoldable pub is_annotated : Looked → Bool
-is_annotated l = bytes_eq l.found (codes ":") && (bytes_eq l.wanted (codes ")") || (bytes_eq l.wanted (codes ",") && bytes_eq l.opener (codes "(")) || (bytes_eq l.wanted (codes "{") && bytes_eq l.before (codes ")")) || (bytes_eq l.wanted (codes ";") && bytes_eq l.head (codes "for")))
+is_annotated l = bytes_eq l.found (codes ":") && (is_typed_parameter l || (bytes_eq l.wanted (codes "{") && bytes_eq l.before (codes ")") && not (is_statement_word l.after)))
 
 -- A parameter that may be missing, as TypeScript writes it
 unfoldable pub is_optional : Looked → Bool
@@ -17,7 +22,7 @@ is_optional l = bytes_eq l.found (codes "?") && (bytes_eq l.wanted (codes ")") |
 
 -- A type behind an expression, a class or `import`
 unfoldable pub is_cast : Looked → Bool
-is_cast l = bytes_eq l.found (codes "satisfies") || bytes_eq l.found (codes "implements") || (bytes_eq l.found (codes "as") && not (bytes_eq l.wanted (codes "as"))) || (bytes_eq l.before (codes "type") && bytes_eq l.wanted (codes "from")) || (bytes_eq l.found (codes "=") && bytes_eq l.wanted (codes "from"))
+is_cast l = bytes_eq l.found (codes "satisfies") || bytes_eq l.found (codes "implements") || is_as l || (bytes_eq l.before (codes "type") && bytes_eq l.wanted (codes "from")) || (bytes_eq l.found (codes "=") && bytes_eq l.wanted (codes "from"))
 
 -- parameters of types
 unfoldable pub is_generic : Looked → Bool
@@ -37,7 +42,7 @@ is_short_head l = bytes_eq l.head (codes "for") && bytes_eq l.wanted (codes ";")
 
 -- the head of a `for` that goes on with a name
 unfoldable pub is_other_head : Looked → Bool
-is_other_head l = bytes_eq l.head (codes "for") && bytes_eq l.wanted (codes ";") && is_name l.found
+is_other_head l = bytes_eq l.head (codes "for") && bytes_eq l.wanted (codes ";") && (is_name l.found || bytes_eq l.found (codes ":"))
 
 -- A list behind `of`
 unfoldable pub is_long_head : Looked → Bool
@@ -59,9 +64,9 @@ is_element l = bytes_eq l.token (codes "<") && (bytes_eq l.after (codes ">") || 
 unfoldable pub is_markup : Looked → Bool
 is_markup l = bytes_eq l.found (codes "<!") || bytes_eq l.found (codes "<!--") || bytes_eq l.found (codes "<?") || (bytes_eq l.before (codes "--") && bytes_eq l.token (codes ">")) || (bytes_eq l.token (codes "<") && is_slash l.after)
 
--- parentheses with nothing in them
+-- parentheses with nothing in them that are no arguments
 unfoldable pub is_empty_list : Looked → Bool
-is_empty_list l = bytes_eq l.before (codes ")") && bytes_eq l.earlier (codes "(")
+is_empty_list l = bytes_eq l.before (codes ")") && bytes_eq l.earlier (codes "(") && not (is_called l)
 
 -- The first mark of a merge conflict, which a version control system leaves in a file
 unfoldable pub is_conflict : Looked → Bool
@@ -73,7 +78,7 @@ is_second_equals l = bytes_eq l.token (codes "=") && (bytes_eq l.before (codes "
 
 -- A key that is no name, without a value
 unfoldable pub is_lone_key : Looked → Bool
-is_lone_key l = bytes_eq l.opener (codes "{") && (bytes_eq l.earlier (codes "{") || bytes_eq l.earlier (codes ",")) && (bytes_eq l.found (codes "}") || bytes_eq l.found (codes ",")) && is_value l.before
+is_lone_key l = bytes_eq l.opener (codes "{") && (bytes_eq l.earlier (codes "{") || bytes_eq l.earlier (codes ",")) && is_value l.before
 
 -- what stands before it ends a statement, or nothing does
 unfoldable pub is_at_start : Looked → Bool
@@ -81,7 +86,7 @@ is_at_start l = bytes_eq l.before (codes "") || bytes_eq l.before (codes ";") ||
 
 -- A type behind the name of a field
 unfoldable pub is_typed_field : Looked → Bool
-is_typed_field l = (bytes_eq l.found (codes ":") && is_name l.after) || bytes_eq l.found (codes "?") || bytes_eq l.found (codes "!")
+is_typed_field l = (bytes_eq l.found (codes ":") && is_name l.after && not (is_value_word l.after)) || bytes_eq l.found (codes "?") || bytes_eq l.found (codes "!")
 
 -- A function without a name
 unfoldable pub is_nameless : Looked → Bool
@@ -109,11 +114,11 @@ is_label l = bytes_eq l.found (codes ":") && bytes_eq l.opener (codes "{")
 
 -- whether one stands here
 unfoldable pub is_operator_word : Looked → Bool
-is_operator_word l = bytes_eq l.found (codes "and") || bytes_eq l.found (codes "or") || (bytes_eq l.before (codes "not") && is_name l.found)
+is_operator_word l = bytes_eq l.found (codes "and") || bytes_eq l.found (codes "or") || is_other_operator l || (bytes_eq l.before (codes "not") && is_name l.found)
 
 -- whether this is TypeScript
 unfoldable pub is_type : Looked → Bool
-is_type l = is_annotated l || is_optional l || is_cast l || is_generic l || is_typed_export l
+is_type l = is_annotated l || is_typed_import l || is_optional l || is_cast l || is_generic l || is_typed_export l
 
 -- A bracket that closes
 unfoldable pub closer : Looked → Situation
@@ -126,8 +131,10 @@ unfoldable pub operator_word : Looked → Situation
 operator_word l =
     if bytes_eq l.found (codes "and") then situation.WordAnd else
     if bytes_eq l.found (codes "or") then situation.WordOr else
-    if bytes_eq l.before (codes "not") && is_name l.found then situation.WordNot else
-    situation.Expected
+    if bytes_eq l.found (codes "is") then situation.WordIs else
+    if bytes_eq l.found (codes "mod") then situation.WordMod else
+    if bytes_eq l.found (codes "not") then situation.WordNotIn else
+    situation.WordNot
 
 -- behind a rest
 unfoldable pub rest : Looked → Situation
@@ -150,6 +157,7 @@ bracketed l =
 -- between what stands in braces
 unfoldable pub braced : Looked → Situation
 braced l =
+    if is_bare_key l && bytes_eq l.found (codes "(") then situation.PatternBraces else
     if is_bare_key l then situation.ColonOrComma else
     situation.CommaOrBrace
 
@@ -165,6 +173,8 @@ listed l =
 unfoldable pub behind : Looked → Situation
 behind l =
     if bytes_eq l.wanted (codes ";") && (bytes_eq l.found (codes "with") || bytes_eq l.found (codes "assert")) then situation.ImportAttributes else
+    if bytes_eq l.wanted (codes ";") && is_closer l.found && not (fits l) then closer l else
+    if bytes_eq l.wanted (codes ";") && bytes_eq l.found (codes "if") then situation.TernaryIf else
     if bytes_eq l.wanted (codes ";") && not (bytes_eq l.head (codes "for")) then situation.SemicolonBehind else
     if bytes_eq l.wanted (codes "{") && bytes_eq l.found (codes "=>") then situation.MethodArrow else
     if bytes_eq l.before (codes "export") then situation.ExportWhat else
@@ -185,7 +195,7 @@ in_braces l =
 unfoldable pub missing : Looked → Situation
 missing l =
     if is_short_head l then situation.ForHead else
-    if is_name l.found && is_type_word l.before then situation.TypeWord else
+    if is_name l.found && is_type_word l.before then typed l else
     if is_other_head l then situation.ForWhat else
     if is_long_head l then situation.ForOf else
     if bytes_eq l.wanted (codes "}") then in_braces l else
@@ -199,6 +209,8 @@ expected l =
     if is_behind_rest l then rest l else
     if bytes_eq l.earlier (codes "...") && bytes_eq l.found (codes "=") then situation.RestDefault else
     if is_operator_word l then operator_word l else
+    if bytes_eq l.found (codes "as") && bytes_eq l.head (codes "foreach") then situation.ForEach else
+    if is_slip l then slip l else
     missing l
 
 -- behind the name of a member of a class
@@ -207,6 +219,8 @@ member l =
     if bytes_eq l.before (codes "function") then situation.MethodFunction else
     if is_declaring l.before || is_type_word l.before then situation.FieldKeyword else
     if is_modifier l.before || is_typed_field l then situation.TypeScript else
+    if bytes_eq l.found (codes ":") then situation.MemberColon else
+    if bytes_eq l.found (codes ".") then situation.ClassStatement else
     situation.MemberBehind
 
 -- at a sign that touches another before it
@@ -217,6 +231,7 @@ touching l =
     if bytes_eq l.before (codes "=") && bytes_eq l.token (codes "<") then situation.AtMost else
     if bytes_eq l.before (codes "-") && bytes_eq l.token (codes ">") then situation.ThinArrow else
     if is_markup l then situation.Html else
+    if is_operand_slip l then operand_sign l else
     if is_second_equals l then situation.Equals else
     situation.ExpressionBehind
 
@@ -226,6 +241,8 @@ sign l =
     if is_conflict l then situation.MergeConflict else
     if l.is_within then touching l else
     if is_markup l then situation.Html else
+    if is_operand_slip l then operand_sign l else
+    if is_statement_slip l then statement_slip l else
     if bytes_eq l.before (codes "}") && bytes_eq l.token (codes "=") then situation.AssignBlock else
     if is_element l then situation.Jsx else
     if is_second_equals l then situation.Equals else
@@ -265,7 +282,7 @@ expression l =
     if is_form l then form l else
     if is_slash l.found then slash l else
     if bytes_eq l.token (codes "#") then hash l else
-    if bytes_eq l.token (codes "@") then situation.Decorator else
+    if bytes_eq l.token (codes "@") && (not (bytes_eq l.found (codes "@")) || bytes_eq l.after (codes "(")) then situation.Decorator else
     if l.is_end && is_at_start l then situation.Expression else
     if l.is_end then situation.ExpressionBehind else
     word l
@@ -285,6 +302,9 @@ name l =
     if is_nameless l then situation.FunctionName else
     if bytes_eq l.before (codes "class") then situation.ClassName else
     if bytes_eq l.found (codes ",") && bytes_eq l.before (codes "}") then situation.ClassComma else
+    if bytes_eq l.token (codes "@") then situation.Decorator else
+    if is_word_slip l then word_slip l else
+    if is_mark_slip l then mark_slip l else
     if is_name l.found then situation.ReservedName else
     if bytes_eq l.before (codes ".") then situation.NameBehind else
     situation.Name
@@ -296,9 +316,10 @@ any_end l =
     if is_closer l.found && not (fits l) then closer l else
     if is_operator_word l then operator_word l else
     if is_name l.found && is_function_word l.before then situation.FunctionWord else
-    if is_name l.found && is_type_word l.before then situation.TypeWord else
+    if is_name l.found && is_type_word l.before then typed l else
+    if bytes_eq l.found (codes "=>") && bytes_eq l.earlier (codes ",") then situation.ParametersComma else
     if bytes_eq l.found (codes "=>") then situation.ArrowAlone else
-    situation.StatementBehind
+    end_slip l
 
 -- A statement of another language
 unfoldable pub foreign : Looked → Situation
@@ -309,6 +330,7 @@ foreign l =
     if bytes_eq l.before (codes ")") && bytes_eq l.callee (codes "else") then situation.ElseCondition else
     if bytes_eq l.before (codes ")") && is_else_if l.callee then situation.ElseIf else
     if bytes_eq l.before (codes ")") && bytes_eq l.callee (codes "foreach") then situation.ForEach else
+    if is_body l && bytes_eq l.callee (codes "unless") then situation.Unless else
     if is_body l then situation.BodyAlone else
     any_end l
 
@@ -317,18 +339,18 @@ unfoldable pub statement_end : Looked → Situation
 statement_end l =
     if is_label l && is_value l.before then situation.JsonText else
     if is_label l then situation.BlockNoObject else
-    if bytes_eq l.before (codes "let") then situation.LoneDeclaration else
+    if bytes_eq l.before (codes "let") then behind_let l else
     if bytes_eq l.before (codes "yield") then situation.YieldOutside else
     foreign l
 
 -- where a declaration must end
 unfoldable pub declared_end : Looked → Situation
 declared_end l =
-    if bytes_eq l.found (codes ":") then situation.TypeScript else
-    if is_body l then situation.ArrowMissing else
-    if is_cast l then situation.TypeScript else
-    if is_name l.found && is_type_word l.before then situation.TypeWord else
-    if is_declaring l.earlier then situation.VariableBehind else
+    if is_walrus l then situation.Walrus else
+    if bytes_eq l.found (codes ":") || is_cast l || is_assertion l then situation.TypeScript else
+    if is_arrow_body l then situation.ArrowMissing else
+    if is_name l.found && is_type_word l.before then typed l else
+    if is_declaring l.earlier || (bytes_eq l.before (codes "let") && bytes_eq l.earlier (codes ",")) then variable_end l else
     any_end l
 
 -- A fault of kind `TS1005`
@@ -347,6 +369,7 @@ character l =
     if is_smart_apostrophe l.token then situation.SmartApostrophe else
     if is_dash l.token then situation.Dash else
     if is_invisible l.token then situation.Invisible else
+    if is_fullwidth l.token then situation.Fullwidth else
     situation.Character
 
 -- an import or export in the wrong place

@@ -3,8 +3,8 @@ use Rattle.std.specs.Prelude.{ℕ, List, ◌==◌, ◌&&◌, ◌||◌, Bool, not
 use Rattle.std.specs.Str.{bytes_eq}
 use Rattle.ecma_situations.specs.Looked.{Looked}
 use Rattle.ecma_situations.specs.Texts.{begins_with, byte_from_end, is_closer, is_name, is_operand_keyword, is_slash, is_value}
-use Rattle.ecma_situations.specs.declared.situation.Situation.{Situation}
-use Rattle.ecma_situations.specs.declared.situation.Situation.TheVariants as situation
+use Rattle.ecma_words.specs.declared.situation.Situation.{Situation}
+use Rattle.ecma_words.specs.declared.situation.Situation.TheVariants as situation
 
 -- what stands before it ends an operand; 96 is a backquote, 125 `}`
 unfoldable pub is_behind_operand : Looked → Bool
@@ -55,6 +55,7 @@ unfoldable pub behind_form : Looked → Situation
 behind_form l =
     if bytes_eq l.before (codes ".") then (if bytes_eq l.earlier (codes "new") then situation.NewWhat else situation.ImportWhat) else
     if bytes_eq l.found (codes "in") then situation.PrivateInHead else
+    if bytes_eq l.opener (codes "") then situation.Hash else
     situation.PrivateAlone
 
 -- where an expression is missing, in one of these forms

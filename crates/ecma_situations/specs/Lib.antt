@@ -2,5 +2,5 @@ pub mod Decided
 pub mod Forms
 pub mod Looked
 pub mod Number
-pub mod Situation
+pub mod Slips
 pub mod Texts

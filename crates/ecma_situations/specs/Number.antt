@@ -2,8 +2,8 @@
 use Rattle.std.specs.Prelude.{ℕ, List, ◌==◌, ◌&&◌, ◌||◌, Bool, if◌then◌else◌}
 use Rattle.ecma_outline.specs.Piece.{byte_at}
 use Rattle.ecma_situations.specs.Texts.{byte_from_end, is_digit}
-use Rattle.ecma_situations.specs.declared.situation.Situation.{Situation}
-use Rattle.ecma_situations.specs.declared.situation.Situation.TheVariants as situation
+use Rattle.ecma_words.specs.declared.situation.Situation.{Situation}
+use Rattle.ecma_words.specs.declared.situation.Situation.TheVariants as situation
 
 -- x X o O b B
 abbrev pub is_base : ℕ → Bool

@@ -94,3 +94,71 @@ abbrev pub is_invisible : List ℕ → Bool
 is_invisible text =
     (byte_at text 0 == 226 && byte_at text 1 == 129 && byte_at text 2 == 160)
     || (nat_le 139 (punctuation text) && nat_le (punctuation text) 143) || latin text == 173
+
+-- A word close to `function`
+unfoldable pub is_function_typo : List ℕ → Bool
+is_function_typo w =
+    bytes_eq w (codes "fucntion") || bytes_eq w (codes "funtion") || bytes_eq w (codes "functoin") || bytes_eq w (codes "fuction") || bytes_eq w (codes "funciton") || bytes_eq w (codes "functin") || bytes_eq w (codes "fnction") || bytes_eq w (codes "functon") || bytes_eq w (codes "funcion") || bytes_eq w (codes "fnuction") || bytes_eq w (codes "Function") || bytes_eq w (codes "FUNCTION")
+
+-- A word close to `return`
+unfoldable pub is_return_typo : List ℕ → Bool
+is_return_typo w =
+    bytes_eq w (codes "retrun") || bytes_eq w (codes "retun") || bytes_eq w (codes "reutrn") || bytes_eq w (codes "retunr") || bytes_eq w (codes "retrn") || bytes_eq w (codes "rerturn") || bytes_eq w (codes "Return") || bytes_eq w (codes "RETURN")
+
+-- A word close to `const`
+unfoldable pub is_const_typo : List ℕ → Bool
+is_const_typo w =
+    bytes_eq w (codes "cosnt") || bytes_eq w (codes "conts") || bytes_eq w (codes "cnost") || bytes_eq w (codes "cont") || bytes_eq w (codes "Const") || bytes_eq w (codes "CONST")
+
+-- A word close to `class`
+unfoldable pub is_class_typo : List ℕ → Bool
+is_class_typo w =
+    bytes_eq w (codes "calss") || bytes_eq w (codes "clas") || bytes_eq w (codes "clsas") || bytes_eq w (codes "Class") || bytes_eq w (codes "CLASS")
+
+-- A word close to `import`
+unfoldable pub is_import_typo : List ℕ → Bool
+is_import_typo w =
+    bytes_eq w (codes "improt") || bytes_eq w (codes "imoprt") || bytes_eq w (codes "ipmort") || bytes_eq w (codes "impotr") || bytes_eq w (codes "Import") || bytes_eq w (codes "IMPORT")
+
+-- A word that begins a value and is no type
+unfoldable pub is_value_word : List ℕ → Bool
+is_value_word w =
+    bytes_eq w (codes "function") || bytes_eq w (codes "async") || bytes_eq w (codes "new") || bytes_eq w (codes "class") || bytes_eq w (codes "true") || bytes_eq w (codes "false")
+
+-- A word that is a value by itself
+unfoldable pub is_self : List ℕ → Bool
+is_self w =
+    bytes_eq w (codes "this") || bytes_eq w (codes "super") || bytes_eq w (codes "null") || bytes_eq w (codes "true") || bytes_eq w (codes "false")
+
+-- A word that begins a statement
+unfoldable pub is_statement_word : List ℕ → Bool
+is_statement_word w =
+    bytes_eq w (codes "return") || bytes_eq w (codes "if") || bytes_eq w (codes "for") || bytes_eq w (codes "while") || bytes_eq w (codes "do") || bytes_eq w (codes "switch") || bytes_eq w (codes "throw") || bytes_eq w (codes "try") || bytes_eq w (codes "var") || bytes_eq w (codes "let") || bytes_eq w (codes "const")
+
+-- What stands before the first token of a statement, as far as one token tells it
+unfoldable pub is_start : List ℕ → Bool
+is_start w =
+    bytes_eq w (codes "") || bytes_eq w (codes ";") || bytes_eq w (codes "{") || bytes_eq w (codes "}") || bytes_eq w (codes ")")
+
+-- What other languages write before a string
+unfoldable pub is_string_prefix : List ℕ → Bool
+is_string_prefix w =
+    bytes_eq w (codes "f") || bytes_eq w (codes "F") || bytes_eq w (codes "r") || bytes_eq w (codes "R")
+
+-- a word that begins with a letter of ASCII, `_` (95) or `$` (36)
+abbrev pub is_plain : List ℕ → Bool
+is_plain text =
+    is_in_range 97 122 (byte_at text 0) || is_in_range 65 90 (byte_at text 0) || byte_at text 0 == 95 || byte_at text 0 == 36
+
+-- a string; 34 and 39 are quotation marks
+abbrev pub is_string : List ℕ → Bool
+is_string text = byte_at text 0 == 34 || byte_at text 0 == 39
+
+-- a number that begins with its `.` (46)
+abbrev pub is_part_number : List ℕ → Bool
+is_part_number text = byte_at text 0 == 46 && is_digit (byte_at text 1)
+
+-- U+FF00 to U+FF5E
+abbrev pub is_fullwidth : List ℕ → Bool
+is_fullwidth text =
+    byte_at text 0 == 239 && (byte_at text 1 == 188 || (byte_at text 1 == 189 && nat_le (byte_at text 2) 158))

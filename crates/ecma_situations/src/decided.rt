@@ -6,11 +6,27 @@ ghost use Rattle.ecma_situations.specs.Looked.{looked};
 
 use crate::forms::{form, is_form, is_in_template, is_name_form, name_form, slash};
 use crate::look::Look;
-use crate::situation::Situation;
-use crate::texts::{
-    is_closer, is_dash, is_declaring, is_else_if, is_function_word, is_invisible, is_modifier,
-    is_name, is_slash, is_smart_apostrophe, is_smart_quote, is_type_word, is_typed_head, is_value,
+use crate::slips::{
+    behind_let, end_slip, is_arrow_body, is_as, is_assertion, is_called, is_mark_slip,
+    is_operand_slip, is_other_operator, is_slip, is_statement_slip, is_typed_import, is_walrus,
+    is_word_slip, mark_slip, operand_sign, slip, statement_slip, typed, variable_end, word_slip,
 };
+use crate::texts::{
+    is_closer, is_dash, is_declaring, is_else_if, is_fullwidth, is_function_word, is_invisible,
+    is_modifier, is_name, is_slash, is_smart_apostrophe, is_smart_quote, is_statement_word,
+    is_type_word, is_typed_head, is_value, is_value_word,
+};
+use ecma_words::Situation;
+
+/// A type stands behind a parameter.
+#[tactic(auto, unfolding(crate::specs::Decided::is_typed_parameter))]
+fn is_typed_parameter(l: &Look<'_>) -> bool
+    ensures { result ≡ spec.is_typed_parameter (looked l.now) }
+{
+    (l.wanted == ")" || l.wanted == ",")
+        && l.opener == "("
+        && !(is_value(l.after) || l.head == "for")
+}
 
 /// A type stands behind a parameter, or behind parameters.
 #[tactic(auto, unfolding(crate::specs::Decided::is_annotated))]
@@ -18,10 +34,8 @@ fn is_annotated(l: &Look<'_>) -> bool
     ensures { result ≡ spec.is_annotated (looked l.now) }
 {
     l.found == ":"
-        && (l.wanted == ")"
-            || l.wanted == "," && l.opener == "("
-            || l.wanted == "{" && l.before == ")"
-            || l.wanted == ";" && l.head == "for")
+        && (is_typed_parameter(l)
+            || l.wanted == "{" && l.before == ")" && !is_statement_word(l.after))
 }
 
 /// A parameter that may be missing, as TypeScript writes it.
@@ -39,7 +53,7 @@ fn is_cast(l: &Look<'_>) -> bool
 {
     l.found == "satisfies"
         || l.found == "implements"
-        || l.found == "as" && l.wanted != "as"
+        || is_as(l)
         || l.before == "type" && l.wanted == "from"
         || l.found == "=" && l.wanted == "from"
 }
@@ -81,7 +95,7 @@ fn is_short_head(l: &Look<'_>) -> bool
 fn is_other_head(l: &Look<'_>) -> bool
     ensures { result ≡ spec.is_other_head (looked l.now) }
 {
-    l.head == "for" && l.wanted == ";" && is_name(l.found)
+    l.head == "for" && l.wanted == ";" && (is_name(l.found) || l.found == ":")
 }
 
 /// A list behind `of`.
@@ -131,12 +145,12 @@ fn is_markup(l: &Look<'_>) -> bool
         || l.token == "<" && is_slash(l.after)
 }
 
-/// Parentheses with nothing in them.
+/// Parentheses with nothing in them that are no arguments.
 #[tactic(auto, unfolding(crate::specs::Decided::is_empty_list))]
 fn is_empty_list(l: &Look<'_>) -> bool
     ensures { result ≡ spec.is_empty_list (looked l.now) }
 {
-    l.before == ")" && l.earlier == "("
+    l.before == ")" && l.earlier == "(" && !is_called(l)
 }
 
 /// The first mark of a merge conflict.
@@ -160,10 +174,7 @@ fn is_second_equals(l: &Look<'_>) -> bool
 fn is_lone_key(l: &Look<'_>) -> bool
     ensures { result ≡ spec.is_lone_key (looked l.now) }
 {
-    l.opener == "{"
-        && (l.earlier == "{" || l.earlier == ",")
-        && (l.found == "}" || l.found == ",")
-        && is_value(l.before)
+    l.opener == "{" && (l.earlier == "{" || l.earlier == ",") && is_value(l.before)
 }
 
 /// What stands before it ends a statement, or nothing does.
@@ -179,7 +190,9 @@ fn is_at_start(l: &Look<'_>) -> bool
 fn is_typed_field(l: &Look<'_>) -> bool
     ensures { result ≡ spec.is_typed_field (looked l.now) }
 {
-    l.found == ":" && is_name(l.after) || l.found == "?" || l.found == "!"
+    l.found == ":" && is_name(l.after) && !is_value_word(l.after)
+        || l.found == "?"
+        || l.found == "!"
 }
 
 /// A function without a name.
@@ -239,7 +252,10 @@ fn is_label(l: &Look<'_>) -> bool
 fn is_operator_word(l: &Look<'_>) -> bool
     ensures { result ≡ spec.is_operator_word (looked l.now) }
 {
-    l.found == "and" || l.found == "or" || l.before == "not" && is_name(l.found)
+    l.found == "and"
+        || l.found == "or"
+        || is_other_operator(l)
+        || l.before == "not" && is_name(l.found)
 }
 
 /// Whether this is TypeScript.
@@ -247,7 +263,12 @@ fn is_operator_word(l: &Look<'_>) -> bool
 fn is_type(l: &Look<'_>) -> bool
     ensures { result ≡ spec.is_type (looked l.now) }
 {
-    is_annotated(l) || is_optional(l) || is_cast(l) || is_generic(l) || is_typed_export(l)
+    is_annotated(l)
+        || is_typed_import(l)
+        || is_optional(l)
+        || is_cast(l)
+        || is_generic(l)
+        || is_typed_export(l)
 }
 
 /// A bracket that closes.
@@ -271,10 +292,14 @@ fn operator_word(l: &Look<'_>) -> Situation
         Situation::WordAnd
     } else if l.found == "or" {
         Situation::WordOr
-    } else if l.before == "not" && is_name(l.found) {
-        Situation::WordNot
+    } else if l.found == "is" {
+        Situation::WordIs
+    } else if l.found == "mod" {
+        Situation::WordMod
+    } else if l.found == "not" {
+        Situation::WordNotIn
     } else {
-        Situation::Expected
+        Situation::WordNot
     }
 }
 
@@ -319,7 +344,9 @@ fn bracketed(l: &Look<'_>) -> Situation
 fn braced(l: &Look<'_>) -> Situation
     ensures { result ≡ spec.braced (looked l.now) }
 {
-    if is_bare_key(l) {
+    if is_bare_key(l) && l.found == "(" {
+        Situation::PatternBraces
+    } else if is_bare_key(l) {
         Situation::ColonOrComma
     } else {
         Situation::CommaOrBrace
@@ -349,6 +376,10 @@ fn behind(l: &Look<'_>) -> Situation
 {
     if l.wanted == ";" && (l.found == "with" || l.found == "assert") {
         Situation::ImportAttributes
+    } else if l.wanted == ";" && is_closer(l.found) && !fits(l) {
+        closer(l)
+    } else if l.wanted == ";" && l.found == "if" {
+        Situation::TernaryIf
     } else if l.wanted == ";" && l.head != "for" {
         Situation::SemicolonBehind
     } else if l.wanted == "{" && l.found == "=>" {
@@ -390,7 +421,7 @@ fn missing(l: &Look<'_>) -> Situation
     if is_short_head(l) {
         Situation::ForHead
     } else if is_name(l.found) && is_type_word(l.before) {
-        Situation::TypeWord
+        typed(l)
     } else if is_other_head(l) {
         Situation::ForWhat
     } else if is_long_head(l) {
@@ -417,6 +448,10 @@ pub fn expected(l: &Look<'_>) -> Situation
         Situation::RestDefault
     } else if is_operator_word(l) {
         operator_word(l)
+    } else if l.found == "as" && l.head == "foreach" {
+        Situation::ForEach
+    } else if is_slip(l) {
+        slip(l)
     } else {
         missing(l)
     }
@@ -433,6 +468,10 @@ fn member(l: &Look<'_>) -> Situation
         Situation::FieldKeyword
     } else if is_modifier(l.before) || is_typed_field(l) {
         Situation::TypeScript
+    } else if l.found == ":" {
+        Situation::MemberColon
+    } else if l.found == "." {
+        Situation::ClassStatement
     } else {
         Situation::MemberBehind
     }
@@ -453,6 +492,8 @@ fn touching(l: &Look<'_>) -> Situation
         Situation::ThinArrow
     } else if is_markup(l) {
         Situation::Html
+    } else if is_operand_slip(l) {
+        operand_sign(l)
     } else if is_second_equals(l) {
         Situation::Equals
     } else {
@@ -471,6 +512,10 @@ fn sign(l: &Look<'_>) -> Situation
         touching(l)
     } else if is_markup(l) {
         Situation::Html
+    } else if is_operand_slip(l) {
+        operand_sign(l)
+    } else if is_statement_slip(l) {
+        statement_slip(l)
     } else if l.before == "}" && l.token == "=" {
         Situation::AssignBlock
     } else if is_element(l) {
@@ -549,7 +594,7 @@ fn expression(l: &Look<'_>) -> Situation
         slash(l)
     } else if l.token == "#" {
         hash(l)
-    } else if l.token == "@" {
+    } else if l.token == "@" && (l.found != "@" || l.after == "(") {
         Situation::Decorator
     } else if l.is_end && is_at_start(l) {
         Situation::Expression
@@ -589,6 +634,12 @@ pub fn name(l: &Look<'_>) -> Situation
         Situation::ClassName
     } else if l.found == "," && l.before == "}" {
         Situation::ClassComma
+    } else if l.token == "@" {
+        Situation::Decorator
+    } else if is_word_slip(l) {
+        word_slip(l)
+    } else if is_mark_slip(l) {
+        mark_slip(l)
     } else if is_name(l.found) {
         Situation::ReservedName
     } else if l.before == "." {
@@ -612,11 +663,13 @@ fn any_end(l: &Look<'_>) -> Situation
     } else if is_name(l.found) && is_function_word(l.before) {
         Situation::FunctionWord
     } else if is_name(l.found) && is_type_word(l.before) {
-        Situation::TypeWord
+        typed(l)
+    } else if l.found == "=>" && l.earlier == "," {
+        Situation::ParametersComma
     } else if l.found == "=>" {
         Situation::ArrowAlone
     } else {
-        Situation::StatementBehind
+        end_slip(l)
     }
 }
 
@@ -637,6 +690,8 @@ fn foreign(l: &Look<'_>) -> Situation
         Situation::ElseIf
     } else if l.before == ")" && l.callee == "foreach" {
         Situation::ForEach
+    } else if is_body(l) && l.callee == "unless" {
+        Situation::Unless
     } else if is_body(l) {
         Situation::BodyAlone
     } else {
@@ -654,7 +709,7 @@ pub fn statement_end(l: &Look<'_>) -> Situation
     } else if is_label(l) {
         Situation::BlockNoObject
     } else if l.before == "let" {
-        Situation::LoneDeclaration
+        behind_let(l)
     } else if l.before == "yield" {
         Situation::YieldOutside
     } else {
@@ -667,16 +722,16 @@ pub fn statement_end(l: &Look<'_>) -> Situation
 fn declared_end(l: &Look<'_>) -> Situation
     ensures { result ≡ spec.declared_end (looked l.now) }
 {
-    if l.found == ":" {
+    if is_walrus(l) {
+        Situation::Walrus
+    } else if l.found == ":" || is_cast(l) || is_assertion(l) {
         Situation::TypeScript
-    } else if is_body(l) {
+    } else if is_arrow_body(l) {
         Situation::ArrowMissing
-    } else if is_cast(l) {
-        Situation::TypeScript
     } else if is_name(l.found) && is_type_word(l.before) {
-        Situation::TypeWord
-    } else if is_declaring(l.earlier) {
-        Situation::VariableBehind
+        typed(l)
+    } else if is_declaring(l.earlier) || l.before == "let" && l.earlier == "," {
+        variable_end(l)
     } else {
         any_end(l)
     }
@@ -713,6 +768,8 @@ pub fn character(l: &Look<'_>) -> Situation
         Situation::Dash
     } else if is_invisible(l.token) {
         Situation::Invisible
+    } else if is_fullwidth(l.token) {
+        Situation::Fullwidth
     } else {
         Situation::Character
     }

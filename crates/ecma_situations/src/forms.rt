@@ -5,10 +5,10 @@ ghost use Rattle.ecma_situations.specs.Forms as spec;
 ghost use Rattle.ecma_situations.specs.Looked.{looked};
 
 use crate::look::Look;
-use crate::situation::Situation;
 use crate::texts::{
     begins_with, byte_from_end, is_closer, is_name, is_operand_keyword, is_slash, is_value,
 };
+use ecma_words::Situation;
 
 /// What stands before it ends an operand.
 #[tactic(auto, unfolding(crate::specs::Forms::is_behind_operand))]
@@ -119,6 +119,8 @@ fn behind_form(l: &Look<'_>) -> Situation
         }
     } else if l.found == "in" {
         Situation::PrivateInHead
+    } else if l.opener == "" {
+        Situation::Hash
     } else {
         Situation::PrivateAlone
     }

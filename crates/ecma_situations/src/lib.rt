@@ -5,7 +5,7 @@ mod decided;
 mod forms;
 mod look;
 mod numbers;
-mod situation;
+mod slips;
 mod texts;
 
 pub use decided::{
@@ -14,4 +14,3 @@ pub use decided::{
 pub use forms::{escape, target};
 pub use look::Look;
 pub use numbers::number;
-pub use situation::{Beside, Situation, place_beside, words};

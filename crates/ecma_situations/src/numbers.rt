@@ -3,9 +3,9 @@
 ghost use Rattle.std.specs.Prelude.{◌≡◌};
 ghost use Rattle.ecma_situations.specs.Number as spec;
 
-use crate::situation::Situation;
 use crate::texts::{byte_from_end, is_digit};
 use ecma_outline::byte_at;
+use ecma_words::Situation;
 
 /// Whether a byte stands behind the `0` of a number to another base.
 fn is_base(byte: u8) -> bool

@@ -235,3 +235,167 @@ pub(crate) fn is_invisible(text: &str) -> bool
     let is_joiner = byte_at(text, 0) == 226 && byte_at(text, 1) == 129 && byte_at(text, 2) == 160;
     is_joiner || 139 <= mark && mark <= 143 || latin(text) == 173
 }
+
+/// A word close to `function`.
+#[tactic(auto, unfolding(crate::specs::Texts::is_function_typo))]
+pub(crate) fn is_function_typo(word: &str) -> bool
+    ensures { result ≡ spec.is_function_typo word.now }
+{
+    match word {
+        "fucntion"
+        | "funtion"
+        | "functoin"
+        | "fuction"
+        | "funciton"
+        | "functin"
+        | "fnction"
+        | "functon"
+        | "funcion"
+        | "fnuction"
+        | "Function"
+        | "FUNCTION" => true,
+        _ => false,
+    }
+}
+
+/// A word close to `return`.
+#[tactic(auto, unfolding(crate::specs::Texts::is_return_typo))]
+pub(crate) fn is_return_typo(word: &str) -> bool
+    ensures { result ≡ spec.is_return_typo word.now }
+{
+    match word {
+        "retrun" | "retun" | "reutrn" | "retunr" | "retrn" | "rerturn" | "Return" | "RETURN" =>
+            true,
+        _ => false,
+    }
+}
+
+/// A word close to `const`.
+#[tactic(auto, unfolding(crate::specs::Texts::is_const_typo))]
+pub(crate) fn is_const_typo(word: &str) -> bool
+    ensures { result ≡ spec.is_const_typo word.now }
+{
+    match word {
+        "cosnt" | "conts" | "cnost" | "cont" | "Const" | "CONST" => true,
+        _ => false,
+    }
+}
+
+/// A word close to `class`.
+#[tactic(auto, unfolding(crate::specs::Texts::is_class_typo))]
+pub(crate) fn is_class_typo(word: &str) -> bool
+    ensures { result ≡ spec.is_class_typo word.now }
+{
+    match word {
+        "calss" | "clas" | "clsas" | "Class" | "CLASS" => true,
+        _ => false,
+    }
+}
+
+/// A word close to `import`.
+#[tactic(auto, unfolding(crate::specs::Texts::is_import_typo))]
+pub(crate) fn is_import_typo(word: &str) -> bool
+    ensures { result ≡ spec.is_import_typo word.now }
+{
+    match word {
+        "improt" | "imoprt" | "ipmort" | "impotr" | "Import" | "IMPORT" => true,
+        _ => false,
+    }
+}
+
+/// A word that begins a value and is no type.
+#[tactic(auto, unfolding(crate::specs::Texts::is_value_word))]
+pub(crate) fn is_value_word(word: &str) -> bool
+    ensures { result ≡ spec.is_value_word word.now }
+{
+    match word {
+        "function" | "async" | "new" | "class" | "true" | "false" => true,
+        _ => false,
+    }
+}
+
+/// A word that is a value by itself.
+#[tactic(auto, unfolding(crate::specs::Texts::is_self))]
+pub(crate) fn is_self(word: &str) -> bool
+    ensures { result ≡ spec.is_self word.now }
+{
+    match word {
+        "this" | "super" | "null" | "true" | "false" => true,
+        _ => false,
+    }
+}
+
+/// A word that begins a statement.
+#[tactic(auto, unfolding(crate::specs::Texts::is_statement_word))]
+pub(crate) fn is_statement_word(word: &str) -> bool
+    ensures { result ≡ spec.is_statement_word word.now }
+{
+    match word {
+        "return"
+        | "if"
+        | "for"
+        | "while"
+        | "do"
+        | "switch"
+        | "throw"
+        | "try"
+        | "var"
+        | "let"
+        | "const" => true,
+        _ => false,
+    }
+}
+
+/// What stands before the first token of a statement, as far as one token tells it.
+#[tactic(auto, unfolding(crate::specs::Texts::is_start))]
+pub(crate) fn is_start(word: &str) -> bool
+    ensures { result ≡ spec.is_start word.now }
+{
+    match word {
+        "" | ";" | "{" | "}" | ")" => true,
+        _ => false,
+    }
+}
+
+/// What other languages write before a string.
+#[tactic(auto, unfolding(crate::specs::Texts::is_string_prefix))]
+pub(crate) fn is_string_prefix(word: &str) -> bool
+    ensures { result ≡ spec.is_string_prefix word.now }
+{
+    match word {
+        "f" | "F" | "r" | "R" => true,
+        _ => false,
+    }
+}
+
+/// A word that begins with a letter of ASCII, `_` or `$`.
+pub(crate) fn is_plain(text: &str) -> bool
+    ensures { result ≡ spec.is_plain text.now }
+{
+    match byte_at(text, 0) {
+        b'a'..=b'z' | b'A'..=b'Z' | b'_' | b'$' => true,
+        _ => false,
+    }
+}
+
+/// A string.
+pub(crate) fn is_string(text: &str) -> bool
+    ensures { result ≡ spec.is_string text.now }
+{
+    byte_at(text, 0) == b'"' || byte_at(text, 0) == b'\''
+}
+
+/// A number that begins with its `.`.
+pub(crate) fn is_part_number(text: &str) -> bool
+    ensures { result ≡ spec.is_part_number text.now }
+{
+    byte_at(text, 0) == b'.' && is_digit(byte_at(text, 1))
+}
+
+/// A character from U+FF00 to U+FF5E.
+pub(crate) fn is_fullwidth(text: &str) -> bool
+    ensures { result ≡ spec.is_fullwidth text.now }
+{
+    byte_at(text, 0) == 239
+        && (byte_at(text, 1) == 188 || byte_at(text, 1) == 189 && byte_at(text, 2) <= 158)
+}

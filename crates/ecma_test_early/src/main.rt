@@ -1,7 +1,9 @@
-//! The program `ecma_test_early`: it reads rows of texts with the early errors that are told of them, and says which of them do not come out
-//! so. docs/ROWS.md says how a row is written.
+//! The program `ecma_test_early`: it reads rows of texts with the early errors that are told of them, or with what their names refer to, and says
+//! which of them do not come out so. docs/ROWS.md says how a row is written.
 #![tactic(auto)]
 
+mod names;
+mod resolver;
 mod rows;
 mod told;
 

@@ -14,16 +14,16 @@ use swc_ecma_parser::lexer::StringInput;
 use swc_ecma_parser_whole_lexer::{Goal, WholeLexer};
 
 /// Within how many levels a text is read.
-const LIMIT: u32 = 1000;
+pub const LIMIT: u32 = 1000;
 
 /// How long a text may be.
 const LONGEST: usize = 4_000_000;
 
 /// Drops it. What drops a tree is proved to do so on each way out, so trees are let go of here.
-fn let_go<T: Drop>(_: T) {}
+pub fn let_go<T: Drop>(_: T) {}
 
 /// A lexer of the whole language, attributes of imports included, at the start of a text; of an empty one where the text is too long.
-fn lexer(alloc: Global, text: &str, goal: Goal) -> WholeLexer<'_> {
+pub fn lexer(alloc: Global, text: &str, goal: Goal) -> WholeLexer<'_> {
     let text = if text.len() > LONGEST { "" } else { text };
     let input = StringInput::new(text, BytePos(0), BytePos(text.len() as u32));
     let syntax = Syntax::Es(EsSyntax {

@@ -1,4 +1,5 @@
 mod Kept
 mod Answered
+mod HandedBack
 pub mod Same
 pub mod Plainness

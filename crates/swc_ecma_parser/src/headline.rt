@@ -5,6 +5,7 @@ ghost use Rattle.std.specs.Prelude.{◌≡◌, []};
 ghost use Rattle.swc_ecma_parser_ast.specs.View.{view_module, view_module_item, view_program, view_script, view_stmt};
 ghost use Rattle.swc_ecma_parser_error.specs.Kind.{faults_of};
 ghost use Rattle.swc_ecma_parser_grammar.specs.language.Programs as programs;
+ghost use Rattle.swc_ecma_parser.specs.HandedBack.{HandsBack};
 ghost use Rattle.swc_ecma_parser.specs.Headline.{Headline, end_of};
 
 use crate::parser::Parser;
@@ -59,6 +60,11 @@ pub fn read_module_item<I: Tokens>(
 ) -> (PResult<ModuleItem>, Vec<Error>, Parser<I>)
     ensures headline { Headline view_module_item programs.module_item limit (I.seen input) result.0
         (faults_of result.1.items) result.2.state.at }
+
+    // Behind the call, before the faults were taken, the parser is what the entry leaves.
+    ensures behind { HandsBack view_module_item programs.module_item limit (I.seen input) result.0
+        (record result.2.state { faults = faults_of result.1.items })
+        (record result.2.source { recorded = result.1.items }) }
     ensures limit { result.2.limit ≡ limit }
     ensures taken { result.2.state.faults ≡ [] }
 {
@@ -77,6 +83,11 @@ pub fn read_stmt<I: Tokens>(
 ) -> (PResult<Stmt>, Vec<Error>, Parser<I>)
     ensures headline { Headline view_stmt (programs.stmt top_level) limit (I.seen input) result.0
         (faults_of result.1.items) result.2.state.at }
+
+    // Behind the call, before the faults were taken, the parser is what the entry leaves.
+    ensures behind { HandsBack view_stmt (programs.stmt top_level) limit (I.seen input) result.0
+        (record result.2.state { faults = faults_of result.1.items })
+        (record result.2.source { recorded = result.1.items }) }
     ensures limit { result.2.limit ≡ limit }
     ensures taken { result.2.state.faults ≡ [] }
 {
@@ -95,6 +106,11 @@ pub fn read_stmt_list_item<I: Tokens>(
 ) -> (PResult<Stmt>, Vec<Error>, Parser<I>)
     ensures headline { Headline view_stmt (programs.stmt_list_item top_level) limit (I.seen input) result.0
         (faults_of result.1.items) result.2.state.at }
+
+    // Behind the call, before the faults were taken, the parser is what the entry leaves.
+    ensures behind { HandsBack view_stmt (programs.stmt_list_item top_level) limit (I.seen input) result.0
+        (record result.2.state { faults = faults_of result.1.items })
+        (record result.2.source { recorded = result.1.items }) }
     ensures limit { result.2.limit ≡ limit }
     ensures taken { result.2.state.faults ≡ [] }
 {

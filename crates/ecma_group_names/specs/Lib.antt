@@ -1,0 +1,3 @@
+pub mod GroupNames
+pub mod Names
+pub mod Order
